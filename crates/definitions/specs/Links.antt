@@ -1,0 +1,140 @@
+-- "What links mean": links, the start times that keep them, the edges that they are, and walks.
+use mathlib.Core.Path.{_≡_}
+use mathlib.Core.Bool.{Bool, true, false, cond, not}
+use mathlib.Core.Logic.{_≢_}
+use mathlib.Core.List.{List, [], _∷_, _++_, List·Memᴰ, map, flatMap}
+use Prim.Native.Nat.{ℕ, zero, suc, _+_, _≤_, _<_}
+use lib.Dec.{eqb}
+use lib.ListN.{getD}
+use Rattle.definitions.specs.Bytes.{blank-operation}
+use Rattle.definitions.specs.declared.Delay.{Delay}
+use Rattle.definitions.specs.declared.Delay.the-variants.{Open, Fixed}
+use Rattle.definitions.specs.declared.Operation.{Operation}
+use Rattle.definitions.specs.declared.Bound.{Bound}
+use Rattle.definitions.specs.declared.Bound.the-variants.{Absent, Ticks}
+use Rattle.definitions.specs.declared.Link.{Link}
+
+-- A link: after, at least m, at most u, on a pair (i, j).
+pub data Constraint : Type 0 where
+  sequencing : ℕ → ℕ → Constraint
+  minimum : ℕ → ℕ → ℕ → Constraint
+  maximum : ℕ → ℕ → ℕ → Constraint
+
+-- A link record holds up to three links on its pair; a sheet holds those of its records. A list of any length stands for a sheet past the limits, as the rival's may be.
+unfoldable pub sequencing-of : ℕ → ℕ → Bool → List Constraint
+sequencing-of i j true = sequencing i j ∷ []
+sequencing-of i j false = []
+
+unfoldable pub minimum-of : ℕ → ℕ → Bound → List Constraint
+minimum-of i j (Ticks m) = minimum i j m ∷ []
+minimum-of i j Absent = []
+
+unfoldable pub maximum-of : ℕ → ℕ → Bound → List Constraint
+maximum-of i j (Ticks u) = maximum i j u ∷ []
+maximum-of i j Absent = []
+
+unfoldable pub link-constraints : Link → List Constraint
+link-constraints l = sequencing-of (l .from) (l .to) (l .sequencing) ++ minimum-of (l .from) (l .to) (l .minimum) ++ maximum-of (l .from) (l .to) (l .maximum)
+
+unfoldable pub constraints : List Link → List Constraint
+constraints ls = flatMap link-constraints ls
+
+-- The duration of a step, under delays d of the open steps without a largest one. The duration of step 0 counts as 0.
+unfoldable pub delay-at : List Operation → ℕ → Delay
+delay-at os i = getD os i blank-operation .delay
+
+unfoldable pub duration-with : (ℕ → ℕ) → ℕ → Delay → ℕ
+duration-with d i (Fixed ticks) = ticks
+duration-with d zero Open = 0
+duration-with d (suc i) Open = d (suc i)
+
+unfoldable pub duration : List Operation → (ℕ → ℕ) → ℕ → ℕ
+duration os d i = duration-with d i (delay-at os i)
+
+-- Start times keep a link: the three lines of document 01. Times have no largest one either.
+abbrev pub Keeps : List Operation → (ℕ → ℕ) → (ℕ → ℕ) → Constraint → Type 0
+Keeps os d t (sequencing i j) = t i + duration os d i ≤ t j
+Keeps os d t (minimum i j m) = t i + m ≤ t j
+Keeps os d t (maximum i j u) = t j ≤ t i + u
+
+-- Start times that keep every link. Time counts from the end of step 0.
+pub record KeepsAll (os : List Operation) (cs : List Constraint) (d t : ℕ → ℕ) : Type 0 where
+  pub starts : t 0 ≡ 0
+  pub keeps : (c : Constraint) → List·Memᴰ c cs → Keeps os d t c
+
+-- An edge of the constraint graph. It asks that start times t under delays d have t from + gain ≤ t to + loss, with the delay of `from` on the left where the edge is counted.
+-- `back` marks a return.
+pub record Edge : Type 0 where
+  pub from : ℕ
+  pub to : ℕ
+  pub gain : ℕ
+  pub loss : ℕ
+  pub counted : Bool
+  pub back : Bool
+
+-- After and at-least links are forward edges from i to j; an at-most link is a return from j to i that weighs −u. An after link is counted where i is open and not step 0.
+unfoldable pub sequencing-edge : Delay → ℕ → ℕ → Edge
+sequencing-edge (Fixed ticks) i j = record { from = i; to = j; gain = ticks; loss = 0; counted = false; back = false }
+sequencing-edge Open i j = record { from = i; to = j; gain = 0; loss = 0; counted = not (eqb i 0); back = false }
+
+unfoldable pub edge-of : List Operation → Constraint → Edge
+edge-of os (sequencing i j) = sequencing-edge (delay-at os i) i j
+edge-of os (minimum i j m) = record { from = i; to = j; gain = m; loss = 0; counted = false; back = false }
+edge-of os (maximum i j u) = record { from = j; to = i; gain = 0; loss = u; counted = false; back = true }
+
+-- The one definition that turns a sheet into its edges.
+unfoldable pub edges : List Operation → List Constraint → List Edge
+edges os cs = map (edge-of os) cs
+
+-- A graph is a predicate on edges, so that a list, and a list with more edges, are graphs alike.
+abbrev pub Graph : Type 1
+Graph = Edge → Type 0
+
+abbrev pub members : List Edge → Graph
+members es e = List·Memᴰ e es
+
+infix 20 _⊑_
+abbrev pub _⊑_ : Graph → Graph → Type 0
+E ⊑ F = (e : Edge) → E e → F e
+
+abbrev pub Forward : Graph → Graph
+Forward E e = E e × (e .back ≡ false)
+
+unfoldable pub forwards : List Edge → List Edge
+forwards [] = []
+forwards (e ∷ es) = cond (e .back) [] (e ∷ []) ++ forwards es
+
+-- A walk from x to y of k edges, with the sums p of their gains and q of their losses: it weighs p − q, open durations taken as 0.
+pub data Walk (E : Graph) (x : ℕ) : ℕ → ℕ → ℕ → ℕ → Type 0 where
+  stop : {y k p q : ℕ} → x ≡ y → k ≡ 0 → p ≡ 0 → q ≡ 0 → Walk E x y k p q
+  step : {y k p q z k′ p′ q′ : ℕ} → Walk E x y k p q → (e : Edge) → E e → e .from ≡ y → e .to ≡ z → k′ ≡ suc k → p′ ≡ p + e .gain → q′ ≡ q + e .loss → Walk E x z k′ p′ q′
+
+-- A walk, of whatever weight; a chain is one of forward edges.
+pub record Joined (E : Graph) (x y : ℕ) : Type 0 where
+  pub k : ℕ
+  pub p : ℕ
+  pub q : ℕ
+  pub walk : Walk E x y k p q
+
+-- A walk that begins with an after link out of the open step a, which is not step 0.
+pub record AfterWalk (E : Graph) (a y p q : ℕ) : Type 0 where
+  pub not-source : a ≢ 0
+  pub edge : Edge
+  pub mem : E edge
+  pub leaves : edge .from ≡ a
+  pub counts : edge .counted ≡ true
+  pub k : ℕ
+  pub g : ℕ
+  pub l : ℕ
+  pub rest : Walk E (edge .to) y k g l
+  pub gains : p ≡ edge .gain + g
+  pub losses : q ≡ edge .loss + l
+
+pub record After (E : Graph) (a y : ℕ) : Type 0 where
+  pub p : ℕ
+  pub q : ℕ
+  pub walk : AfterWalk E a y p q
+
+-- The edges that a walk counted from the end of a may take. All of them: request L11 leaves some out, for each anchor its own.
+unfoldable pub usable : List Edge → ℕ → List Edge
+usable es a = es

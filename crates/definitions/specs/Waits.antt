@@ -1,0 +1,55 @@
+-- "Waits": serialization edges.
+use mathlib.Core.Path.{_≡_}
+use mathlib.Core.Bool.{Bool, true, false, not, _&&_}
+use mathlib.Core.List.{List, [], _∷_, _++_, map, flatMap}
+use Prim.Native.Nat.{ℕ}
+use lib.Dec.{eqb, ltb}
+use lib.ListN.{length}
+use Rattle.definitions.specs.Basics.{any, tabulate, select-below, bits-below}
+use Rattle.definitions.specs.Links.{Edge, Graph, After, usable}
+use Rattle.definitions.specs.Rounds.{after-reaches}
+use Rattle.definitions.specs.Anchors.{InAnchorSet, in-anchor-set}
+
+-- i waits for a: some at-most link stands on (i, j), a walk that begins with an after link out of open a ≠ 0 reaches j, and a is not in the start set of i on the sheet as sent.
+pub record Wait (E : Graph) (a i : ℕ) : Type 0 where
+  pub edge : Edge
+  pub mem : E edge
+  pub returns : edge .back ≡ true
+  pub enters : edge .to ≡ i
+  pub reaches : After E a (edge .from)
+  pub absent : ¬ InAnchorSet E a i
+
+unfoldable pub waits-for : ℕ → List Edge → ℕ → ℕ → Bool
+waits-for n es a i = any (λ e. e .back && eqb (e .to) i && after-reaches n (usable es a) a (e .from)) es && not (in-anchor-set n es a i)
+
+-- Listed by a, then by i.
+pub record WaitPair : Type 0 where
+  pub anchor : ℕ
+  pub target : ℕ
+
+unfoldable pub waits-of : ℕ → List Edge → ℕ → List WaitPair
+waits-of n es a = map (λ i. record { anchor = a; target = i }) (select-below (waits-for n es a) n)
+
+unfoldable pub wait-list : ℕ → List Edge → List WaitPair
+wait-list n es = flatMap (waits-of n es) (tabulate (λ a. a) n)
+
+-- As 64 maps of 64 bits, bit a of map i; and their count.
+unfoldable pub wait-map : ℕ → List Edge → ℕ → ℕ
+wait-map n es i = bits-below (λ a. ltb i n && waits-for n es a i) n
+
+unfoldable pub wait-maps : ℕ → List Edge → List ℕ
+wait-maps n es = tabulate (wait-map n es) 64
+
+unfoldable pub wait-count : ℕ → List Edge → ℕ
+wait-count n es = length (wait-list n es)
+
+unfoldable pub needs-waits : ℕ → List Edge → Bool
+needs-waits n es = ltb 0 (wait-count n es)
+
+-- A wait is an added after link from a to i.
+abbrev pub wait-edge : WaitPair → Edge
+wait-edge w = record { from = w .anchor; to = w .target; gain = 0; loss = 0; counted = true; back = false }
+
+-- The sheet with its waits in. Start sets and walks are then taken on it.
+unfoldable pub serialized : ℕ → List Edge → List Edge
+serialized n es = es ++ map wait-edge (wait-list n es)

@@ -1,0 +1,92 @@
+// The types of the planner's answers. What each of them means is said in specs/, in the order of document 01.
+
+// How long an operation lasts (a step that is open, or lasts a fixed number of ticks).
+pub enum Delay {
+    Open,
+    Fixed(u16),
+}
+
+// A step.
+pub struct Operation {
+    pub delay: Delay,
+}
+
+// A number of ticks that a link may carry or not.
+pub enum Bound {
+    Absent,
+    Ticks(u16),
+}
+
+// A link record for the pair (from, to): after, at least and at most.
+pub struct Link {
+    pub from: u8,
+    pub to: u8,
+    pub sequencing: bool,
+    pub minimum: Bound,
+    pub maximum: Bound,
+}
+
+// The pair of the link record before, which the next pair has to rise above.
+pub enum Previous {
+    Nothing,
+    Pair(u8, u8),
+}
+
+// A sheet as it is held: n operations and r links, the rest of both arrays blank.
+pub struct Sheet {
+    pub n: usize,
+    pub operations: [Operation; 64],
+    pub r: usize,
+    pub links: [Link; 512],
+}
+
+// The refusals 1 to 18, in their order.
+pub enum Refusal {
+    Truncated,
+    OperationCount,
+    LinkCount,
+    BadMap,
+    BadEndpoint,
+    BadOrder,
+    Trailing,
+    ForwardCycle,
+    Unreachable,
+    Infeasible,
+    Inconsistent,
+    WaitsNeeded,
+    BadDelays,
+    TooShort,
+    NotBegun,
+    AlreadyBegun,
+    CannotFinish,
+    ClockEnd,
+}
+
+// What judging a sheet answers.
+pub enum Verdict {
+    WellPosed,
+    Serialized,
+    Refused(Refusal),
+}
+
+// What reading a sheet answers, and the sheet beside it: blank where it is refused.
+pub enum Reading {
+    Whole,
+    Refused(Refusal),
+}
+
+pub struct Report {
+    pub reading: Reading,
+    pub sheet: Sheet,
+}
+
+// The dispatcher's state (the runner's).
+pub struct State {
+    pub n: usize,
+    pub open: u64,
+    pub tick: u32,
+    pub started: u64,
+    pub finished: u64,
+    pub start: [u32; 64],
+    pub finish: [u32; 64],
+}
