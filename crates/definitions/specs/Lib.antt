@@ -6,3 +6,8 @@ pub mod Rounds
 pub mod Anchors
 pub mod Waits
 pub mod Plan
+pub mod Rival
+pub mod Answers
+pub mod Dispatcher
+pub mod Output
+pub mod Worked

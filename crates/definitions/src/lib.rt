@@ -83,7 +83,7 @@ pub struct Report {
 // The dispatcher's state (the runner's).
 pub struct State {
     pub n: usize,
-    pub open: u64,
+    pub unbounded: u64,
     pub tick: u32,
     pub started: u64,
     pub finished: u64,

@@ -1,0 +1,118 @@
+-- "Marked and unmarked sheets": the sheets marked ★ in document 01, and sheets of ours for readings that those do not tell apart. One table, proved against the definitions in one go.
+use mathlib.Core.Path.{_≡_, refl}
+use mathlib.Core.Bool.{Bool, true, false, cond, not, _&&_, _||_}
+use mathlib.Core.Logic.{_⊎_, inl, inr}
+use mathlib.Core.List.{List, [], _∷_, _++_, map, flatMap, List·Memᴰ, List·Memᴰ·head, List·Memᴰ·not-nil, List·Memᴰ·cases-cons, head-eq-of-cons-eq, tail-eq-of-cons-eq}
+use Prim.Native.Nat.{ℕ}
+use lib.ListN.{replicate}
+use Rattle.definitions.specs.Basics.{any, all, any-below, all-below, tabulate, select-below, largest, test-bit, bits-below, Outcome, given, refused, refuse-if, when-given}
+use Rattle.definitions.specs.Bytes.{demand, byte, two-bytes, ticks-if, operation-map, delay-from, operation, link-map, endpoints, rises, bound-from, link, records, operations, pair-of, links, at-end, sheet, read}
+use Rattle.definitions.specs.Links.{sequencing-of, minimum-of, maximum-of, link-constraints, constraints, delay-at, sequencing-edge, edge-of, edges, forwards, usable}
+use Rattle.definitions.specs.Rounds.{extend, raise, round, rounds, stable, source-row, seed, seeds, after-row, bares, reaches, after-reaches}
+use Rattle.definitions.specs.Anchors.{in-anchor-set}
+use Rattle.definitions.specs.Waits.{WaitPair, waits-for, waits-of, wait-list, wait-count, needs-waits, serialized}
+use Rattle.definitions.specs.Plan.{first-row, offset-row, offset, start-from, start-turns, start-times, overrides, decides, delay-limit, delay-wrong, delays-wrong}
+use Rattle.definitions.specs.Answers.{closes-circle, unreached, infeasible, inconsistent, judge-edges, edges-of, serialized-of, judge-records, Written, written, too-short, starts-verdict, starts-read, starts-answer}
+use Rattle.definitions.specs.Output.{StartLine, Listing, lines-of, start-lines, list-records, listed}
+
+-- What is asked of a sheet: its listing, waits allowed or not, or its starts for a list of durations.
+pub data Question : Type 0 where
+  listing : Bool → Question
+  starting : List ℕ → Question
+
+pub data Answer : Type 0 where
+  lists : Outcome Listing → Answer
+  starts : Written → Answer
+
+pub record Worked : Type 0 where
+  pub bytes : List ℕ
+  pub question : Question
+  pub expected : Answer
+
+-- What the definitions answer; starts are written over as many numbers as the list has.
+unfoldable pub ask : List ℕ → Question → Answer
+ask s (listing allow) = lists (listed s allow)
+ask s (starting list) = starts (starts-answer s false list list)
+
+unfoldable pub answered : Worked → Answer
+answered w = ask (w .bytes) (w .question)
+
+abbrev line : ℕ → ℕ → ℕ → StartLine
+line v a ticks = record { step = v; decider = a; ticks = ticks }
+
+abbrev wait : ℕ → ℕ → WaitPair
+wait a i = record { anchor = a; target = i }
+
+abbrev accepted : ℕ → List WaitPair → List StartLine → Answer
+accepted verdict waits lines = lists (given (record { verdict = verdict; waits = waits; starts = lines }))
+
+abbrev refuses : ℕ → Answer
+refuses k = lists (refused k)
+
+abbrev started : List ℕ → Answer
+started times = starts (record { verdict = given 0; numbers = times })
+
+-- `01 00 00 01`.
+abbrev smallest : List ℕ
+smallest = 0x01 ∷ 0x00 ∷ 0x00 ∷ 0x01 ∷ []
+
+-- The stand sheet with a limit on (3, 4).
+abbrev stand : ℕ → List ℕ
+stand limit = 0x05 ∷ 0x05 ∷ 0x00 ∷ 0x01 ∷ 0x02 ∷ 0x03 ∷ 0x00 ∷ 0x01 ∷ 0x02 ∷ 0x02 ∷ 0x00 ∷ 0x02 ∷ 0x01 ∷ 0x00 ∷ 0x01 ∷ 0x00 ∷ 0x01 ∷ 0x01 ∷ 0x00 ∷ 0x02 ∷ 0x01 ∷ 0x01 ∷ 0x04 ∷ 0x01 ∷ 0x02 ∷ 0x03 ∷ 0x05 ∷ 0x03 ∷ 0x04 ∷ limit ∷ 0x00 ∷ []
+
+-- Two hands: 1 and 2 open, each after 0; 3 after 1, 4 after 2; at most 5 on (3, 4).
+abbrev two-hands : List ℕ
+two-hands = 0x05 ∷ 0x05 ∷ 0x00 ∷ 0x01 ∷ 0x01 ∷ 0x01 ∷ 0x00 ∷ 0x00 ∷ 0x01 ∷ 0x00 ∷ 0x01 ∷ 0x01 ∷ 0x00 ∷ 0x02 ∷ 0x01 ∷ 0x01 ∷ 0x03 ∷ 0x01 ∷ 0x02 ∷ 0x04 ∷ 0x04 ∷ 0x03 ∷ 0x04 ∷ 0x05 ∷ 0x00 ∷ []
+
+-- Open 1 after 0, 2 after 1, at most 9 on (1, 2).
+abbrev own-end : List ℕ
+own-end = 0x03 ∷ 0x02 ∷ 0x00 ∷ 0x01 ∷ 0x01 ∷ 0x00 ∷ 0x01 ∷ 0x00 ∷ 0x01 ∷ 0x05 ∷ 0x01 ∷ 0x02 ∷ 0x09 ∷ 0x00 ∷ []
+
+-- Open 1 after 0; 2 after 1 and at least 10 on (1, 2).
+abbrev from-start : List ℕ
+from-start = 0x03 ∷ 0x02 ∷ 0x00 ∷ 0x01 ∷ 0x01 ∷ 0x00 ∷ 0x01 ∷ 0x00 ∷ 0x01 ∷ 0x03 ∷ 0x01 ∷ 0x02 ∷ 0x0a ∷ 0x00 ∷ []
+
+-- Fixed 1 after 0, at most 0 on (0, 1).
+abbrev at-once : List ℕ
+at-once = 0x02 ∷ 0x01 ∷ 0x00 ∷ 0x01 ∷ 0x00 ∷ 0x05 ∷ 0x00 ∷ 0x01 ∷ 0x00 ∷ 0x00 ∷ []
+
+-- 1 after 0, at least 0 on (1, 2) and on (2, 1).
+abbrev circle : List ℕ
+circle = 0x03 ∷ 0x03 ∷ 0x00 ∷ 0x01 ∷ 0x00 ∷ 0x00 ∷ 0x01 ∷ 0x00 ∷ 0x01 ∷ 0x02 ∷ 0x01 ∷ 0x02 ∷ 0x00 ∷ 0x00 ∷ 0x02 ∷ 0x02 ∷ 0x01 ∷ 0x00 ∷ 0x00 ∷ []
+
+-- Ours. Open 1 after 0, 2 after 1; 3 and 4 after 0; at most 5 on (3, 2) and on (4, 3): step 4 waits too, through two returns.
+abbrev two-returns : List ℕ
+two-returns = 0x05 ∷ 0x06 ∷ 0x00 ∷ 0x01 ∷ 0x01 ∷ 0x00 ∷ 0x00 ∷ 0x00 ∷ 0x01 ∷ 0x00 ∷ 0x01 ∷ 0x01 ∷ 0x00 ∷ 0x03 ∷ 0x01 ∷ 0x00 ∷ 0x04 ∷ 0x01 ∷ 0x01 ∷ 0x02 ∷ 0x04 ∷ 0x03 ∷ 0x02 ∷ 0x05 ∷ 0x00 ∷ 0x04 ∷ 0x04 ∷ 0x03 ∷ 0x05 ∷ 0x00 ∷ []
+
+unfoldable pub worked-sheets : List Worked
+worked-sheets =
+    record { bytes = smallest; question = listing true; expected = accepted 0 [] (line 0 0 0 ∷ []) } ∷
+    record { bytes = stand 2; question = listing true; expected = accepted 0 [] (line 0 0 0 ∷ line 1 0 0 ∷ line 2 0 0 ∷ line 3 0 1 ∷ line 3 2 0 ∷ line 4 0 3 ∷ line 4 2 2 ∷ []) } ∷
+    record { bytes = stand 1; question = listing true; expected = refuses 10 } ∷
+    record { bytes = two-hands; question = listing true; expected = accepted 1 (wait 2 3 ∷ []) (line 0 0 0 ∷ line 1 0 0 ∷ line 2 0 0 ∷ line 3 1 0 ∷ line 3 2 0 ∷ line 4 2 0 ∷ []) } ∷
+    record { bytes = two-hands; question = listing false; expected = refuses 12 } ∷
+    record { bytes = own-end; question = listing true; expected = refuses 11 } ∷
+    record { bytes = from-start; question = listing true; expected = accepted 0 [] (line 0 0 0 ∷ line 1 0 0 ∷ line 2 0 10 ∷ line 2 1 0 ∷ []) } ∷
+    record { bytes = at-once; question = listing true; expected = accepted 0 [] (line 0 0 0 ∷ line 1 0 0 ∷ []) } ∷
+    record { bytes = circle; question = listing true; expected = refuses 8 } ∷
+    record { bytes = stand 2; question = starting (0 ∷ 0 ∷ 10 ∷ 0 ∷ 0 ∷ []); expected = started (0 ∷ 0 ∷ 0 ∷ 10 ∷ 12 ∷ []) } ∷
+    record { bytes = stand 2; question = starting (0 ∷ 0 ∷ 0 ∷ 0 ∷ 0 ∷ []); expected = started (0 ∷ 0 ∷ 0 ∷ 1 ∷ 3 ∷ []) } ∷
+    record { bytes = two-returns; question = listing true; expected = accepted 1 (wait 1 3 ∷ wait 1 4 ∷ []) (line 0 0 0 ∷ line 1 0 0 ∷ line 2 1 0 ∷ line 3 1 0 ∷ line 4 1 0 ∷ []) } ∷
+    []
+
+-- The computed test: the definitions answer every sheet of the table as expected.
+pub all-answered : map answered worked-sheets ≡ map (λ w. w .expected) worked-sheets
+unfolding any all any-below all-below tabulate select-below largest test-bit bits-below refuse-if when-given demand byte two-bytes ticks-if operation-map delay-from operation link-map endpoints rises bound-from link records operations pair-of links at-end sheet read sequencing-of minimum-of maximum-of link-constraints constraints delay-at sequencing-edge edge-of edges forwards usable extend raise round rounds stable source-row seed seeds after-row bares reaches after-reaches in-anchor-set waits-for waits-of wait-list wait-count needs-waits serialized first-row offset-row offset start-from start-turns start-times overrides decides delay-limit delay-wrong delays-wrong closes-circle unreached infeasible inconsistent judge-edges edges-of serialized-of judge-records written too-short starts-verdict starts-read starts-answer lines-of start-lines list-records listed ask answered worked-sheets flatMap
+all-answered = refl
+
+-- The law: what holds of the two lists as a whole holds at each member.
+map-member : {A B : Type 0} (f g : A → B) (l : List A) → map f l ≡ map g l → (x : A) → List·Memᴰ x l → f x ≡ g x
+map-member f g [] e x m = absurd (List·Memᴰ·not-nil m)
+map-member f g (y ∷ l) e x m = go (List·Memᴰ·cases-cons m) (map-member f g l (tail-eq-of-cons-eq e) x)
+  where
+    go : (x ≡ y) ⊎ List·Memᴰ x l → (List·Memᴰ x l → f x ≡ g x) → f x ≡ g x
+    go (inl h) below = rw h (head-eq-of-cons-eq e)
+    go (inr i) below = below i
+
+pub worked-answered : (w : Worked) → List·Memᴰ w worked-sheets → answered w ≡ w .expected
+worked-answered = map-member answered (λ w. w .expected) worked-sheets all-answered
