@@ -11,14 +11,21 @@ use Rattle.definitions.specs.Links.{sequencing-of, minimum-of, maximum-o
 use Rattle.definitions.specs.Rounds.{extend, raise, round, rounds, stable, source-row, seed, seeds, after-row, bares, reaches, after-reaches}
 use Rattle.definitions.specs.Anchors.{in-anchor-set}
 use Rattle.definitions.specs.Waits.{WaitPair, waits-for, waits-of, wait-list, wait-count, needs-waits, serialized}
-use Rattle.definitions.specs.Plan.{first-row, offset-row, offset, start-from, start-turns, start-times, overrides, decides, delay-limit, delay-wrong, delays-wrong}
-use Rattle.definitions.specs.Answers.{closes-circle, unreached, infeasible, inconsistent, judge-edges, edges-of, serialized-of, judge-records, Written, written, too-short, starts-verdict, starts-read, starts-answer}
-use Rattle.definitions.specs.Output.{StartLine, Listing, lines-of, start-lines, list-records, listed}
+use Rattle.definitions.specs.Plan.{first-row, offset-row, offset, start-from, start-turns, start-times, overrides, decides, plan-entry, plan-row, plan-rows, plan-table, delay-limit, delay-wrong, delays-wrong}
+use Rattle.definitions.specs.Answers.{closes-circle, unreached, infeasible, inconsistent, judge-edges, edges-of, serialized-of, judge-records, Written, written, too-short, starts-verdict, starts-read, starts-answer, plan-verdict, plan-read, planned, bad-count}
+use Rattle.definitions.specs.Dispatcher.{entry, names, due, ready, starting, start-ticks, Progress, sweep, begun, not-running, fresh, with-source, begin, ticked, tick, cannot-finish, ended, finish, state-after}
+use Rattle.definitions.specs.declared.State.{State}
+use Rattle.definitions.specs.Output.{StartLine, Listing, lines-of, start-lines, list-records, listed, digits, decimal, field, wait-text, start-text, listing-text, standplan}
+
+-- To unfold this is to unfold every executable definition, so that a sheet is worked out by computing.
+unfoldable pub every-definition : Unit {0}
+unfolding any all any-below all-below tabulate select-below largest test-bit bits-below refuse-if when-given demand byte two-bytes ticks-if operation-map delay-from operation link-map endpoints rises bound-from link records operations pair-of links at-end sheet read sequencing-of minimum-of maximum-of link-constraints constraints delay-at sequencing-edge edge-of edges forwards usable extend raise round rounds stable source-row seed seeds after-row bares reaches after-reaches in-anchor-set waits-for waits-of wait-list wait-count needs-waits serialized first-row offset-row offset start-from start-turns start-times overrides decides delay-limit delay-wrong delays-wrong closes-circle unreached infeasible inconsistent judge-edges edges-of serialized-of judge-records written too-short starts-verdict starts-read starts-answer lines-of start-lines list-records listed flatMap digits decimal field wait-text start-text listing-text standplan plan-entry plan-row plan-rows plan-table plan-verdict plan-read planned entry names due ready starting start-ticks sweep begun not-running fresh with-source begin ticked tick cannot-finish ended finish state-after bad-count
+every-definition = tt
 
 -- What is asked of a sheet: its listing, waits allowed or not, or its starts for a list of durations.
 pub data Question : Type 0 where
   listing : Bool → Question
-  starting : List ℕ → Question
+  times-for : List ℕ → Question
 
 pub data Answer : Type 0 where
   lists : Outcome Listing → Answer
@@ -32,7 +39,7 @@ pub record Worked : Type 0 where
 -- What the definitions answer; starts are written over as many numbers as the list has.
 unfoldable pub ask : List ℕ → Question → Answer
 ask s (listing allow) = lists (listed s allow)
-ask s (starting list) = starts (starts-answer s false list list)
+ask s (times-for list) = starts (starts-answer s false list list)
 
 unfoldable pub answered : Worked → Answer
 answered w = ask (w .bytes) (w .question)
@@ -49,41 +56,46 @@ accepted verdict waits lines = lists (given (record { verdict = verdict; waits =
 abbrev refuses : ℕ → Answer
 refuses k = lists (refused k)
 
+-- A sheet and the refusal that it meets.
+abbrev faulty : List ℕ → ℕ → Worked
+faulty bytes k = record { bytes = bytes; question = listing true; expected = refuses k }
+
 abbrev started : List ℕ → Answer
 started times = starts (record { verdict = given 0; numbers = times })
 
 -- `01 00 00 01`.
-abbrev smallest : List ℕ
+abbrev pub smallest : List ℕ
 smallest = 0x01 ∷ 0x00 ∷ 0x00 ∷ 0x01 ∷ []
 
 -- The stand sheet with a limit on (3, 4).
-abbrev stand : ℕ → List ℕ
+abbrev pub stand : ℕ → List ℕ
 stand limit = 0x05 ∷ 0x05 ∷ 0x00 ∷ 0x01 ∷ 0x02 ∷ 0x03 ∷ 0x00 ∷ 0x01 ∷ 0x02 ∷ 0x02 ∷ 0x00 ∷ 0x02 ∷ 0x01 ∷ 0x00 ∷ 0x01 ∷ 0x00 ∷ 0x01 ∷ 0x01 ∷ 0x00 ∷ 0x02 ∷ 0x01 ∷ 0x01 ∷ 0x04 ∷ 0x01 ∷ 0x02 ∷ 0x03 ∷ 0x05 ∷ 0x03 ∷ 0x04 ∷ limit ∷ 0x00 ∷ []
 
 -- Two hands: 1 and 2 open, each after 0; 3 after 1, 4 after 2; at most 5 on (3, 4).
-abbrev two-hands : List ℕ
+abbrev pub two-hands : List ℕ
 two-hands = 0x05 ∷ 0x05 ∷ 0x00 ∷ 0x01 ∷ 0x01 ∷ 0x01 ∷ 0x00 ∷ 0x00 ∷ 0x01 ∷ 0x00 ∷ 0x01 ∷ 0x01 ∷ 0x00 ∷ 0x02 ∷ 0x01 ∷ 0x01 ∷ 0x03 ∷ 0x01 ∷ 0x02 ∷ 0x04 ∷ 0x04 ∷ 0x03 ∷ 0x04 ∷ 0x05 ∷ 0x00 ∷ []
 
 -- Open 1 after 0, 2 after 1, at most 9 on (1, 2).
-abbrev own-end : List ℕ
+abbrev pub own-end : List ℕ
 own-end = 0x03 ∷ 0x02 ∷ 0x00 ∷ 0x01 ∷ 0x01 ∷ 0x00 ∷ 0x01 ∷ 0x00 ∷ 0x01 ∷ 0x05 ∷ 0x01 ∷ 0x02 ∷ 0x09 ∷ 0x00 ∷ []
 
 -- Open 1 after 0; 2 after 1 and at least 10 on (1, 2).
-abbrev from-start : List ℕ
+abbrev pub from-start : List ℕ
 from-start = 0x03 ∷ 0x02 ∷ 0x00 ∷ 0x01 ∷ 0x01 ∷ 0x00 ∷ 0x01 ∷ 0x00 ∷ 0x01 ∷ 0x03 ∷ 0x01 ∷ 0x02 ∷ 0x0a ∷ 0x00 ∷ []
 
 -- Fixed 1 after 0, at most 0 on (0, 1).
-abbrev at-once : List ℕ
+abbrev pub at-once : List ℕ
 at-once = 0x02 ∷ 0x01 ∷ 0x00 ∷ 0x01 ∷ 0x00 ∷ 0x05 ∷ 0x00 ∷ 0x01 ∷ 0x00 ∷ 0x00 ∷ []
 
 -- 1 after 0, at least 0 on (1, 2) and on (2, 1).
-abbrev circle : List ℕ
+abbrev pub circle : List ℕ
 circle = 0x03 ∷ 0x03 ∷ 0x00 ∷ 0x01 ∷ 0x00 ∷ 0x00 ∷ 0x01 ∷ 0x00 ∷ 0x01 ∷ 0x02 ∷ 0x01 ∷ 0x02 ∷ 0x00 ∷ 0x00 ∷ 0x02 ∷ 0x02 ∷ 0x01 ∷ 0x00 ∷ 0x00 ∷ []
 
 -- Ours. Open 1 after 0, 2 after 1; 3 and 4 after 0; at most 5 on (3, 2) and on (4, 3): step 4 waits too, through two returns.
-abbrev two-returns : List ℕ
+abbrev pub two-returns : List ℕ
 two-returns = 0x05 ∷ 0x06 ∷ 0x00 ∷ 0x01 ∷ 0x01 ∷ 0x00 ∷ 0x00 ∷ 0x00 ∷ 0x01 ∷ 0x00 ∷ 0x01 ∷ 0x01 ∷ 0x00 ∷ 0x03 ∷ 0x01 ∷ 0x00 ∷ 0x04 ∷ 0x01 ∷ 0x01 ∷ 0x02 ∷ 0x04 ∷ 0x03 ∷ 0x02 ∷ 0x05 ∷ 0x00 ∷ 0x04 ∷ 0x04 ∷ 0x03 ∷ 0x05 ∷ 0x00 ∷ []
 
+-- The marked sheets, in document 01's order; then ours: a chain of returns, and the first fault met in sheets that have more than one, or that are cut.
 unfoldable pub worked-sheets : List Worked
 worked-sheets =
     record { bytes = smallest; question = listing true; expected = accepted 0 [] (line 0 0 0 ∷ []) } ∷
@@ -95,14 +107,33 @@ worked-sheets =
     record { bytes = from-start; question = listing true; expected = accepted 0 [] (line 0 0 0 ∷ line 1 0 0 ∷ line 2 0 10 ∷ line 2 1 0 ∷ []) } ∷
     record { bytes = at-once; question = listing true; expected = accepted 0 [] (line 0 0 0 ∷ line 1 0 0 ∷ []) } ∷
     record { bytes = circle; question = listing true; expected = refuses 8 } ∷
-    record { bytes = stand 2; question = starting (0 ∷ 0 ∷ 10 ∷ 0 ∷ 0 ∷ []); expected = started (0 ∷ 0 ∷ 0 ∷ 10 ∷ 12 ∷ []) } ∷
-    record { bytes = stand 2; question = starting (0 ∷ 0 ∷ 0 ∷ 0 ∷ 0 ∷ []); expected = started (0 ∷ 0 ∷ 0 ∷ 1 ∷ 3 ∷ []) } ∷
+    record { bytes = stand 2; question = times-for (0 ∷ 0 ∷ 10 ∷ 0 ∷ 0 ∷ []); expected = started (0 ∷ 0 ∷ 0 ∷ 10 ∷ 12 ∷ []) } ∷
+    record { bytes = stand 2; question = times-for (0 ∷ 0 ∷ 0 ∷ 0 ∷ 0 ∷ []); expected = started (0 ∷ 0 ∷ 0 ∷ 1 ∷ 3 ∷ []) } ∷
     record { bytes = two-returns; question = listing true; expected = accepted 1 (wait 1 3 ∷ wait 1 4 ∷ []) (line 0 0 0 ∷ line 1 0 0 ∷ line 2 1 0 ∷ line 3 1 0 ∷ line 4 1 0 ∷ []) } ∷
+    faulty (0x00 ∷ []) 2 ∷
+    faulty (0x41 ∷ []) 2 ∷
+    faulty (0x00 ∷ 0x01 ∷ 0x02 ∷ []) 2 ∷
+    faulty (0x01 ∷ 0x01 ∷ 0x02 ∷ []) 3 ∷
+    faulty (0x05 ∷ 0x01 ∷ []) 1 ∷
+    faulty (0x01 ∷ 0x00 ∷ 0x00 ∷ []) 1 ∷
+    faulty (0x01 ∷ 0x00 ∷ 0x00 ∷ 0x02 ∷ []) 4 ∷
+    faulty (0x02 ∷ 0x01 ∷ 0x00 ∷ 0x01 ∷ 0x03 ∷ []) 4 ∷
+    faulty (0x02 ∷ 0x01 ∷ 0x00 ∷ 0x01 ∷ 0x00 ∷ 0x08 ∷ []) 4 ∷
+    faulty (0x02 ∷ 0x01 ∷ 0x00 ∷ 0x01 ∷ 0x00 ∷ 0x00 ∷ []) 4 ∷
+    faulty (0x02 ∷ 0x01 ∷ 0x00 ∷ 0x01 ∷ 0x00 ∷ 0x01 ∷ 0x05 ∷ []) 1 ∷
+    faulty (0x02 ∷ 0x01 ∷ 0x00 ∷ 0x01 ∷ 0x00 ∷ 0x01 ∷ 0x05 ∷ 0x00 ∷ []) 5 ∷
+    faulty (0x02 ∷ 0x01 ∷ 0x00 ∷ 0x01 ∷ 0x00 ∷ 0x01 ∷ 0x01 ∷ 0x01 ∷ []) 5 ∷
+    faulty (0x02 ∷ 0x02 ∷ 0x00 ∷ 0x01 ∷ 0x00 ∷ 0x01 ∷ 0x00 ∷ 0x01 ∷ 0x02 ∷ 0x00 ∷ 0x01 ∷ []) 6 ∷
+    faulty (0x02 ∷ 0x02 ∷ 0x00 ∷ 0x01 ∷ 0x00 ∷ 0x01 ∷ 0x00 ∷ 0x01 ∷ 0x01 ∷ 0x01 ∷ 0x01 ∷ []) 5 ∷
+    faulty (0x02 ∷ 0x01 ∷ 0x00 ∷ 0x01 ∷ 0x00 ∷ 0x02 ∷ 0x00 ∷ 0x01 ∷ 0x01 ∷ []) 1 ∷
+    faulty (0x01 ∷ 0x00 ∷ 0x00 ∷ 0x01 ∷ 0x00 ∷ []) 7 ∷
+    faulty (0x02 ∷ 0x01 ∷ 0x00 ∷ 0x01 ∷ 0x00 ∷ 0x01 ∷ 0x01 ∷ 0x00 ∷ []) 9 ∷
+    faulty (0x03 ∷ 0x02 ∷ 0x00 ∷ 0x01 ∷ 0x00 ∷ 0x00 ∷ 0x02 ∷ 0x01 ∷ 0x02 ∷ 0x00 ∷ 0x00 ∷ 0x02 ∷ 0x02 ∷ 0x01 ∷ 0x00 ∷ 0x00 ∷ []) 8 ∷
     []
 
 -- The computed test: the definitions answer every sheet of the table as expected.
 pub all-answered : map answered worked-sheets ≡ map (λ w. w .expected) worked-sheets
-unfolding any all any-below all-below tabulate select-below largest test-bit bits-below refuse-if when-given demand byte two-bytes ticks-if operation-map delay-from operation link-map endpoints rises bound-from link records operations pair-of links at-end sheet read sequencing-of minimum-of maximum-of link-constraints constraints delay-at sequencing-edge edge-of edges forwards usable extend raise round rounds stable source-row seed seeds after-row bares reaches after-reaches in-anchor-set waits-for waits-of wait-list wait-count needs-waits serialized first-row offset-row offset start-from start-turns start-times overrides decides delay-limit delay-wrong delays-wrong closes-circle unreached infeasible inconsistent judge-edges edges-of serialized-of judge-records written too-short starts-verdict starts-read starts-answer lines-of start-lines list-records listed ask answered worked-sheets flatMap
+unfolding every-definition ask answered worked-sheets
 all-answered = refl
 
 -- The law: what holds of the two lists as a whole holds at each member.
@@ -116,3 +147,36 @@ map-member f g (y ∷ l) e x m = go (List·Memᴰ·cases-cons m) (map-member f g
 
 pub worked-answered : (w : Worked) → List·Memᴰ w worked-sheets → answered w ≡ w .expected
 worked-answered = map-member answered (λ w. w .expected) worked-sheets all-answered
+
+-- What `standplan` prints of the stand sheet, byte by byte.
+pub stand-printed : standplan (stand 2) ≡ 118 ∷ 101 ∷ 114 ∷ 100 ∷ 105 ∷ 99 ∷ 116 ∷ 32 ∷ 48 ∷ 10 ∷ 119 ∷ 97 ∷ 105 ∷ 116 ∷ 115 ∷ 32 ∷ 48 ∷ 10 ∷ 115 ∷ 116 ∷ 97 ∷ 114 ∷ 116 ∷ 32 ∷ 48 ∷ 32 ∷ 48 ∷ 32 ∷ 48 ∷ 10 ∷ 115 ∷ 116 ∷ 97 ∷ 114 ∷ 116 ∷ 32 ∷ 49 ∷ 32 ∷ 48 ∷ 32 ∷ 48 ∷ 10 ∷ 115 ∷ 116 ∷ 97 ∷ 114 ∷ 116 ∷ 32 ∷ 50 ∷ 32 ∷ 48 ∷ 32 ∷ 48 ∷ 10 ∷ 115 ∷ 116 ∷ 97 ∷ 114 ∷ 116 ∷ 32 ∷ 51 ∷ 32 ∷ 48 ∷ 32 ∷ 49 ∷ 10 ∷ 115 ∷ 116 ∷ 97 ∷ 114 ∷ 116 ∷ 32 ∷ 51 ∷ 32 ∷ 50 ∷ 32 ∷ 48 ∷ 10 ∷ 115 ∷ 116 ∷ 97 ∷ 114 ∷ 116 ∷ 32 ∷ 52 ∷ 32 ∷ 48 ∷ 32 ∷ 51 ∷ 10 ∷ 115 ∷ 116 ∷ 97 ∷ 114 ∷ 116 ∷ 32 ∷ 52 ∷ 32 ∷ 50 ∷ 32 ∷ 50 ∷ 10 ∷ []
+unfolding every-definition
+stand-printed = refl
+
+-- The run of the stand sheet: Begin gives 7; Finish 2 gives 0; ticks give 8, 0, 16. A second Finish 2 is refused 17.
+pub data Call : Type 0 where
+  beginning : ℕ → ℕ → Call
+  ticking : Call
+  finishing : ℕ → Call
+
+unfoldable pub called : State → List ℕ → Call → Outcome Progress
+called st table (beginning n unbounded) = begin st n unbounded table
+called st table ticking = tick st table
+called st table (finishing s) = finish st s table
+
+unfoldable pub map-or-refusal : Outcome Progress → Outcome ℕ
+map-or-refusal o = when-given o (λ g. given (g .map))
+
+unfoldable pub run : State → List ℕ → List Call → List (Outcome ℕ)
+run st table [] = []
+run st table (c ∷ cs) = map-or-refusal (called st table c) ∷ run (state-after st (called st table c)) table cs
+
+abbrev pub idle : State
+idle = record { n = 0; unbounded = 0; tick = 0; started = 0; finished = 0; start = replicate 64 0; finish = replicate 64 0 }
+
+unfoldable pub stand-table : List ℕ
+stand-table = planned (stand 2) true (replicate 25 0) .numbers
+
+pub stand-run : run idle stand-table (beginning 5 4 ∷ finishing 2 ∷ ticking ∷ ticking ∷ ticking ∷ finishing 2 ∷ []) ≡ given 7 ∷ given 0 ∷ given 8 ∷ given 0 ∷ given 16 ∷ refused 17 ∷ []
+unfolding every-definition called map-or-refusal run stand-table
+stand-run = refl
