@@ -1,0 +1,14 @@
+-- How the code holds edges: one word of 64 bits for each, with the fields in its digits.
+use mathlib.Core.List.{List, map}
+use Prim.Native.Nat.{ℕ, _/_, _%_, _<_}
+use lib.Dec.{eqb}
+use Rattle.definitions.specs.Links.{Edge}
+
+-- From and to have six bits each, the two marks one each, gain and loss 24 bits each.
+unfoldable pub unpack : ℕ → Edge
+unpack w =
+    record { from = w % 64; to = w / 64 % 64; gain = w / 16384 % 16777216; loss = w / 274877906944 % 16777216; counted = eqb (w / 4096 % 2) 1; back = eqb (w / 8192 % 2) 1 }
+
+-- The edge list that words stand for.
+unfoldable pub graph : List ℕ → List Edge
+graph words = map unpack words

@@ -1,0 +1,1 @@
+// Edges held as words: see specs/Words.antt.

@@ -1,0 +1,1 @@
+// Laws about lists, tests and maps that are not about the planner: see proofs/.
