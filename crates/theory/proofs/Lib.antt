@@ -1,0 +1,5 @@
+pub mod Walks
+pub mod Pigeonhole
+pub mod RelativeSchedules
+pub mod AnchorOrder
+pub mod Serialization
