@@ -3,3 +3,5 @@ pub mod Pigeonhole
 pub mod RelativeSchedules
 pub mod AnchorOrder
 pub mod Serialization
+pub mod Relaxation
+pub mod FirstRows
