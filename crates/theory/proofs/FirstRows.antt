@@ -15,12 +15,12 @@ use Rattle.theory.specs.Graphs.{Shape}
 use Rattle.theory.proofs.Relaxation.{Fits, Grounded, Reach, Start, Under, raise-length, raise-same, raise-under, raise-up}
 use Rattle.theory.proofs.Walks.{after-edge, after-from, walk-none}
 
-zeros-at : (n v : ℕ) → cell (replicate n 0) v ≡ 0
+pub zeros-at : (n v : ℕ) → cell (replicate n 0) v ≡ 0
 zeros-at zero v = refl
 zeros-at (suc n) zero = refl
 zeros-at (suc n) (suc v) = zeros-at n v
 
-zeros-length : (n : ℕ) → length (replicate {A = ℕ} n 0) ≡ n
+pub zeros-length : (n : ℕ) → length (replicate {A = ℕ} n 0) ≡ n
 zeros-length n = length-replicate {A = ℕ} n 0
 
 zeros-under : (E : Graph) (a n : ℕ) → Under E a (replicate n 0)

@@ -5,3 +5,4 @@ pub mod AnchorOrder
 pub mod Serialization
 pub mod Relaxation
 pub mod FirstRows
+pub mod Reachability

@@ -48,10 +48,10 @@ extend-mono (suc r) (suc s) g l h = omega arith
 abbrev pub Fits : List Edge → List ℕ → Type 0
 Fits es row = (e : Edge) → List·Memᴰ e es → e .to < length row
 
-fits-relax : {x : Edge} {es : List Edge} (row : List ℕ) → Fits (x ∷ es) row → Fits es (relax row x)
+pub fits-relax : {x : Edge} {es : List Edge} (row : List ℕ) → Fits (x ∷ es) row → Fits es (relax row x)
 fits-relax {x} row h e m = omega (arith, h e (List·Memᴰ·tail m), raise-length row (x .to) (offer row x))
 
-fits-head : {x : Edge} {es : List Edge} (row : List ℕ) → Fits (x ∷ es) row → x .to < length row
+pub fits-head : {x : Edge} {es : List Edge} (row : List ℕ) → Fits (x ∷ es) row → x .to < length row
 fits-head {x} row h = h x (List·Memᴰ·head refl)
 
 pub round-length : (es : List Edge) (row : List ℕ) → length (round es row) ≡ length row
@@ -81,7 +81,7 @@ unfolding rounds
 rounds-length es zero row = refl
 rounds-length es (suc k) row = round-length es (rounds es k row) ∙ rounds-length es k row
 
-fits-rounds : {es : List Edge} (k : ℕ) (row : List ℕ) → Fits es row → Fits es (rounds es k row)
+pub fits-rounds : {es : List Edge} (k : ℕ) (row : List ℕ) → Fits es row → Fits es (rounds es k row)
 fits-rounds {es} k row h e m = omega (arith, h e m, rounds-length es k row)
 
 pub rounds-up : (es : List Edge) (k : ℕ) (row : List ℕ) → Fits es row → (v : ℕ) → cell (rounds es k row) v ≤ cell (rounds es (suc k) row) v
