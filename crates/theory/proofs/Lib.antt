@@ -6,3 +6,4 @@ pub mod Serialization
 pub mod Relaxation
 pub mod FirstRows
 pub mod Reachability
+pub mod WaitLists
