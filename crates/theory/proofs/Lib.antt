@@ -7,3 +7,4 @@ pub mod Relaxation
 pub mod FirstRows
 pub mod Reachability
 pub mod WaitLists
+pub mod Feasibility
