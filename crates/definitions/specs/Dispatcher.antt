@@ -1,4 +1,5 @@
 -- "The runner", and "From the state": the dispatcher.
+use mathlib.Core.Path.{_≡_}
 use mathlib.Core.Bool.{Bool, true, false, cond, not, _&&_, _||_}
 use mathlib.Core.List.{List}
 use Prim.Native.Nat.{ℕ, zero, suc, _+_, _*_, _^_}
@@ -7,7 +8,9 @@ use lib.ListN.{length, getD, set, replicate}
 use Rattle.definitions.specs.Basics.{any-below, all-below, test-bit, bits-below, Outcome, given, refused, refuse-if}
 use Rattle.definitions.specs.Plan.{undecided}
 use Rattle.definitions.specs.Answers.{bad-count, too-short}
+use Rattle.definitions.specs.Numbers.{status-of}
 use Rattle.definitions.specs.declared.State.{State}
+use Rattle.definitions.specs.declared.Dispatch.{Dispatch}
 
 -- The table's number for step v and the step a, and whether row v names a.
 unfoldable pub entry : State → List ℕ → ℕ → ℕ → ℕ
@@ -86,3 +89,9 @@ state-after st (refused k) = st
 unfoldable pub map-after : Outcome Progress → ℕ
 map-after (given g) = g .map
 map-after (refused k) = 0
+
+-- A call of the dispatcher on the state st returns what the definition says: its outcome, and on a refusal its number, the state as given and map 0.
+pub record Returns (st : State) (outcome : Outcome Progress) (r : Dispatch) : Type 0 where
+  pub answer : status-of (r .status) (record { state = r .state; map = r .map }) ≡ outcome
+  pub state : r .state ≡ state-after st outcome
+  pub map : r .map ≡ map-after outcome

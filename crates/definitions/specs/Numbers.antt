@@ -5,7 +5,9 @@ use Rattle.definitions.specs.declared.Refusal.{Refusal}
 use Rattle.definitions.specs.declared.Refusal.the-variants.{Truncated, OperationCount, LinkCount, BadMap, BadEndpoint, BadOrder, Trailing, ForwardCycle, Unreachable, Infeasible, Inconsistent, WaitsNeeded, BadDelays, TooShort, NotBegun, AlreadyBegun, CannotFinish, ClockEnd}
 use Rattle.definitions.specs.declared.Verdict.{Verdict}
 use Rattle.definitions.specs.declared.Reading.{Reading}
+use Rattle.definitions.specs.declared.Status.{Status}
 use Rattle.definitions.specs.declared.Verdict.the-variants as Verdicts
+use Rattle.definitions.specs.declared.Status.the-variants as Statuses
 use Rattle.definitions.specs.declared.Reading.the-variants as Readings
 
 -- The refusals of "From the input" and "From the state".
@@ -39,3 +41,8 @@ verdict-of (Verdicts.Refused k) = refused (number k)
 abbrev pub reading-of : {A : Type 0} → Reading → A → Outcome A
 reading-of Readings.Whole a = given a
 reading-of (Readings.Refused k) a = refused (number k)
+
+-- What a call answers: a value that stands beside its status, or a refusal.
+abbrev pub status-of : {A : Type 0} → Status → A → Outcome A
+status-of Statuses.Done a = given a
+status-of (Statuses.Refused k) a = refused (number k)

@@ -90,3 +90,16 @@ pub struct State {
     pub start: [u32; 64],
     pub finish: [u32; 64],
 }
+
+// Whether a call went through.
+pub enum Status {
+    Done,
+    Refused(Refusal),
+}
+
+// What a call of the dispatcher returns: the state after it and the map of the operations that it started.
+pub struct Dispatch {
+    pub status: Status,
+    pub state: State,
+    pub map: u64,
+}

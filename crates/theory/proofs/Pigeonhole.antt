@@ -73,7 +73,6 @@ free-take (suc m) z l b h = go (ℕ-discrete m z) (λ c. free-take m z l c h)
         omega (arith, tick-yes (dec-mem m (z ∷ l)) (List·Memᴰ·head e), tick-no (dec-mem m l) (λ i. h (Memᴰ·cast (sym e) i)), free-skip m z l (omega arith))
     go (no e) ih = omega (arith, tick-same (dec-mem m (z ∷ l)) (dec-mem m l) (other e) List·Memᴰ·tail, ih (omega arith))
 
-
 pub record Split (E : Graph) (x z y k p q : ℕ) : Type 0 where
   pub k₁ : ℕ
   pub p₁ : ℕ
