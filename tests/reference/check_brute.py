@@ -1,0 +1,404 @@
+"""Brute-force self-check of planner.py on small random sheets.
+
+    python3 check_brute.py SECONDS [SEED]
+
+Everything here is worked out a second time, straight from document 01's
+sentences, with no function of planner.py beyond those under test.
+"""
+from __future__ import annotations
+
+import itertools
+import random
+import sys
+import time
+from collections import Counter
+
+import generate
+import planner as p
+
+BIG = p.LONGEST
+Pair = tuple[int, int]
+# A sheet here: steps (None open, else duration) and links (kind, i, j, number), i and j
+# as in the record; the number of an after link is 0 and not used.
+LinkT = tuple[str, int, int, int]
+
+
+def random_parts(rng: random.Random) -> tuple[list, list[LinkT]]:
+    """Steps and links of a small random sheet, mostly well-formed, of every verdict."""
+    n = rng.choice([1, 2, 3, 3, 4, 4, 4, 5, 5, 5, 5])
+    wide = rng.random() < 0.6        # mostly straight after step 0: more waits
+    if wide:
+        n = rng.choice([4, 5, 5])
+    top = rng.choice([1, 2, 4])
+    share = rng.choice([0.3, 0.6, 0.9])
+    steps = [None] + [None if rng.random() < share else rng.randint(0, top) for _ in range(n - 1)]
+    order = [0] + rng.sample(range(1, n), n - 1)
+    pairs: set[tuple[str, int, int]] = set()
+
+    def forward_pair(i: int, j: int) -> None:
+        pairs.add((rng.choice(["after", "after", "least"]), i, j))
+
+    if rng.random() < 0.95:
+        for k in range(1, n):
+            forward_pair(order[rng.choice([0, rng.randrange(k)]) if wide else rng.randrange(k)],
+                         order[k])
+    if n > 1:
+        for _ in range(rng.randint(0, 2 if wide else n)):
+            a, b = sorted(rng.sample(range(n), 2))
+            if rng.random() < 0.03:
+                a, b = b, a
+            forward_pair(order[a], order[b])
+        sets = start_sets(steps, [(kind, i, j, 0) for kind, i, j in sorted(pairs)])
+        for _ in range(rng.choice([0, 1, 1, 2, 2, 3, 4])):
+            i, j = rng.sample(range(n), 2)
+            for _ in range(30 if wide else 0):     # look for a pair that needs a wait
+                if i != 0 and sets[j] - sets[i] - {i} and i not in sets[j]:
+                    break
+                i, j = rng.sample(range(n), 2)
+            pairs.add(("most", i, j))
+            sets[i] |= sets[j]                     # so that returns follow each other
+    return steps, [(kind, i, j, 0 if kind == "after" else rng.randint(0, top * rng.choice([1, 3, 5])))
+                   for kind, i, j in sorted(pairs)]
+
+
+def encode(steps: list, links: list[LinkT]) -> bytes:
+    """The sheet in bytes."""
+    records: dict[Pair, dict[str, int]] = {}
+    for kind, i, j, number in links:
+        records.setdefault((i, j), {})[kind] = number
+    out = bytes([len(steps)]) + len(records).to_bytes(2, "little")
+    for step in steps:
+        out += b"\x01" if step is None else b"\x00" if step == 0 else bytes([2, step, 0])
+    for (i, j), fields in sorted(records.items()):
+        out += bytes([("after" in fields) + 2 * ("least" in fields) + 4 * ("most" in fields), i, j])
+        for kind in ("least", "most"):
+            if kind in fields:
+                out += fields[kind].to_bytes(2, "little")
+    return out
+
+
+def duration(steps: list, durations: list[int], v: int) -> int:
+    """The duration of v: fixed, from the list, 0 for step 0."""
+    return 0 if v == 0 else durations[v] if steps[v] is None else steps[v]
+
+
+def keeps(steps: list, links: list[LinkT], durations: list[int], start: list[int]) -> bool:
+    """Whether start times keep every link, each link's line as written."""
+    for kind, i, j, number in links:
+        if kind == "after" and not start[j] >= start[i] + duration(steps, durations, i):
+            return False
+        if kind == "least" and not start[j] >= start[i] + number:
+            return False
+        if kind == "most" and not start[j] <= start[i] + number:
+            return False
+    return start[0] == 0
+
+
+def solve(steps: list, links: list[LinkT], durations: list[int]) -> list[int] | None:
+    """The least start times (none negative) that keep every link, or None: raise what must
+    be raised, and give up once step 0 moves or N rounds have all moved something."""
+    start = [0] * len(steps)
+    for _ in range(len(steps) + 1):
+        moved = False
+        for kind, i, j, number in links:
+            if kind == "most":
+                low, at = start[j] - number, i
+            else:
+                low = start[i] + (number if kind == "least" else duration(steps, durations, i))
+                at = j
+            if start[at] < low:
+                start[at] = low
+                moved = True
+        if start[0] > 0:
+            return None
+        if not moved:
+            return start
+    return None
+
+
+def solve_by_trying(steps: list, links: list[LinkT], durations: list[int], top: int):
+    """All start times up to `top` that keep every link, tried one by one."""
+    return [start for start in itertools.product([0], *[range(top + 1)] * (len(steps) - 1))
+            if keeps(steps, links, durations, start)]
+
+
+def moves(steps: list, links: list[LinkT]) -> list[tuple[int, int, int, str]]:
+    """Every link as a walk follows it: from, to, weight with open durations 0, kind."""
+    out = []
+    for kind, i, j, number in links:
+        if kind == "most":
+            out.append((j, i, -number, kind))
+        else:
+            out.append((i, j, number if kind == "least" else (steps[i] or 0), kind))
+    return out
+
+
+def walks(allowed: list, first: list, length: int) -> set[Pair]:
+    """(end, weight) of every walk of 1 to `length` links whose first link is in `first`."""
+    layer = {(t, w) for _, t, w, _ in first}
+    found = set(layer)
+    for _ in range(length - 1):
+        layer = {(t, weight + w) for end, weight in layer for s, t, w, _ in allowed if s == end}
+        found |= layer
+    return found
+
+
+def start_sets(steps: list, links: list[LinkT]) -> list[set[int]]:
+    """Start sets by trying every chain of up to N forward links."""
+    ahead = [m for m in moves(steps, links) if m[3] != "most"]
+    sets = [{0} for _ in steps]
+    for a in range(1, len(steps)):
+        if steps[a] is None:
+            for end, _ in walks(ahead, [m for m in ahead if m[0] == a and m[3] == "after"],
+                                len(steps)):
+                sets[end].add(a)
+    return sets
+
+
+def lists(rng: random.Random, steps: list) -> list[list[int]]:
+    """Many lists of durations: every mix of 0, 1 and the longest, one alone, random ones."""
+    opens = [v for v in range(1, len(steps)) if steps[v] is None]
+    choices = list(itertools.product([0, 1, BIG], repeat=len(opens)))
+    choices += [tuple(rng.choice([0, 1, 2, 3, 5, 8, 1000, BIG - 1, BIG]) for _ in opens)
+                for _ in range(15)]
+    choices += [tuple(rng.randint(0, 6) for _ in opens) for _ in range(25)]
+    out = []
+    for choice in choices:
+        one = [0] * len(steps)
+        for v, d in zip(opens, choice):
+            one[v] = d
+        out.append(one)
+    return out
+
+
+def expected_refusal(steps: list, links: list[LinkT], many: list[list[int]]) -> int:
+    """0 or 8 to 11, by trying chains, walks and lists of durations."""
+    n = len(steps)
+    ahead = [m for m in moves(steps, links) if m[3] != "most"]
+    for v in range(n):
+        if any(end == v for end, _ in walks(ahead, [m for m in ahead if m[0] == v], n)):
+            return 8
+    chained = {end for end, _ in walks(ahead, [m for m in ahead if m[0] == 0], n)} | {0}
+    if len(chained) < n:
+        return 9
+    if solve(steps, links, [0] * n) is None:
+        return 10
+    if any(solve(steps, links, one) is None for one in many):
+        return 11
+    return 0
+
+
+def check_starts(steps, links, waits, sheet, many, offsets) -> None:
+    """Starts keep all links and waits, are the least such, and follow the start rule."""
+    n = len(steps)
+    whole = links + [("after", a, i, 0) for a, i in waits]
+    for one in many:
+        verdict, start = p.starts(sheet, True, one, [77] * (n + 1))
+        assert verdict == ("ok", 1 if waits else 0) and start[n:] == [77]
+        start = start[:n]
+        assert keeps(steps, whole, one, start)
+        assert start == solve(steps, whole, one)
+        for v in range(1, n):
+            assert start[v] == max(start[a] + one[a] + offsets[v][a] for a in offsets[v])
+    if n <= 4:
+        one = [min(d, 2) for d in many[-1]]
+        _, start = p.starts(sheet, True, one, [0] * n)
+        top = max(start) + 1
+        if top <= 12:
+            tried = solve_by_trying(steps, whole, one, top)
+            assert tuple(start) in tried
+            assert all(x >= y for other in tried for x, y in zip(other, start))
+
+
+def check_deciding(steps, sheet, many, offsets, table) -> None:
+    """The deciding set is the one smallest part with the same largest value on every list,
+    and a member is dropped exactly if dropping it alone changes no start."""
+    n = len(steps)
+    starts = [p.starts(sheet, True, one, [0] * n)[1] for one in many]
+    for v in range(n):
+        decides = {a for a in range(n) if table[v * n + a] != p.UNDECIDED}
+        assert decides <= set(offsets[v])
+        assert all(table[v * n + a] == offsets[v][a] for a in decides)
+        if v == 0:
+            assert decides == {0}
+            continue
+        values = [{a: start[a] + one[a] + offsets[v][a] for a in offsets[v]}
+                  for one, start in zip(many, starts)]
+        same = []
+        for size in range(1, len(offsets[v]) + 1):
+            for part in itertools.combinations(sorted(offsets[v]), size):
+                if all(max(value[a] for a in part) == max(value.values()) for value in values):
+                    same.append(set(part))
+        assert [part for part in same if len(part) == len(same[0])] == [decides]
+        for a in offsets[v]:
+            rest = set(offsets[v]) - {a}
+            unchanged = bool(rest) and all(max(value[b] for b in rest) == max(value.values())
+                                           for value in values)
+            assert unchanged == (a not in decides)
+
+
+def check_run(rng, steps, sheet, table, many) -> None:
+    """A run whose open steps last as listed starts each step at its start, not before."""
+    n = len(steps)
+    small = [one for one in many if max(one) <= 8]
+    one = rng.choice(small)
+    _, planned = p.starts(sheet, True, one, [0] * n)
+    open_map = sum(1 << v for v in range(n) if steps[v] is None)
+    (kind, bits), state = p.begin(p.State(), n, open_map, table)
+    assert kind == "ok"
+    seen = {v: 0 for v in range(n) if bits >> v & 1}
+    for now in range(max(planned) + 2):
+        if now:
+            (kind, bits), state = p.tick(state, table)
+            assert kind == "ok"
+            seen |= {v: now for v in range(n) if bits >> v & 1}
+        ended = True
+        while ended:
+            ended = False
+            for v in range(1, n):
+                if steps[v] is None and seen.get(v) == now - one[v] and not state.finished >> v & 1:
+                    (kind, bits), state = p.finish(state, v, table)
+                    assert kind == "ok"
+                    seen |= {w: now for w in range(n) if bits >> w & 1}
+                    ended = True
+    assert [seen[v] for v in range(n)] == planned == list(state.start[:n])
+
+
+def check_rivals(rng, steps, links, sheet, many) -> bool:
+    """No sound rival's sheet starts a step before ours; whether a rival was met."""
+    n = len(steps)
+    more = [("after" if rng.random() < 0.8 else "least", *rng.sample(range(n), 2), 0)
+            for _ in range(rng.randint(1, 4))]
+    rival = links + more
+    sets = start_sets(steps, rival)
+    if not all(sets[j] <= sets[i] for kind, i, j, _ in rival if kind == "most"):
+        return False
+    for one in many:
+        theirs = solve(steps, rival, one)
+        if theirs is not None:
+            _, ours = p.starts(sheet, True, one, [0] * n)
+            assert all(x <= y for x, y in zip(ours, theirs))
+    return True
+
+
+def check(rng: random.Random, tally: Counter) -> None:
+    """One random sheet, all checks."""
+    steps, links = random_parts(rng)
+    n = len(steps)
+    sheet = encode(steps, links)
+    many = lists(rng, steps)
+    expected = expected_refusal(steps, links, many)
+    if expected:
+        tally[f"refused {expected}"] += 1
+        for allow in (False, True):
+            assert p.judge(sheet, allow) == ("refused", expected)
+            assert p.plan(sheet, allow, [4] * 3) == (("refused", expected), [4] * 3)
+            assert p.starts(sheet, allow, [9], [4]) == (("refused", expected), [4])
+        assert p.waits(sheet) == ([0] * 64, 0, ("refused", expected))
+        assert p.standplan_text(sheet) == f"refused {expected}\n"
+        if expected == 10 and n <= 3:
+            assert not solve_by_trying(steps, links, [0] * n, 12)
+        return
+
+    # Waits, on the sheet as sent, and soundness before and after.
+    every = moves(steps, links)
+    sets = start_sets(steps, links)
+    waits = sorted({(a, i) for a in range(1, n) if steps[a] is None
+                    for end, _ in walks(every, [m for m in every if m[0] == a and m[3] == "after"],
+                                        2 * n)
+                    for kind, i, j, _ in links if kind == "most" and j == end and a not in sets[i]})
+    sound = all(sets[j] <= sets[i] for kind, i, j, _ in links if kind == "most")
+    assert sound == (not waits)
+    maps = [sum(1 << a for a, i in waits if i == v) for v in range(64)]
+    assert p.waits(sheet) == (maps, len(waits), ("ok", 0 if sound else 1))
+    assert p.judge(sheet, True) == ("ok", 0 if sound else 1)
+    assert p.judge(sheet, False) == (("ok", 0) if sound else ("refused", 12))
+    tally["sound" if sound else "sound with waits"] += 1
+    if len({i for _, i in waits}) > 1:
+        tally["waits on several steps"] += 1
+
+    # Start sets and offsets with the waits in, by every walk of up to 2N links.
+    whole = links + [("after", a, i, 0) for a, i in waits]
+    every = moves(steps, whole)
+    sets = start_sets(steps, whole)
+    assert all(sets[j] <= sets[i] for kind, i, j, _ in links if kind == "most")
+    offsets: list[dict[int, int]] = [{} for _ in steps]
+    for a in range(n):
+        first = [m for m in every if m[0] == a and (a == 0 or m[3] == "after")]
+        found = walks(every, first, 2 * n) | ({(0, 0)} if a == 0 else set())
+        for v in range(n):
+            if a in sets[v]:
+                offsets[v][a] = max(weight for end, weight in found if end == v)
+    accepted = p.accept(sheet, True)
+    assert p.offsets_of(accepted.steps, accepted.links) == offsets
+
+    verdict, table = p.plan(sheet, True, [5] * (n * n + 2))
+    assert verdict == ("ok", 0 if sound else 1) and table[n * n:] == [5, 5]
+    check_starts(steps, links, waits, sheet, many, offsets)
+    check_deciding(steps, sheet, many, offsets, table)
+    check_run(rng, steps, sheet, table, many)
+    if waits and n > 1:
+        tally["rivals"] += sum(check_rivals(rng, steps, links, sheet, many[::5]) for _ in range(6))
+    text = f"verdict {0 if sound else 1}\nwaits {len(waits)}\n"
+    text += "".join(f"wait {a} {i}\n" for a, i in waits)
+    text += "".join(f"start {v} {a} {table[v * n + a]}\n" for v in range(n) for a in range(n)
+                    if table[v * n + a] != p.UNDECIDED)
+    assert p.standplan_text(sheet) == text
+    dropped = sum(len(row) for row in offsets) - sum(x != p.UNDECIDED for x in table[:n * n])
+    tally["members dropped"] += dropped
+    tally["members kept"] += sum(x != p.UNDECIDED for x in table[:n * n])
+
+
+def check_large(rng: random.Random, tally: Counter) -> None:
+    """One sheet of any size from generate.py: 10 and 11 by the solver, starts and table."""
+    sheet = generate.random_sheet(rng)
+    verdict = p.judge(sheet, True)
+    tally[f"large {verdict[0]} {verdict[1]}"] += 1
+    if verdict[0] == "refused" and verdict[1] not in (10, 11):
+        return
+    steps, records = p.read(sheet)[1]
+    n = len(steps)
+    links: list[LinkT] = []
+    for r in records:
+        links += [("after", r.i, r.j, 0)] if r.after else []
+        links += [("least", r.i, r.j, r.at_least)] if r.at_least is not None else []
+        links += [("most", r.i, r.j, r.at_most)] if r.at_most is not None else []
+    longest = [BIG if v and steps[v] is None else 0 for v in range(n)]
+    possible = solve(steps, links, [0] * n) is not None
+    always = solve(steps, links, longest) is not None
+    assert verdict[0] == "ok" if always else verdict[1] == (11 if possible else 10)
+    if verdict[0] == "refused":
+        return
+    maps, _, _ = p.waits(sheet)
+    whole = links + [("after", a, i, 0) for i in range(n) for a in range(n) if maps[i] >> a & 1]
+    _, table = p.plan(sheet, True, [0] * (n * n))
+    assert max(x for x in table if x != p.UNDECIDED) <= 4_128_705
+    for one in [[0] * n, longest] + [[rng.choice([0, rng.randint(0, 70_000), rng.randint(0, d)])
+                                      if d else 0 for d in longest] for _ in range(4)]:
+        _, start = p.starts(sheet, True, one, [0] * n)
+        assert start == solve(steps, whole, one) and max(start) <= 4_294_967_295
+        for v in range(1, n):
+            assert start[v] == max(start[a] + one[a] + table[v * n + a] for a in range(n)
+                                   if table[v * n + a] != p.UNDECIDED)
+
+
+def main() -> None:
+    """Check random sheets for so many seconds and print the tally."""
+    end = time.time() + float(sys.argv[1])
+    seed = int(sys.argv[2]) if len(sys.argv) > 2 else 1
+    tally: Counter = Counter()
+    while time.time() < end:
+        try:
+            check(random.Random(seed), tally)
+            if seed % 10 == 0:
+                check_large(random.Random(seed), tally)
+        except AssertionError:
+            print("FAILED at seed", seed)
+            raise
+        tally["sheets"] += 1
+        seed += 1
+    print(dict(sorted(tally.items())))
+
+
+if __name__ == "__main__":
+    main()

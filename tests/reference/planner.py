@@ -1,0 +1,451 @@
+"""Reference stand planner, written from document 01 (01-scope.md) alone.
+
+Verdicts are ("ok", x) or ("refused", k).  Lent lists are never changed in
+place: each call returns them as they are afterwards.
+"""
+from __future__ import annotations
+
+from dataclasses import dataclass, replace
+
+UNDECIDED = 4_294_967_295      # table entry where a does not decide v
+LAST_TICK = 4_294_967_295
+LONGEST = 16_777_215           # largest duration in a list of durations
+OPEN = None                    # a step is OPEN or its fixed duration
+
+Step = int | None
+Verdict = tuple[str, int]
+
+
+class Refusal(Exception):
+    """A refusal with its number in the document."""
+
+    def __init__(self, number: int) -> None:
+        super().__init__(number)
+        self.number = number
+
+
+@dataclass(frozen=True)
+class Record:
+    """A link record for the pair (i, j)."""
+
+    i: int
+    j: int
+    after: bool
+    at_least: int | None
+    at_most: int | None
+
+
+@dataclass(frozen=True)
+class Link:
+    """One link as a walk follows it: an at most link on (i, j) goes from j to i."""
+
+    source: int
+    target: int
+    weight: int                # open durations taken as 0
+    kind: str                  # "after", "at least" or "at most"
+
+
+# ---------------------------------------------------------------- the bytes
+
+class _Bytes:
+    """The sheet, read from the front."""
+
+    def __init__(self, data: bytes) -> None:
+        self.data = data
+        self.at = 0
+
+    def number(self, size: int) -> int:
+        """A field of `size` bytes, low byte first; 1 where the bytes end before."""
+        if self.at + size > len(self.data):
+            raise Refusal(1)
+        value = int.from_bytes(self.data[self.at:self.at + size], "little")
+        self.at += size
+        return value
+
+
+def _read(sheet: bytes) -> tuple[list[Step], list[Record]]:
+    """Steps and link records of a sheet in bytes; raises refusals 1 to 7."""
+    source = _Bytes(sheet)
+    n = source.number(1)
+    if n == 0 or n > 64:
+        raise Refusal(2)
+    r = source.number(2)
+    if r > 512:
+        raise Refusal(3)
+
+    steps: list[Step] = []
+    for v in range(n):
+        bits = source.number(1)
+        if bits not in ((1,) if v == 0 else (0, 1, 2)):
+            raise Refusal(4)
+        if bits == 1:
+            steps.append(OPEN)
+        elif bits == 2:
+            steps.append(source.number(2))
+        else:
+            steps.append(0)
+
+    records: list[Record] = []
+    for _ in range(r):
+        bits = source.number(1)
+        if not 1 <= bits <= 7:
+            raise Refusal(4)
+        i = source.number(1)
+        j = source.number(1)
+        if i >= n or j >= n or i == j:
+            raise Refusal(5)
+        if records and (i, j) <= (records[-1].i, records[-1].j):
+            raise Refusal(6)
+        at_least = source.number(2) if bits & 2 else None
+        at_most = source.number(2) if bits & 4 else None
+        records.append(Record(i, j, bool(bits & 1), at_least, at_most))
+
+    if source.at < len(sheet):
+        raise Refusal(7)
+    return steps, records
+
+
+def read(sheet: bytes):
+    """A sheet in bytes: ("ok", (steps, link records)) or ("refused", 1 to 7)."""
+    try:
+        return "ok", _read(sheet)
+    except Refusal as refusal:
+        return "refused", refusal.number
+
+
+# ------------------------------------------------------- what links mean
+
+def links_of(steps: list[Step], records: list[Record]) -> list[Link]:
+    """What links mean: every link of the records, as walks follow them."""
+    links = []
+    for record in records:
+        if record.after:
+            duration = steps[record.i]
+            links.append(Link(record.i, record.j, 0 if duration is OPEN else duration, "after"))
+        if record.at_least is not None:
+            links.append(Link(record.i, record.j, record.at_least, "at least"))
+        if record.at_most is not None:
+            links.append(Link(record.j, record.i, -record.at_most, "at most"))
+    return links
+
+
+def forward(links: list[Link]) -> list[Link]:
+    """The forward links: after and at least."""
+    return [link for link in links if link.kind != "at most"]
+
+
+def open_steps(steps: list[Step]) -> list[int]:
+    """The open steps other than step 0."""
+    return [a for a in range(1, len(steps)) if steps[a] is OPEN]
+
+
+def after_targets(links: list[Link], a: int) -> set[int]:
+    """The steps that an after link out of a leads to."""
+    return {link.target for link in links if link.kind == "after" and link.source == a}
+
+
+def reached(links: list[Link], begin: set[int]) -> set[int]:
+    """The steps that walks along these links reach from `begin`, itself included."""
+    targets: dict[int, list[int]] = {}
+    for link in links:
+        targets.setdefault(link.source, []).append(link.target)
+    seen = set(begin)
+    todo = list(begin)
+    while todo:
+        for v in targets.get(todo.pop(), []):
+            if v not in seen:
+                seen.add(v)
+                todo.append(v)
+    return seen
+
+
+def start_sets(steps: list[Step], links: list[Link]) -> list[set[int]]:
+    """The start set of each step."""
+    sets = [{0} for _ in steps]
+    ahead = forward(links)
+    for a in open_steps(steps):
+        for v in reached(ahead, after_targets(ahead, a)):
+            sets[v].add(a)
+    return sets
+
+
+def waits_of(steps: list[Step], links: list[Link]) -> list[tuple[int, int]]:
+    """The waits (a, i), by a, then by i, judged on the sheet as sent."""
+    sets = start_sets(steps, links)
+    found = set()
+    for a in open_steps(steps):
+        there = reached(links, after_targets(links, a))
+        for link in links:
+            if link.kind == "at most":
+                j, i = link.source, link.target
+                if j in there and a not in sets[i]:
+                    found.add((a, i))
+    return sorted(found)
+
+
+def heaviest_walks(n: int, links: list[Link]) -> list[list[int | None]]:
+    """Weight of the heaviest walk from u to v, the empty one counted; None: no walk.
+
+    If some circle weighs more than 0, some number on the diagonal is above 0
+    (and the numbers mean nothing else).
+    """
+    best: list[list[int | None]] = [[None] * n for _ in range(n)]
+    for v in range(n):
+        best[v][v] = 0
+    for link in links:
+        old = best[link.source][link.target]
+        if old is None or link.weight > old:
+            best[link.source][link.target] = link.weight
+    for k in range(n):
+        for u in range(n):
+            first = best[u][k]
+            if first is None:
+                continue
+            for v in range(n):
+                second = best[k][v]
+                if second is not None:
+                    old = best[u][v]
+                    if old is None or first + second > old:
+                        best[u][v] = first + second
+    return best
+
+
+def offsets_of(steps: list[Step], links: list[Link]) -> list[dict[int, int]]:
+    """For each step v, the offset of v for each a in its start set."""
+    best = heaviest_walks(len(steps), links)
+    begins = {a: after_targets(links, a) for a in open_steps(steps)}
+    offsets = []
+    for v, members in enumerate(start_sets(steps, links)):
+        row = {}
+        for a in sorted(members):
+            if a == 0:
+                row[a] = best[0][v]
+            else:              # a is open: its after link weighs 0
+                row[a] = max(best[x][v] for x in begins[a] if best[x][v] is not None)
+        offsets.append(row)
+    return offsets
+
+
+def deciding_sets(offsets: list[dict[int, int]]) -> list[dict[int, int]]:
+    """For each step v, its deciding set, with the offsets."""
+    def left_out(v: int, a: int) -> bool:
+        return any(b != a and a in offsets[b]
+                   and offsets[b][a] + offsets[v][b] >= offsets[v][a]
+                   for b in offsets[v])
+    return [{a: offset for a, offset in row.items() if not left_out(v, a)}
+            for v, row in enumerate(offsets)]
+
+
+# ------------------------------------------------------------ the judgement
+
+@dataclass(frozen=True)
+class Accepted:
+    """An accepted sheet: its steps, its waits, and its links with the waits in."""
+
+    steps: list[Step]
+    waits: list[tuple[int, int]]
+    links: list[Link]
+
+    @property
+    def verdict(self) -> Verdict:
+        """0 is sound, 1 sound with waits."""
+        return "ok", 1 if self.waits else 0
+
+
+def accept(sheet: bytes, allow_waits: bool) -> Accepted:
+    """The accepted sheet; raises refusals 1 to 12."""
+    steps, records = _read(sheet)
+    n = len(steps)
+    links = links_of(steps, records)
+    ahead = forward(links)
+    if any(v in reached(ahead, {link.target for link in ahead if link.source == v})
+           for v in range(n)):
+        raise Refusal(8)
+    if len(reached(ahead, {0})) < n:
+        raise Refusal(9)
+    best = heaviest_walks(n, links)
+    if any(best[v][v] > 0 for v in range(n)):
+        raise Refusal(10)
+    if any(a in reached(links, after_targets(links, a)) for a in open_steps(steps)):
+        raise Refusal(11)
+    waits = waits_of(steps, links)
+    if waits and not allow_waits:
+        raise Refusal(12)
+    return Accepted(steps, waits, links + [Link(a, i, 0, "after") for a, i in waits])
+
+
+def judge(sheet: bytes, allow_waits: bool) -> Verdict:
+    """Judge a sheet: ("ok", 0) sound, ("ok", 1) sound with waits, or ("refused", 1 to 12)."""
+    try:
+        return accept(sheet, allow_waits).verdict
+    except Refusal as refusal:
+        return "refused", refusal.number
+
+
+def waits(sheet: bytes) -> tuple[list[int], int, Verdict]:
+    """List the waits: 64 maps (bit a of map i), their count, the verdict (never 12)."""
+    maps = [0] * 64
+    try:
+        accepted = accept(sheet, True)
+    except Refusal as refusal:
+        return maps, 0, ("refused", refusal.number)
+    for a, i in accepted.waits:
+        maps[i] |= 1 << a
+    return maps, len(accepted.waits), accepted.verdict
+
+
+def plan(sheet: bytes, allow_waits: bool, table: list[int]) -> tuple[Verdict, list[int]]:
+    """Plan a sheet into a lent table: the verdict, and the table afterwards."""
+    try:
+        accepted = accept(sheet, allow_waits)
+        n = len(accepted.steps)
+        if len(table) < n * n:
+            raise Refusal(14)
+    except Refusal as refusal:
+        return ("refused", refusal.number), list(table)
+    deciding = deciding_sets(offsets_of(accepted.steps, accepted.links))
+    answer = [deciding[v].get(a, UNDECIDED) for v in range(n) for a in range(n)]
+    return accepted.verdict, answer + list(table[n * n:])
+
+
+def start_times(offsets: list[dict[int, int]], durations: list[int]) -> list[int]:
+    """The start of each step by the rule, over its start set, for a list of durations."""
+    known: dict[int, int] = {0: 0}
+
+    def start(v: int) -> int:
+        if v not in known:
+            known[v] = max(start(a) + durations[a] + offset for a, offset in offsets[v].items())
+        return known[v]
+
+    return [start(v) for v in range(len(offsets))]
+
+
+def starts(sheet: bytes, allow_waits: bool, durations: list[int],
+           out: list[int]) -> tuple[Verdict, list[int]]:
+    """Work out starts into a lent list: the verdict, and that list afterwards."""
+    try:
+        accepted = accept(sheet, allow_waits)
+        n = len(accepted.steps)
+        for v, duration in enumerate(durations[:n]):
+            may_last = v != 0 and accepted.steps[v] is OPEN
+            if duration > (LONGEST if may_last else 0):
+                raise Refusal(13)
+        if len(durations) < n or len(out) < n:
+            raise Refusal(14)
+    except Refusal as refusal:
+        return ("refused", refusal.number), list(out)
+    answer = start_times(offsets_of(accepted.steps, accepted.links), durations)
+    return accepted.verdict, answer + list(out[n:])
+
+
+def row(table: list[int], n: int, v: int):
+    """Row v of a lent table: ("ok", its N numbers) or ("refused", 2, 5 or 14)."""
+    if not 1 <= n <= 64:
+        return "refused", 2
+    if v >= n:
+        return "refused", 5
+    if len(table) < n * n:
+        return "refused", 14
+    return "ok", table[v * n:(v + 1) * n]
+
+
+# --------------------------------------------------------------- the runner
+
+@dataclass(frozen=True)
+class State:
+    """The runner's state; as it stands here, no run has begun."""
+
+    n: int = 0
+    open: int = 0              # map of open steps
+    tick: int = 0
+    started: int = 0           # map
+    finished: int = 0          # map
+    start: tuple[int, ...] = (0,) * 64
+    finish: tuple[int, ...] = (0,) * 64
+
+
+def _has(bits: int, v: int) -> bool:
+    """Bit v of a map."""
+    return bits >> v & 1 == 1
+
+
+def _set(ticks: tuple[int, ...], v: int, tick: int) -> tuple[int, ...]:
+    """The ticks with that of step v replaced."""
+    return ticks[:v] + (tick,) + ticks[v + 1:]
+
+
+def _start_due(state: State, table: list[int]) -> tuple[int, State]:
+    """After each call: start the steps that are due; their map and the state."""
+    due = []
+    for v in range(state.n):
+        named = [(a, offset) for a, offset in enumerate(table[v * state.n:(v + 1) * state.n])
+                 if offset != UNDECIDED]
+        if not _has(state.started, v) and named and all(
+                _has(state.finished, a) and state.finish[a] + offset <= state.tick
+                for a, offset in named):
+            due.append(v)
+    bits = 0
+    start = state.start
+    for v in due:
+        bits |= 1 << v
+        start = _set(start, v, state.tick)
+    return bits, replace(state, started=state.started | bits, start=start)
+
+
+def begin(state: State, n: int, open_map: int, table: list[int]) -> tuple[Verdict, State]:
+    """Begin: ("ok", map of steps started) or ("refused", 16, 2 or 14), and the state."""
+    if _has(state.started, 0):
+        return ("refused", 16), state
+    if not 1 <= n <= 64:
+        return ("refused", 2), state
+    if len(table) < n * n:
+        return ("refused", 14), state
+    bits, after = _start_due(State(n=n, open=open_map, started=1, finished=1), table)
+    return ("ok", bits | 1), after
+
+
+def _not_running(state: State, table: list[int]) -> int:
+    """15, then 14, as Tick and Finish check them; 0 for neither."""
+    if not _has(state.started, 0) or not 1 <= state.n <= 64:
+        return 15
+    return 14 if len(table) < state.n * state.n else 0
+
+
+def tick(state: State, table: list[int]) -> tuple[Verdict, State]:
+    """Tick: ("ok", map of steps started) or ("refused", 15, 14 or 18), and the state."""
+    fault = _not_running(state, table)
+    if not fault and state.tick == LAST_TICK:
+        fault = 18
+    if fault:
+        return ("refused", fault), state
+    bits, after = _start_due(replace(state, tick=state.tick + 1), table)
+    return ("ok", bits), after
+
+
+def finish(state: State, s: int, table: list[int]) -> tuple[Verdict, State]:
+    """Finish s: ("ok", map of steps started) or ("refused", 15, 14 or 17), and the state."""
+    fault = _not_running(state, table)
+    if not fault and (s == 0 or s >= state.n or not _has(state.open, s)
+                      or not _has(state.started, s) or _has(state.finished, s)):
+        fault = 17
+    if fault:
+        return ("refused", fault), state
+    ended = replace(state, finished=state.finished | 1 << s,
+                    finish=_set(state.finish, s, state.tick))
+    bits, after = _start_due(ended, table)
+    return ("ok", bits), after
+
+
+# ---------------------------------------------------------------- standplan
+
+def standplan_text(sheet: bytes) -> str:
+    """The text that standplan prints for a sheet, waits allowed."""
+    try:
+        accepted = accept(sheet, True)
+    except Refusal as refusal:
+        return f"refused {refusal.number}\n"
+    lines = [f"verdict {accepted.verdict[1]}", f"waits {len(accepted.waits)}"]
+    lines += [f"wait {a} {i}" for a, i in accepted.waits]
+    for v, members in enumerate(deciding_sets(offsets_of(accepted.steps, accepted.links))):
+        lines += [f"start {v} {a} {members[a]}" for a in sorted(members)]
+    return "\n".join(lines) + "\n"
