@@ -8,3 +8,5 @@ pub mod FirstRows
 pub mod Reachability
 pub mod WaitLists
 pub mod Feasibility
+pub mod Offsets
+pub mod Irredundance
