@@ -10,3 +10,4 @@ pub mod WaitLists
 pub mod Feasibility
 pub mod Offsets
 pub mod Irredundance
+pub mod StartTimes
