@@ -13,3 +13,4 @@ pub mod Irredundance
 pub mod StartTimes
 pub mod DecidingSets
 pub mod Plans
+pub mod WaitCounts
