@@ -1,13 +1,13 @@
 -- When start times exist. With all delays 0: exactly if the row of the source is stable after n rounds. For every list of delays: exactly if, besides, no walk from the end of a step comes back to it.
 use mathlib.Core.Path.{_∙_, _≡_, ap, refl, sym}
 use mathlib.Core.Bool.{Bool, cond, false, true}
-use mathlib.Core.Logic.{_↔_, _≢_}
+use mathlib.Core.Logic.{_↔_}
 use mathlib.Core.List.{List, List·Memᴰ}
 use Prim.Native.Nat.{_*_, _+_, _-_, _<_, _≤_, suc, zero, ℕ}
 use native.Mathlib.Omega.{arith}
 use native.Mathlib.Nat.{mul-le-mul-right, suc-mul}
 use lib.Dec.{leb}
-use borrow.Author.Tests.{eq-eqb, le-leb, leb-true, ne-eqb}
+use borrow.Author.Tests.{le-leb, leb-true}
 use Rattle.definitions.specs.Anchors.{is-source}
 use Rattle.definitions.specs.Basics.{all-below, any}
 use Rattle.definitions.specs.Links.{After, AfterWalk, Edge, Graph, Walk, forwards, members, step, stop}
@@ -15,13 +15,14 @@ use Rattle.definitions.specs.Plan.{Span, after, source}
 use Rattle.definitions.specs.Rounds.{after-reaches, cell, extend, offer, reaches, rounds, source-row, stable}
 use Rattle.laws.proofs.Bools.{both-ways, not-passing}
 use Rattle.laws.proofs.Tests.{all-below-by, all-below-each, all-by, all-each, any-none, none-any}
-use Rattle.theory.specs.Graphs.{ForwardAcyclic, KeepsEdge, Losses, NonPositive, Rooted, Schedule, Shape, Well, lasting}
+use Rattle.theory.specs.Graphs.{ForwardAcyclic, KeepsEdge, Losses, NonPositive, Rooted, Schedule, Shape, Well, sole-delay}
 use Rattle.theory.proofs.FirstRows.{source-start}
 use Rattle.theory.proofs.Pigeonhole.{brief, walk-loss}
 use Rattle.theory.proofs.Reachability.{after-reaches-iff, forwards-mem, forwards-shape, joined-reaches, mem-forwards, reaches-joined}
 use Rattle.theory.proofs.Relaxation.{Covers, Grounded, Stable, Start, covers-up, fixpoint-stable, grounded, rounds-fixed, rounds-length, rounds-offset, rounds-rise, stable-walk}
 use Rattle.theory.proofs.Serialization.{schedule-nonpositive}
-use Rattle.theory.proofs.Walks.{after-bound, after-start-below, delay-counted, delay-uncounted, joined-mono, walk-from, walk-mono, walk-to}
+use Rattle.theory.proofs.SoleDelays.{sole-delay-own}
+use Rattle.theory.proofs.Walks.{after-bound, after-start-below, joined-mono, walk-from, walk-mono, walk-to}
 
 -- A stable row says of each edge what start times must keep; its cells less 1 are such times.
 pub stable-iff : (es : List Edge) (row : List ℕ) → (stable es row ≡ true) ↔ Stable es row
@@ -150,15 +151,6 @@ forward-acyclic-iff {n} {es} shape = (acyclic, test)
         let J = reaches-joined (forwards-shape shape) (forwards-shape shape .to-below e m) (e .from) t in
         once (e .to) (J .k) _ _ (walk-mono (mem-forwards es) (step (J .walk) e m refl refl refl refl refl))))
 
--- The delays of one step.
-pub lasting-at : (a x : ℕ) → lasting a x a ≡ x
-unfolding lasting
-lasting-at a x = delay-counted x (eq-eqb a a refl)
-
-pub lasting-other : (a x v : ℕ) → v ≢ a → lasting a x v ≡ 0
-unfolding lasting
-lasting-other a x v h = delay-uncounted x (ne-eqb v a h)
-
 -- Refusal 11. A closed walk that begins with a counted edge out of a is cut to at most n edges. It loses at most n times the largest loss, and so no start times let a last longer than that.
 pub closed-after-unschedulable : {n l a : ℕ} {E : Graph} {d t : ℕ → ℕ} → Shape n E → Losses E l → After E a a → n * l < d a → ¬ Schedule E d t
 closed-after-unschedulable {n} {l} {a} {E} shape losses w h s =
@@ -174,5 +166,5 @@ closed-after-unschedulable {n} {l} {a} {E} shape losses w h s =
       mul-le-mul-right l (b .few),
     )
 
-pub closed-after-64 : {n a : ℕ} {E : Graph} {t : ℕ → ℕ} → Shape n E → n ≤ 64 → Losses E 65535 → After E a a → ¬ Schedule E (lasting a 16777215) t
-closed-after-64 {n} {a} shape few losses w = closed-after-unschedulable shape losses w (omega (arith, lasting-at a 16777215, mul-le-mul-right 65535 few))
+pub closed-after-64 : {n a : ℕ} {E : Graph} {t : ℕ → ℕ} → Shape n E → n ≤ 64 → Losses E 65535 → After E a a → ¬ Schedule E (sole-delay 16777215 a) t
+closed-after-64 {n} {a} shape few losses w = closed-after-unschedulable shape losses w (omega (arith, sole-delay-own 16777215 a (w .walk .not-source), mul-le-mul-right 65535 few))

@@ -1,5 +1,6 @@
 pub mod Walks
 pub mod Pigeonhole
+pub mod SoleDelays
 pub mod RelativeSchedules
 pub mod AnchorOrder
 pub mod Serialization
@@ -14,3 +15,4 @@ pub mod StartTimes
 pub mod DecidingSets
 pub mod Plans
 pub mod WaitCounts
+pub mod RowLaws

@@ -36,7 +36,8 @@ module _ {n : ℕ} {E : Graph} {d S : ℕ → ℕ} {off : ℕ → ℕ → ℕ} (
         rel .offsets (e .from) (e .to) (shape .to-below e m) i .bound (e .gain) (e .loss) (after (after-edge e m c h)),
       )
 
-  -- T2.
+  -- By the kind of the edge. An edge that is not counted: the anchor that attains its start is a member at its end too, and its offset grows by at least the gain less the loss.
+  -- A counted edge: its start is itself an anchor of its end.
   pub relative-keeps : Schedule E d S
   relative-keeps = record { starts = rel .starts; keeps = λ e m. by-count e m (bool-cases (e .counted)) }
     where
@@ -69,3 +70,11 @@ module _ {n : ℕ} {E : Graph} {d S t : ℕ → ℕ} {off : ℕ → ℕ → ℕ}
   least-at v b ih =
       let A = rel .attained v b in
       least-from v b (A .anchor) (A .inside) (A .equals) ih
+
+-- A schedule depends on the delays of counted edges alone.
+pub schedule-same : {E : Graph} {d d′ t : ℕ → ℕ} → ((e : Edge) → E e → e .counted ≡ true → d (e .from) ≡ d′ (e .from)) → Schedule E d t → Schedule E d′ t
+schedule-same {E} {d} {d′} {t} h s = record { starts = s .starts; keeps = λ e m. go e m (bool-cases (e .counted)) }
+  where
+    go : (e : Edge) → E e → (e .counted ≡ true) ⊎ (e .counted ≡ false) → KeepsEdge d′ t e
+    go e m (inl c) = omega (arith, s .keeps e m, delay-counted (d (e .from)) c, delay-counted (d′ (e .from)) c, h e m c)
+    go e m (inr c) = omega (arith, s .keeps e m, delay-uncounted (d (e .from)) c, delay-uncounted (d′ (e .from)) c)
