@@ -26,12 +26,6 @@ module _ {n : ℕ} {es : List Edge} (shape : Shape n (members es)) where
   unfolding overrides
   overrides-iff a v b = (found, test)
     where
-      other : Bool
-      other = not (eqb b a)
-
-      reached : Bool
-      reached = leb (offset n es a v) (offset n es a b + offset n es b v)
-
       found : (not (eqb b a) && in-anchor-set n es b v && in-anchor-set n es a b && leb (offset n es a v) (offset n es a b + offset n es b v)) ≡ true → Overrides (members es) (offset n es) a v b
       found h =
           let r = and-split (not (eqb b a) && in-anchor-set n es b v && in-anchor-set n es a b) (leb (offset n es a v) (offset n es a b + offset n es b v)) h in

@@ -225,33 +225,12 @@ covers-offset : {E : Graph} {a v r o : ℕ} → r ≡ suc o → Reach E a v o �
 covers-offset h R C =
     record { p = R .p; q = R .q; span = R .span; attained = omega (arith, C (R .p) (R .q) (R .span) .enough, R .under); bound = λ p q s. omega (arith, C p q s .enough) }
 
-module _ {es : List Edge} {a : ℕ} {row : List ℕ} (S : Start es a row) (st : Stable es row) where
-  pub stable-span : {v p q : ℕ} → Span (members es) a v p q → Covers (cell row v) p q
-  stable-span {v} {p} {q} (source h w) = covers-eq {p′ = p} {q′ = q} (stable-walk row st 0 0 (S .covers-source h) w) refl (omega arith) (omega arith)
-  stable-span (after w) =
-      covers-eq
-      (stable-walk row st (w .edge .gain) (w .edge .loss) (S .covers-after (w .not-source) (w .edge) (w .mem) (w .leaves) (w .counts)) (w .rest))
-      refl
-      (w .gains)
-      (w .losses)
-
-  -- In a stable row each cell that is not 0 is the offset, and no walk comes to a cell that is 0.
-  pub stable-offset : (v o : ℕ) → cell row v ≡ suc o → Offset (members es) a v o
-  stable-offset v o h = covers-offset h (S .under v o h) (λ p q s. stable-span s)
-
-  pub stable-none : (v p q : ℕ) → cell row v ≡ 0 → ¬ Span (members es) a v p q
-  stable-none v p q h s = omega (arith, stable-span s .some)
-
--- What a start row has, every later row has: so code may stop at the first stable one.
+-- What a start row says from below, every later row says.
 module _ {n : ℕ} {es : List Edge} {a : ℕ} {row : List ℕ} (shape : Shape n (members es)) (grounded : Grounded n (members es) a) (S : Start es a row) where
   pub rounds-under : (k : ℕ) → Under (members es) a (rounds es k row)
   unfolding rounds
   rounds-under zero = S .under
   rounds-under (suc k) = round-under shape grounded es (rounds es k row) (fits-rounds k row (S .fits)) (λ e m. m) (rounds-under k)
-
-  pub rounds-start : (k : ℕ) → Start es a (rounds es k row)
-  rounds-start k =
-      record { fits = fits-rounds k row (S .fits); under = rounds-under k; covers-source = λ h. covers-up (S .covers-source h) (rounds-rise-start es k row (S .fits) a); covers-after = λ h e m f c. covers-up (S .covers-after h e m f c) (rounds-rise-start es k row (S .fits) (e .to)) }
 
 -- n rounds.
 module _ {n : ℕ} {es : List Edge} {a : ℕ} {row : List ℕ} (shape : Shape n (members es)) (inside : a < n) (grounded : Grounded n (members es) a) (never : NonPositive (members es)) (S : Start es a row) where
@@ -276,9 +255,6 @@ module _ {n : ℕ} {es : List Edge} {a : ℕ} {row : List ℕ} (shape : Shape n 
 
   pub rounds-offset : (v o : ℕ) → cell (rounds es n row) v ≡ suc o → Offset (members es) a v o
   rounds-offset v o h = covers-offset h (rounds-under shape grounded S n v o h) (λ p q s. rounds-span s)
-
-  pub rounds-none : (v p q : ℕ) → cell (rounds es n row) v ≡ 0 → ¬ Span (members es) a v p q
-  rounds-none v p q h s = omega (arith, rounds-span s .some)
 
   -- One round more changes nothing.
   no-more : (v r : ℕ) → cell (rounds es (suc n) row) v ≡ r → r ≤ cell (rounds es n row) v

@@ -6,10 +6,10 @@ use Prim.Native.Nat.{_+_, _<_, _≤_, ℕ}
 use native.Mathlib.Omega.{arith}
 use Rattle.definitions.specs.Anchors.{InAnchorSet, WellPosed, chain, is-source}
 use Rattle.definitions.specs.Links.{After, AfterWalk, Edge, Forward, Graph, Joined, Walk, _⊑_, step, stop}
-use Rattle.definitions.specs.Waits.{Wait, WaitPair, wait-edge}
-use Rattle.laws.proofs.Bools.{both-ways}
+use Rattle.definitions.specs.Waits.{Wait, wait-edge}
+use Rattle.laws.proofs.Bools.{both-ways, cond-true}
 use Rattle.theory.specs.Graphs.{Acyclic, ForwardAcyclic, Gains, KeepsEdge, NonPositive, Rooted, Schedule, Shape, WaitEdge, Waited, Well}
-use Rattle.theory.proofs.Walks.{after-bound, after-edge, after-from, after-join, after-joined, after-mono, after-start-below, after-to, delay-counted, forward-losses, join, joined-mono, member-after, member-mono, member-to, some-after, source-first, walk-bound, walk-edge, walk-from, walk-mono, walk-none, walk-to}
+use Rattle.theory.proofs.Walks.{after-bound, after-edge, after-from, after-join, after-joined, after-mono, after-start-below, after-to, forward-losses, join, joined-mono, member-after, member-mono, member-to, some-after, source-first, walk-bound, walk-edge, walk-from, walk-mono, walk-none, walk-to}
 
 pub wait-after : {E : Graph} {a i : ℕ} → Wait E a i → After E a i
 wait-after w = some-after (after-to (w .enters) (after-join (w .reaches .walk) (walk-edge (w .edge) (w .mem))))
@@ -137,7 +137,7 @@ module _ {n : ℕ} {E E′ F : Graph} {d t : ℕ → ℕ} (W : Waited E E′) (a
     where
       go : (e : Edge) → E e ⊎ WaitEdge E e → KeepsEdge d t e
       go e (inl h) = s .keeps e (above e h)
-      go e (inr h) = omega (arith, rival-waits (h .wait), h .gainless, h .lossless, delay-counted (d (e .from)) (h .counts))
+      go e (inr h) = omega (arith, rival-waits (h .wait), h .gainless, h .lossless, cond-true (d (e .from)) 0 (h .counts))
 
 -- What E′ takes over from E.
 module _ {n : ℕ} {E E′ : Graph} (W : Waited E E′) (shape : Shape n E) where

@@ -1,17 +1,14 @@
 -- Walks: joined, moved to equal ends, carried to a larger graph; what they say of start times; anchor sets are closed under the edges of a well-posed graph.
 use mathlib.Core.Path.{_∙_, _≡_, ap, refl, sym}
-use mathlib.Core.Bool.{Bool, cond, false, true}
+use mathlib.Core.Bool.{false, true}
 use mathlib.Core.Logic.{_≢_, _⊎_, inl, inr}
 use Prim.Native.Nat.{_+_, _<_, _≤_, suc, ℕ}
 use native.Mathlib.Omega.{arith}
 use Rattle.definitions.specs.Anchors.{InAnchorSet, WellPosedFor, chain, is-source}
 use Rattle.definitions.specs.Links.{After, AfterWalk, Edge, Forward, Graph, Joined, Walk, _⊑_, step, stop}
 use Rattle.definitions.specs.Plan.{Span, after, source}
-use Rattle.laws.proofs.Bools.{bool-cases, both-ways, same-or-not}
+use Rattle.laws.proofs.Bools.{bool-cases, both-ways, cond-true, same-or-not}
 use Rattle.theory.specs.Graphs.{Acyclic, Schedule, Shape}
-
-pub forward-⊑ : (E : Graph) → Forward E ⊑ E
-forward-⊑ E e m = m .0
 
 pub walk-to : {E : Graph} {x y k p q y′ k′ p′ q′ : ℕ} → Walk E x y k p q → y ≡ y′ → k′ ≡ k → p′ ≡ p → q′ ≡ q → Walk E x y′ k′ p′ q′
 walk-to (stop e hk hp hq) ey ek ep eq = stop (e ∙ ey) (ek ∙ hk) (ep ∙ hp) (eq ∙ hq)
@@ -154,19 +151,13 @@ pub source-first : {n : ℕ} {E : Graph} {a : ℕ} → ((v : ℕ) → v < n → 
 source-first {a = a} rooted acyclic b w = acyclic a (some-after (after-join (w .walk) (rooted a b .walk)))
 
 -- A walk bounds start times from below: add up what its edges ask. Where it begins with a counted edge out of a, the delay of a counts too.
-pub delay-counted : {b : Bool} (x : ℕ) → b ≡ true → cond b x 0 ≡ x
-delay-counted x h = ap (λ b. cond b x 0) h
-
-pub delay-uncounted : {b : Bool} (x : ℕ) → b ≡ false → cond b x 0 ≡ 0
-delay-uncounted x h = ap (λ b. cond b x 0) h
-
 pub walk-bound : {E : Graph} {d t : ℕ → ℕ} {x y k p q : ℕ} → Schedule E d t → Walk E x y k p q → t x + p ≤ t y + q
 walk-bound {t = t} s (stop e hk hp hq) = omega (arith, ap t e)
 walk-bound {t = t} s (step w e m f o hk hp hq) = omega (arith, walk-bound s w, s .keeps e m, ap t f, ap t o)
 
 pub after-bound : {E : Graph} {d t : ℕ → ℕ} {a y p q : ℕ} → Schedule E d t → AfterWalk E a y p q → t a + d a + p ≤ t y + q
 after-bound {d = d} {t = t} s w =
-    omega (arith, walk-bound s (w .rest), s .keeps (w .edge) (w .mem), delay-counted (d (w .edge .from)) (w .counts), ap t (w .leaves), ap d (w .leaves))
+    omega (arith, walk-bound s (w .rest), s .keeps (w .edge) (w .mem), cond-true (d (w .edge .from)) 0 (w .counts), ap t (w .leaves), ap d (w .leaves))
 
 pub span-bound : {E : Graph} {d t : ℕ → ℕ} {a v p q : ℕ} → d 0 ≡ 0 → Schedule E d t → Span E a v p q → t a + d a + p ≤ t v + q
 span-bound {d = d} d0 s (source h w) = omega (arith, walk-bound s w, ap d h, d0)
