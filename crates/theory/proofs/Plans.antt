@@ -1,4 +1,4 @@
--- The plan of a sheet with its waits: the theorems above, for the list of edges `serialized n es`.
+-- The plan of a sheet with its waits in: what is proved of well-posed lists of edges, for `serialized n es`.
 use mathlib.Core.Path.{_≡_, subst, sym}
 use mathlib.Core.Bool.{Bool, false, true}
 use mathlib.Core.Logic.{_≢_}

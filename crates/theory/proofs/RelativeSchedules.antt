@@ -11,7 +11,7 @@ use Rattle.laws.proofs.Bools.{bool-cases, cond-false, cond-true, same-or-not}
 use Rattle.theory.specs.Graphs.{KeepsEdge, Relative, Schedule, Shape}
 use Rattle.theory.proofs.Walks.{after-edge, member-counted, member-edge, span-bound, span-join, walk-edge}
 
--- A span from a to the end of an edge, for any span to its start.
+-- Along an edge an offset grows by at least the gain less the loss: the edge makes a walk longer.
 pub offset-edge : {E : Graph} {a o o′ : ℕ} (e : Edge) → E e → Offset E a (e .from) o → Offset E a (e .to) o′ → o + e .gain ≤ o′ + e .loss
 offset-edge e m O O′ = omega (arith, O′ .bound _ _ (span-join (O .span) (walk-edge e m)), O .attained)
 

@@ -8,8 +8,7 @@ use lib.ListN.{set}
 use lib.Seq.{set-getD}
 use Rattle.definitions.specs.Links.{Edge}
 use Rattle.definitions.specs.Rounds.{cell, extend, offer, raise, relax, round, rounds, seed, seeds, stable}
-use Rattle.theory.proofs.Feasibility.{stable-iff}
-use Rattle.theory.proofs.Relaxation.{Stable}
+use Rattle.theory.proofs.Relaxation.{Stable, stable-iff}
 
 pub raise-skip : (row : List ℕ) (v c : ℕ) → c ≤ cell row v → raise row v c ≡ row
 unfolding raise

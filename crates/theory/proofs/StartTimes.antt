@@ -24,6 +24,7 @@ use Rattle.theory.proofs.Reachability.{in-anchor-set-iff}
 use Rattle.theory.proofs.WaitLists.{usable-all}
 use Rattle.theory.proofs.Walks.{after-start-below, after-trans, chain-after, member-below, source-first}
 
+-- A start time for each step.
 pub start-turns-length : (n : ℕ) (es : List Edge) (d : ℕ → ℕ) (k : ℕ) → length (start-turns n es d k) ≡ n
 unfolding start-turns
 start-turns-length n es d zero = zeros-length n
@@ -96,11 +97,11 @@ module _ {n : ℕ} {es : List Edge} (shape : Shape n (members es)) (d : ℕ → 
     settled (suc k) (suc j) l (suc v) b hk hj h =
         turn-largest k v b
         ∙ largest-same
-            (λ a. in-anchor-set n es a (suc v))
-            (term k (suc v))
-            (term j (suc v))
-            n
-            (λ a c i. go a (in-anchor-set-iff shape a (suc v) .0 i) (λ w. settled k j (suc v ∷ l) a c (omega (arith, fewer)) (omega (arith, fewer)) (behind-more (After (Forward (members es))) (λ x y z. after-trans) l (suc v) a h w)))
+        (λ a. in-anchor-set n es a (suc v))
+        (term k (suc v))
+        (term j (suc v))
+        n
+        (λ a c i. go a (in-anchor-set-iff shape a (suc v) .0 i) (λ w. settled k j (suc v ∷ l) a c (omega (arith, fewer)) (omega (arith, fewer)) (behind-more (After (Forward (members es))) (λ x y z. after-trans) l (suc v) a h w)))
         ∙ sym (turn-largest j v b)
       where
         fewer : suc (free n (suc v ∷ l)) ≡ free n l
@@ -135,13 +136,13 @@ module _ {n : ℕ} {es : List Edge} (shape : Shape n (members es)) (d : ℕ → 
             ap (λ (k : ℕ). turn k (suc u)) e
             ∙ turn-largest m u b
             ∙ largest-same
-                (λ a. in-anchor-set n es a (suc u))
-                (term m (suc u))
-                (term n (suc u))
-                n
-                (λ a c i. omega (arith, before-same m (suc u) a e b c (in-anchor-set-iff shape a (suc u) .0 i)))
+            (λ a. in-anchor-set n es a (suc u))
+            (term m (suc u))
+            (term n (suc u))
+            n
+            (λ a c i. omega (arith, before-same m (suc u) a e b c (in-anchor-set-iff shape a (suc u) .0 i)))
 
--- The start times are the relative schedule.
+-- The start times are the relative schedule: the largest term bounds the terms and is one of them.
 module _ {n : ℕ} {es : List Edge} (well : Well n (members es)) (posed : WellPosed (members es)) (d : ℕ → ℕ) (no-wait : d 0 ≡ 0) where
   abbrev S : ℕ → ℕ
   S = cell (start-times n es d)

@@ -15,6 +15,7 @@ use Rattle.laws.proofs.Tests.{bits-below-at, tabulate-past}
 use Rattle.theory.specs.Counts.{count-below, standing-bits, sum-below}
 use Rattle.theory.proofs.WaitLists.{wait-map-bit, wait-maps-at}
 
+-- Laws of sums, each by induction on n.
 pub sum-below-same : (f g : ℕ → ℕ) (n : ℕ) → ((k : ℕ) → k < n → f k ≡ g k) → sum-below f n ≡ sum-below g n
 unfolding sum-below
 sum-below-same f g zero h = refl
@@ -67,6 +68,7 @@ unfolding tabulate sum-below
 flatMap-tabulate-length f zero = unfold flatMap in refl
 flatMap-tabulate-length f (suc n) = omega (arith, flatMap-length-last f (tabulate (λ k. k) n) n, flatMap-tabulate-length f n)
 
+-- The list is a sum over anchors and then over targets; the maps are one over targets and then over anchors; beyond n no bit stands.
 module _ (n : ℕ) (es : List Edge) where
   abbrev waiting : ℕ → ℕ → ℕ
   waiting i a = cond (waits-for n es a i) 1 0
@@ -76,10 +78,10 @@ module _ (n : ℕ) (es : List Edge) where
   listed =
       flatMap-tabulate-length (waits-of n es) n
       ∙ sum-below-same
-          (λ a. length (waits-of n es a))
-          (λ a. sum-below (λ i. waiting i a) n)
-          n
-          (λ a b. length-map (select-below (waits-for n es a) n) (λ i. record { anchor = a; target = i }) ∙ select-below-length (waits-for n es a) n)
+      (λ a. length (waits-of n es a))
+      (λ a. sum-below (λ i. waiting i a) n)
+      n
+      (λ a b. length-map (select-below (waits-for n es a) n) (λ i. record { anchor = a; target = i }) ∙ select-below-length (waits-for n es a) n)
 
   module _ (few : n ≤ 64) where
     abbrev bit : ℕ → ℕ → ℕ

@@ -10,6 +10,7 @@ use Rattle.definitions.specs.Plan.{Span, after, source}
 use Rattle.laws.proofs.Bools.{bool-cases, both-ways, cond-true, same-or-not}
 use Rattle.theory.specs.Graphs.{Acyclic, Schedule, Shape}
 
+-- The ends and the sums of a walk, replaced by equal ones.
 pub walk-to : {E : Graph} {x y k p q y′ k′ p′ q′ : ℕ} → Walk E x y k p q → y ≡ y′ → k′ ≡ k → p′ ≡ p → q′ ≡ q → Walk E x y′ k′ p′ q′
 walk-to (stop e hk hp hq) ey ek ep eq = stop (e ∙ ey) (ek ∙ hk) (ep ∙ hp) (eq ∙ hq)
 walk-to (step w e m f o hk hp hq) ey ek ep eq = step w e m f (o ∙ ey) (ek ∙ hk) (ep ∙ hp) (eq ∙ hq)
@@ -18,10 +19,12 @@ pub walk-from : {E : Graph} {x y k p q x′ : ℕ} → x′ ≡ x → Walk E x y
 walk-from ex (stop e hk hp hq) = stop (ex ∙ e) hk hp hq
 walk-from ex (step w e m f o hk hp hq) = step (walk-from ex w) e m f o hk hp hq
 
+-- A walk of a smaller graph is one of a larger.
 pub walk-mono : {E F : Graph} {x y k p q : ℕ} → E ⊑ F → Walk E x y k p q → Walk F x y k p q
 walk-mono i (stop e hk hp hq) = stop e hk hp hq
 walk-mono i (step w e m f o hk hp hq) = step (walk-mono i w) e (i e m) f o hk hp hq
 
+-- No edge, one edge, and one walk after another.
 pub walk-none : {E : Graph} (x : ℕ) → Walk E x x 0 0 0
 walk-none x = stop refl refl refl refl
 
@@ -32,6 +35,7 @@ pub join : {E : Graph} {x y z k p q k′ p′ q′ : ℕ} → Walk E x y k p q �
 join {k = k} {p = p} {q = q} {k′ = k′} {p′ = p′} {q′ = q′} w (stop e hk hp hq) = walk-to {k′ = k + k′} {p′ = p + p′} {q′ = q + q′} w e (omega arith) (omega arith) (omega arith)
 join {k = k} {p = p} {q = q} {k′ = k′} {p′ = p′} {q′ = q′} w (step v e m f o hk hp hq) = step {k′ = k + k′} {p′ = p + p′} {q′ = q + q′} (join w v) e m f o (omega arith) (omega arith) (omega arith)
 
+-- The same for walks that begin with a counted edge out of a.
 pub after-join : {E : Graph} {a y z p q k′ p′ q′ : ℕ} → AfterWalk E a y p q → Walk E y z k′ p′ q′ → AfterWalk E a z (p + p′) (q + q′)
 after-join {k′ = k′} {p′ = p′} {q′ = q′} w v =
     record { not-source = w .not-source; edge = w .edge; mem = w .mem; leaves = w .leaves; counts = w .counts; k = w .k + k′; g = w .g + p′; l = w .l + q′; rest = join (w .rest) v; gains = omega (arith, w .gains); losses = omega (arith, w .losses) }
@@ -68,7 +72,7 @@ pub after-by : {E : Graph} {a v : ℕ} (e : Edge) → a ≢ 0 → E e → e .fro
 after-by e z m f c J =
     record { p = e .gain + J .p; q = e .loss + J .q; walk = record { not-source = z; edge = e; mem = m; leaves = f; counts = c; k = J .k; g = J .p; l = J .q; rest = J .walk; gains = refl; losses = refl } }
 
--- The anchor set.
+-- Membership in anchor sets: at equal steps, along a forward edge, in a larger graph.
 pub member-to : {E : Graph} {a v w : ℕ} → v ≡ w → InAnchorSet E a v → InAnchorSet E a w
 member-to h (is-source e) = is-source e
 member-to h (chain c) = chain (some-after (after-to h (c .walk)))
@@ -85,6 +89,7 @@ pub member-mono : {E F : Graph} {a v : ℕ} → E ⊑ F → InAnchorSet E a v �
 member-mono i (is-source e) = is-source e
 member-mono i (chain c) = chain (some-after (after-mono (λ e m. (i e (m .0), m .1)) (c .walk)))
 
+-- In a well-posed graph every edge carries a member on: a forward edge by its chain, a return by the rule. So a walk does.
 module _ {E : Graph} {a : ℕ} (posed : WellPosedFor E a) where
   pub member-edge : (e : Edge) → E e → InAnchorSet E a (e .from) → InAnchorSet E a (e .to)
   member-edge e m h = go (bool-cases (e .back))
@@ -97,7 +102,7 @@ module _ {E : Graph} {a : ℕ} (posed : WellPosedFor E a) where
   member-walk h (stop e hk hp hq) = member-to e h
   member-walk h (step w e m f o hk hp hq) = member-to o (member-edge e m (member-to (sym f) (member-walk h w)))
 
--- What a counted edge starts, and what an AfterWalk of a sound graph says.
+-- A counted edge is a forward one, and so its start is a member at its end; from there a walk carries it on.
 module _ {n : ℕ} {E : Graph} (shape : Shape n E) where
   pub counted-forward : (e : Edge) → E e → e .counted ≡ true → e .back ≡ false
   counted-forward e m c = go (bool-cases (e .back))
