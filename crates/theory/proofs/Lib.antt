@@ -1,5 +1,6 @@
 pub mod Walks
 pub mod Pigeonhole
+pub mod SoleDelays
 pub mod RelativeSchedules
 pub mod AnchorOrder
 pub mod Serialization
@@ -8,3 +9,11 @@ pub mod FirstRows
 pub mod Reachability
 pub mod WaitLists
 pub mod Feasibility
+pub mod Offsets
+pub mod Irredundance
+pub mod StartTimes
+pub mod DecidingSets
+pub mod Plans
+pub mod WaitCounts
+pub mod RowLaws
+pub mod PlanTables
