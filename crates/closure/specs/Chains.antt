@@ -26,10 +26,3 @@ pub record Passed (k n : ℕ) (rows passed : List ℕ) : Type 0 where
   pub long : length passed ≡ 64
   pub within : (v : ℕ) → v < n → (u : ℕ) → test-bit (getD passed v 0) u ≡ (test-bit (getD rows v 0) u || test-bit (getD rows v 0) k && test-bit (getD rows k 0) u)
   pub beyond : (v : ℕ) → n ≤ v → getD passed v 0 ≡ getD rows v 0
-
--- After the passes for all numbers below k: the chains whose inner numbers are below k.
-pub record Chained (k n : ℕ) (rows now : List ℕ) : Type 0 where
-  pub long : length now ≡ 64
-  pub to-chain : (u v : ℕ) → v < n → Linked now u v → Chain (Linked rows) k u v
-  pub from-chain : (u v : ℕ) → v < n → Chain (Linked rows) k u v → Linked now u v
-  pub beyond : (v : ℕ) → n ≤ v → getD now v 0 ≡ getD rows v 0

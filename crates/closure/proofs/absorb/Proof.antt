@@ -5,10 +5,6 @@ use borrow.Author.Needs.{needs}
 use Rattle.definitions.specs.Basics.{test-bit}
 use Rattle.closure.proofs.absorb.Statement.{statement}
 use Rattle.closure.proofs.absorb.Tie as tie
-use Rattle.closure.proofs.absorb.Reads as reads
-use Rattle.closure.proofs.absorb.Lts as lts
-use Rattle.bitmaps.proofs.has.Reads as has-reads
-use Rattle.bitmaps.proofs.union.Reads as union-reads
 
 has-requires : tie.Need-has-requires
 has-requires c κs = search needs

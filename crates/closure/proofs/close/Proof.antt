@@ -2,13 +2,9 @@
 use Prim.Native.Nat.{_-_, _≤_}
 use native.Mathlib.Omega.{arith}
 use borrow.Author.Needs.{needs}
-use Rattle.closure.specs.Chains.{Chained}
-use Rattle.closure.proofs.Laws.{chained-start, chained-step, chained-end}
+use Rattle.closure.proofs.Laws.{Chained, chained-start, chained-step, chained-end}
 use Rattle.closure.proofs.close.Statement.{statement}
 use Rattle.closure.proofs.close.Tie as tie
-use Rattle.closure.proofs.close.Reads as reads
-use Rattle.closure.proofs.close.Lts as lts
-use Rattle.closure.proofs.pass.Reads as pass-reads
 
 abbrev Inv-loop : tie.InvT-loop
 Inv-loop n closed₀ k₀ closed k = (k ≤ n) × Chained k n closed₀ closed

@@ -1,16 +1,12 @@
 -- The invariant: the first v rows have had their pass. The measure is the number of rows that are left. Assumes nothing.
 use mathlib.Core.Path.{_≡_, subst}
-use Prim.Native.Nat.{ℕ, _+_, _-_, _<_, _≤_}
+use Prim.Native.Nat.{ℕ, _-_, _≤_}
 use native.Mathlib.Omega.{arith}
-use lib.ListN.{length, getD}
 use borrow.Author.Needs.{needs}
 use Rattle.closure.specs.Chains.{Passed}
 use Rattle.closure.proofs.Laws.{passed-start, passed-step}
 use Rattle.closure.proofs.pass.Statement.{statement}
 use Rattle.closure.proofs.pass.Tie as tie
-use Rattle.closure.proofs.pass.Reads as reads
-use Rattle.closure.proofs.pass.Lts as lts
-use Rattle.closure.proofs.absorb.Reads as absorb-reads
 
 abbrev Inv-loop : tie.InvT-loop
 Inv-loop rows₀ k n taken v₀ rows v = (v ≤ n) × Passed k v rows₀ rows
