@@ -45,11 +45,13 @@ chain-through {R} {k} {u} {v} (more {w = w} c b r) = at (eqb w k) refl (chain-th
     at false q (inl d) = let p : w ≡ k → ⊥ = eqb-false w k q in inl (more d (omega arith) r)
     at false q (inr d) = let p : w ≡ k → ⊥ = eqb-false w k q in inr (d .0, more (d .1) (omega arith) r)
 
+-- And back: the two halves join at k, once k may stand between.
 pub chain-over : {R : ℕ → ℕ → Type 0} {k u v : ℕ} → Chain R k u k → Chain R k k v → Chain R (suc k) u v
 chain-over {k = k} c d = chain-join (chain-map (λ x y r. r) (omega arith) c) (omega arith) (chain-map (λ x y r. r) (omega arith) d)
 
 -- ---- one pass
 
+-- Before the first row nothing is asked.
 pub passed-start : (k : ℕ) (rows : List ℕ) → length rows ≡ 64 → Passed k 0 rows rows
 passed-start k rows l = record { long = l; within = λ v h u. absurd (not-suc-le-zero h); beyond = λ v h. refl }
 
@@ -82,6 +84,7 @@ pub record Chained (k n : ℕ) (rows done : List ℕ) : Type 0 where
   pub from-chain : (u v : ℕ) → v < n → Chain (Linked rows) k u v → Linked done u v
   pub beyond : (v : ℕ) → n ≤ v → getD done v 0 ≡ getD rows v 0
 
+-- Before the first pass the rows hold the links, which are the chains with nothing between.
 pub chained-start : (n : ℕ) (rows : List ℕ) → length rows ≡ 64 → Chained 0 n rows rows
 chained-start n rows l = record { long = l; to-chain = λ u v h s. link s; from-chain = λ u v h c. chain-none c; beyond = λ v h. refl }
 
@@ -106,6 +109,7 @@ chained-step k n rows done next c h p =
     back u v b (inr d) =
         ap₂ (λ (s t : Bool). test-bit (getD done v 0) u || s && t) (c .from-chain k v b (d .1)) (c .from-chain u k h (d .0)) ∙ or-true (test-bit (getD done v 0) u)
 
+-- After n passes the inner numbers are those below n.
 pub chained-end : (k n : ℕ) (rows done : List ℕ) → Chained k n rows done → k ≡ n → Closure n rows done
 chained-end k n rows done c e =
     record {

@@ -84,6 +84,7 @@ test-and a b k =
 
 -- ---- no member, one member, members below a bound
 
+-- The empty map: every quotient of 0 is 0.
 pub test-zero : (k : ℕ) → test-bit 0 k ≡ false
 unfolding test-bit
 test-zero k = ap (λ (x : ℕ). eqb (x % 2) 1) (div-eq-of-lt (pow-pos k))
@@ -121,7 +122,7 @@ test-pow-by a k false e = ap (λ (x : ℕ). eqb x 1) (⊎-elim (pow-below a k) (
 pub test-pow : (a k : ℕ) → test-bit (2 ^ a) k ≡ eqb k a
 test-pow a k = test-pow-by a k (eqb k a) refl
 
--- One member more.
+-- One member more, by the union with its power of two.
 pub test-insert : (m a k : ℕ) → test-bit (bitOr m (2 ^ a)) k ≡ (test-bit m k || eqb k a)
 test-insert m a k = test-or m (2 ^ a) k ∙ ap (λ (t : Bool). test-bit m k || t) (test-pow a k)
 
@@ -151,7 +152,7 @@ test-rest (suc n) x y (suc k) e =
     let p : 2 ^ suc n ≡ 2 ^ n * 2 = pow-suc 2 n in
     half-test x k ∙ test-rest n (x / 2) (y / 2) k (omega arith) ∙ ap₂ (λ (s t : Bool). s && not t) (sym (ltb-suc k n)) (sym (half-test y k))
 
--- The members of a that are not in b, for an a of n digits.
+-- The members of a that are not in b: the intersection with the complement. From n on neither side has members, since a has n digits.
 pub test-minus : (n a b k : ℕ) → a < 2 ^ n → b < 2 ^ n → test-bit (bitAnd a (2 ^ n - 1 - b)) k ≡ (test-bit a k && not (test-bit b k))
 test-minus n a b k ha hb = test-and a (2 ^ n - 1 - b) k ∙ ap (λ (t : Bool). test-bit a k && t) (test-rest n (2 ^ n - 1 - b) b k (omega arith)) ∙ go (ltb k n) refl
   where
@@ -170,6 +171,7 @@ same-below (suc n) a b ha hb h =
     let low : a % 2 ≡ b % 2 = same-digit (a % 2) (b % 2) (omega arith) (omega arith) (sym (low-test a) ∙ h 0 (omega arith) ∙ low-test b) in
     omega arith
 
+-- Each power of two is at least twice the one before.
 pub below-pow : (n : ℕ) → n < 2 ^ n
 below-pow zero = omega arith
 below-pow (suc n) = let h : n < 2 ^ n = below-pow n in let p : 2 ^ suc n ≡ 2 ^ n * 2 = pow-suc 2 n in omega arith
@@ -188,6 +190,7 @@ add-is-union a b h =
     let z : bitAnd a b ≡ 0 = same-map (bitAnd a b) 0 (λ k. test-and a b k ∙ h k ∙ sym (test-zero k)) in
     omega arith
 
+-- So its members are those of either.
 pub test-add : (a b : ℕ) → ((k : ℕ) → (test-bit a k && test-bit b k) ≡ false) → (k : ℕ) → test-bit (a + b) k ≡ (test-bit a k || test-bit b k)
 test-add a b h k = ap (λ (x : ℕ). test-bit x k) (add-is-union a b h) ∙ test-or a b k
 
@@ -217,6 +220,7 @@ cond-lt : (t : Bool) (b p q : ℕ) → b < p → q ≡ p * 2 → b + cond t p 0 
 cond-lt true b p q h e = omega arith
 cond-lt false b p q h e = omega arith
 
+-- By induction: what is added at n at most doubles the bound.
 pub bits-below-lt : (f : ℕ → Bool) (n : ℕ) → bits-below f n < 2 ^ n
 unfolding bits-below
 bits-below-lt f zero = omega arith
@@ -257,6 +261,7 @@ test-bits-below f (suc n) k = more (f n) refl (test-bits-below f n k) ∙ ap (λ
         ∙ sym (ap (λ (t : Bool). ltb k n && f k || t) (and-false (eqb k n)) ∙ or-false (ltb k n && f k))
         ∙ at (ltb k n) (eqb k n) false refl q
 
+-- A number of n digits that has the members is the map: both are below 2 ^ n and agree there.
 pub bits-below-is : (f : ℕ → Bool) (n m : ℕ) → m < 2 ^ n → ((k : ℕ) → k < n → test-bit m k ≡ f k) → bits-below f n ≡ m
 bits-below-is f n m h e =
     same-below n (bits-below f n) m (bits-below-lt f n) h
@@ -270,10 +275,11 @@ bits-below-ext f g n e =
 
 -- ---- subset, and maps that share a member
 
--- Each member of a is one of b.
+-- Each member of a is one of b: it stands in the intersection.
 pub within-test : (a b : ℕ) → bitAnd a b ≡ a → (k : ℕ) → test-bit a k ≡ true → test-bit b k ≡ true
 within-test a b e k h = ap (λ (t : Bool). t && test-bit b k) (sym h) ∙ sym (test-and a b k) ∙ ap (λ (x : ℕ). test-bit x k) e ∙ h
 
+-- The other way: member by member the intersection is a.
 pub test-within : (a b : ℕ) → ((k : ℕ) → test-bit a k ≡ true → test-bit b k ≡ true) → bitAnd a b ≡ a
 test-within a b h = same-map (bitAnd a b) a (λ k. test-and a b k ∙ by k (test-bit a k) refl)
   where
@@ -281,7 +287,7 @@ test-within a b h = same-map (bitAnd a b) a (λ k. test-and a b k ∙ by k (test
     by k true e = h k e
     by k false e = refl
 
--- What `any-below` says: a number that passes, or that none does.
+-- What the answer of `any-below` says: true, a number that passes. By induction on the bound.
 pub found-below : (f : ℕ → Bool) (n : ℕ) → any-below f n ≡ true → (k : ℕ) × (k < n) × (f k ≡ true)
 unfolding any-below
 found-below f zero e = absurd (false≢true e)
@@ -291,6 +297,7 @@ found-below f (suc n) e = by (any-below f n) refl e (found-below f n)
     by true q h ih = let w = ih q in (w .0, (let l : w .0 < n = w .1 in omega arith), w .2)
     by false q h ih = (n, omega arith, h)
 
+-- The other answer, by induction on the bound.
 pub none-below : (f : ℕ → Bool) (n k : ℕ) → any-below f n ≡ false → k < n → f k ≡ false
 unfolding any-below
 none-below f zero k e l = absurd (not-suc-le-zero l)
@@ -304,7 +311,7 @@ none-below f (suc n) k e l = by (any-below f n) refl e (none-below f n k)
     by true q h ih = absurd (true≢false h)
     by false q h ih = last (eqb k n) refl h (ih q)
 
--- A map is empty exactly if no number is a member.
+-- Some number is a member exactly if the map is not 0: a member rules out 0, and a map with none is equal to 0.
 pub any-member : (n m : ℕ) → m < 2 ^ n → any-below (test-bit m) n ≡ not (eqb m 0)
 any-member n m h = by (any-below (test-bit m) n) refl
   where
@@ -338,10 +345,11 @@ count-below (suc n) m =
     one (suc zero) h = refl
     one (suc (suc x)) h = absurd (let f : ⊥ = omega arith in f)
 
+-- A number of n digits has no members from n on.
 pub count-members : (n m : ℕ) → m < 2 ^ n → length (select-below (test-bit m) n) ≡ ones m
 count-members n m h = count-below n m ∙ ap ones (mod-eq-of-lt h)
 
--- The least member of a map that is not empty: all below it is absent. By induction on the width: the lowest digit stands, or the half has the answer.
+-- The least member of a map that is not empty is below its width, stands, and all below it is absent. Each by induction on the width: the lowest digit stands, or the half has the answer.
 pub lowest-lt : (n m : ℕ) → m < 2 ^ n → 0 < m → trailingZeros n m < n
 unfolding trailingZeros
 lowest-lt zero m h l = omega arith
@@ -391,6 +399,6 @@ test-remove-shl m k j hm h =
     ∙ test-minus 64 m (2 ^ k) j hm (pow-lt h)
     ∙ ap (λ (t : Bool). test-bit m j && not t) (test-pow k j)
 
--- Two words that agree below 64 are equal.
+-- Two words that agree below 64 are equal: the law above, at 64.
 pub same-word : (a b : ℕ) → a < 2 ^ 64 → b < 2 ^ 64 → ((k : ℕ) → k < 64 → test-bit a k ≡ test-bit b k) → a ≡ b
 same-word = same-below 64
