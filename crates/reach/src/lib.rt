@@ -1,0 +1,1 @@
+// Which anchors reach which vertices: maps of anchors pushed along the edges.
