@@ -8,12 +8,12 @@ use native.Mathlib.Omega.{arith}
 use native.Mathlib.Decide.{decLe}
 use lib.Bits.{bitOr}
 use lib.Dec.{eqb}
-use lib.ListN.{getD, length, length-set, set}
+use lib.ListN.{length, length-set, set}
 use lib.Seq.{getD-set-other, getD-set-same, set-getD}
 use borrow.Author.Tests.{eq-eqb, eqb-false, eqb-true, ne-eqb, not-false, not-true}
 use Rattle.definitions.specs.Basics.{test-bit}
 use Rattle.definitions.specs.Links.{Edge}
-use Rattle.laws.proofs.Bools.{and-join, and-split, bool-cases, or-left, or-right, or-split, same-or-not}
+use Rattle.laws.proofs.Bools.{and-join, and-split, or-left, or-right, or-split, same-or-not}
 use Rattle.laws.proofs.Maps.{test-insert, test-or}
 use Rattle.theory.proofs.Relaxation.{Fits}
 use Rattle.reach.specs.Pushes.{changes, handed, push, push-round, push-rounds, pushed, round-changes, row}
@@ -147,7 +147,7 @@ rounds-length es (suc k) rows = round-length es (push-rounds es k rows) ∙ roun
 pub fits-rounds : {es : List Edge} (k : ℕ) (rows : List ℕ) → Fits es rows → Fits es (push-rounds es k rows)
 fits-rounds {es} k rows f e m = omega (arith, f e m, rounds-length es k rows)
 
--- j rounds, j at most k, hold no more than k rounds do.
+-- What stands after j rounds stands after k rounds, where j is at most k.
 pub rounds-grow : (es : List Edge) (j k : ℕ) (rows : List ℕ) → Fits es rows → j ≤ k → (a v : ℕ) → Holds (push-rounds es j rows) a v → Holds (push-rounds es k rows) a v
 unfolding push-rounds
 rounds-grow es j zero rows f b a v h = let z : j ≡ 0 = omega arith in rw z at h
@@ -157,7 +157,7 @@ rounds-grow es j (suc k) rows f b a v h = go (decLe j k) (λ c. rounds-grow es j
     go (yes c) below = round-grows es (push-rounds es k rows) (fits-rounds k rows f) a v (below c)
     go (no c) below = let z : j ≡ suc k = omega arith in rw z at h
 
--- A round that changes no row leaves the rows as they are, and so does every round after it.
+-- A round that changes no row leaves the rows as they are, edge by edge; and so does every round after it, by induction on their number.
 push-unchanged : (rows : List ℕ) (e : Edge) → changes rows e ≡ false → push rows e ≡ rows
 unfolding changes push
 push-unchanged rows e h = ap (λ (m : ℕ). set rows (e .to) m) (eqb-true (pushed rows e) (row rows (e .to)) (not-false (eqb (pushed rows e) (row rows (e .to))) h)) ∙ set-getD rows (e .to) 0

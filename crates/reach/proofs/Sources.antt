@@ -1,13 +1,13 @@
 -- What stands in the rows after n rounds: exactly the anchors from whose end a walk comes there.
 use mathlib.Core.Path.{_∙_, _≡_, ap, refl, subst, sym}
-use mathlib.Core.Bool.{Bool, false, true}
-use mathlib.Core.Logic.{_≢_, _⊎_, inl, inr}
-use mathlib.Core.List.{List, List·Memᴰ, List·Memᴰ·cases-cons, List·Memᴰ·head, List·Memᴰ·not-nil, List·Memᴰ·tail, [], _∷_, map}
-use Prim.Native.Nat.{_%_, _/_, _<_, _≤_, suc, zero, ℕ}
+use mathlib.Core.Bool.{true}
+use mathlib.Core.Logic.{_⊎_, inl, inr}
+use mathlib.Core.List.{List, List·Memᴰ, List·Memᴰ·cases-cons, List·Memᴰ·head, List·Memᴰ·not-nil, List·Memᴰ·tail, [], _∷_}
+use Prim.Native.Nat.{_<_, _≤_, suc, zero, ℕ}
 use native.Mathlib.Omega.{arith}
 use lib.ListN.{length, replicate}
 use Rattle.definitions.specs.Basics.{test-bit}
-use Rattle.definitions.specs.Links.{After, AfterWalk, Edge, Graph, Walk, _⊑_, members, step, stop}
+use Rattle.definitions.specs.Links.{After, Edge, Graph, Walk, _⊑_, members, step, stop}
 use Rattle.definitions.specs.Rounds.{after-reaches}
 use Rattle.edges.specs.Words.{graph, unpack}
 use Rattle.laws.proofs.Bools.{both-ways, not-passing, same-test}
@@ -17,7 +17,7 @@ use Rattle.theory.proofs.FirstRows.{zeros-at, zeros-length}
 use Rattle.theory.proofs.Pigeonhole.{brief}
 use Rattle.theory.proofs.Reachability.{after-reaches-iff}
 use Rattle.theory.proofs.Relaxation.{Fits}
-use Rattle.theory.proofs.Walks.{after-edge, after-from, after-join, after-to, some-after, walk-edge}
+use Rattle.theory.proofs.Walks.{after-edge, after-from, after-join, some-after, walk-edge}
 use Rattle.reach.specs.Pushes.{Reached, handed, push, push-round, push-rounds, pushed-rows, row}
 use Rattle.reach.proofs.Rows.{Holds, Starts, fits-push, fits-rounds, handed-only, push-only, round-hands, rounds-grow, rounds-length}
 
@@ -53,14 +53,14 @@ unfolding push-rounds
 rounds-sound es zero rows f S = S
 rounds-sound es (suc k) rows f S = round-sound es (push-rounds es k rows) (fits-rounds k rows f) (λ e m. m) (rounds-sound es k rows f S)
 
--- Completeness: the round after j finds the first edge, and each further round one edge more. By induction on the walk that follows the first edge.
+-- Completeness: the first round puts the anchor into the row of the first edge's end, and each further round follows one edge more. By induction on the walk after the first edge.
 walk-found : {es : List Edge} {a y k p q : ℕ} (rows : List ℕ) → Fits es rows → (e : Edge) → List·Memᴰ e es → Starts e a → Walk (members es) (e .to) y k p q → Holds (push-rounds es (suc k) rows) a y
 unfolding push-rounds
 walk-found {es} {a} rows f e m s (stop h hk hp hq) = rw (sym h, hk) (round-hands es rows f e m a (inr s))
 walk-found {es} {a} rows f e m s (step {k = j} w g i b o hk hp hq) =
     rw (sym o, hk) (round-hands es (push-rounds es (suc j) rows) (fits-rounds (suc j) rows f) g i a (inl (rw b (walk-found rows f e m s w))))
 
--- The rows of n rounds.
+-- Rows without anchors, from which the rounds start.
 blank-fits : (es : List Edge) → ((e : Edge) → List·Memᴰ e es → e .to < 64) → Fits es (replicate 64 0)
 blank-fits es h e m = omega (arith, h e m, zeros-length 64)
 
@@ -75,6 +75,7 @@ after-end-below {n} {E} {a} {v} shape w = go (w .walk .rest)
     go (stop e hk hp hq) = rw e at (shape .to-below (w .walk .edge) (w .walk .mem))
     go (step u e m f o hk hp hq) = rw o at (shape .to-below e m)
 
+-- The rows of n rounds, over edges whose ends have a row.
 module _ {n : ℕ} {es : List Edge} (shape : Shape n (members es)) (fits : (e : Edge) → List·Memᴰ e es → e .to < 64) where
   pushed-after : (a v : ℕ) → Holds (pushed-rows n es) a v → After (members es) a v
   unfolding pushed-rows
@@ -89,6 +90,7 @@ module _ {n : ℕ} {es : List Edge} (shape : Shape n (members es)) (fits : (e : 
       rounds-grow es (suc (s .k)) n (replicate 64 0) (blank-fits es fits) (omega (arith, s .few)) a v
       (walk-found (replicate 64 0) (blank-fits es fits) (u .edge) (u .mem) (u .counts, λ z. u .not-source (sym (u .leaves) ∙ z), sym (u .leaves)) (s .walk))
 
+  -- Both say whether there is such a walk, so they are the same test.
   pub pushed-test : (a v : ℕ) → test-bit (row (pushed-rows n es) v) a ≡ after-reaches n es a v
   pushed-test a v =
       same-test

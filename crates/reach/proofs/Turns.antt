@@ -3,7 +3,7 @@ use mathlib.Core.Path.{_∙_, _≡_, ap, ap₂, refl, sym}
 use mathlib.Core.Bool.{Bool, _&&_, _||_, and-false, cond, false, not, or-assoc, or-false, true}
 use mathlib.Core.Logic.{_≢_}
 use mathlib.Core.List.{List, [], _∷_}
-use Prim.Native.Nat.{_+_, _<_, _^_, _≤_, suc, zero, ℕ}
+use Prim.Native.Nat.{_+_, _<_, _^_, _≤_, ℕ}
 use native.Mathlib.Numerals.{add-one}
 use native.Mathlib.Omega.{arith}
 use lib.Bits.{bitOr}
@@ -18,7 +18,7 @@ use Rattle.laws.proofs.Bools.{and-join}
 use Rattle.laws.proofs.Maps.{same-map, test-insert, test-or}
 use Rattle.theory.proofs.FirstRows.{zeros-length}
 use Rattle.reach.specs.Pushes.{Reached, changes, handed, push, push-round, push-rounds, pushed, pushed-rows, round-changes, row}
-use Rattle.reach.proofs.Rows.{push-length, round-length, round-unchanged, rounds-length, rounds-settled}
+use Rattle.reach.proofs.Rows.{push-length, round-length, round-unchanged, rounds-settled}
 use Rattle.reach.proofs.Sources.{reached}
 
 -- What an edge hands on, branch by branch.
