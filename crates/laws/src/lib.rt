@@ -1,0 +1,1 @@
+// Laws about lists, parsers and tests that are not about the planner: see proofs/. No code stands here.
