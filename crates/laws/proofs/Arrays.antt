@@ -16,16 +16,27 @@ module _ {A : Type 0} (size : ℕ) (blank : A) where
   pub none-filled : Filled size blank 0 (replicate size blank)
   none-filled = let e : size ≡ size - 0 = omega arith in record { long = length-replicate size blank; blanks = ap (λ (k : ℕ). replicate k blank) e }
 
-  drop-one : (k m : ℕ) → m ≡ k - 1 → drop 1 (replicate k blank) ≡ replicate m blank
-  drop-one zero m e = let z : m ≡ 0 = omega arith in rw z
-  drop-one (suc k) m e = let z : m ≡ k = omega arith in rw z
+  drop-blanks : (m k : ℕ) → drop m (replicate k blank) ≡ replicate (k - m) blank
+  drop-blanks zero k = let e : k - 0 ≡ k = omega arith in rw e
+  drop-blanks (suc m) zero = let e : 0 - suc m ≡ 0 = omega arith in rw e
+  drop-blanks (suc m) (suc k) = let e : suc k - suc m ≡ k - m = omega arith in rw e (drop-blanks m k)
+
+  -- What is blank from i on is blank from any later k on.
+  pub filled-later : (i k : ℕ) (array : List A) → i ≤ k → Filled size blank i array → Filled size blank k array
+  filled-later i k array h filled =
+      let e : k ≡ i + (k - i) = omega arith in
+      let f : size - i - (k - i) ≡ size - k = omega arith in
+      record {
+        long = filled .long;
+        blanks = ap (λ (m : ℕ). drop m array) e ∙ sym (drop-drop (k - i) i array) ∙ ap (drop (k - i)) (filled .blanks) ∙ drop-blanks (k - i) (size - i) ∙ ap (λ (m : ℕ). replicate m blank) f;
+      }
 
   module _ (i : ℕ) (array : List A) (h : i < size) (filled : Filled size blank i array) (x : A) where
     -- The store leaves the entries behind it, and one blank less is left.
     pub one-more-filled : Filled size blank (i + 1) (set array i x)
     one-more-filled = record {
       long = length-set array i x ∙ filled .long;
-      blanks = drop-set-lt (i + 1) array i x (omega arith) ∙ sym (drop-drop 1 i array) ∙ ap (drop 1) (filled .blanks) ∙ drop-one (size - i) (size - (i + 1)) (omega arith);
+      blanks = drop-set-lt (i + 1) array i x (omega arith) ∙ filled-later i (i + 1) array (omega arith) filled .blanks;
     }
 
     pub take-one-more : take (i + 1) (set array i x) ≡ take i array ++ (x ∷ [])

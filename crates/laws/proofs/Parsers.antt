@@ -9,7 +9,7 @@ use lib.Seq.{drop-cons, append-snoc}
 use native.Mathlib.Numerals.{add-one}
 use Rattle.definitions.specs.Basics.{Outcome, given, refused, when-given}
 use Rattle.definitions.specs.Bytes.{Taken, Parser, records, padded}
-use Rattle.laws.proofs.Arrays.{Filled, none-filled, one-more-filled, take-one-more, filled-padded, length-filled}
+use Rattle.laws.proofs.Arrays.{Filled, none-filled, one-more-filled, take-one-more, filled-later, filled-padded, length-filled}
 
 -- What comes after an outcome may be said in one go or in two.
 pub when-given-twice : {A B C : Type 0} (p : Outcome A) (f : A → Outcome B) (g : B → Outcome C) → when-given (when-given p f) g ≡ when-given p (λ a. when-given (f a) g)
@@ -100,5 +100,9 @@ module _ {A S : Type 0} (item : S → Parser A) (next : A → S) where
           let none : k - i ≡ 0 = omega arith in
           unread-none k first bytes (take i array) state rest (rw none at (so .unread)) ∙ ap (λ (m : ℕ). given (record { value = take m array; rest = rest })) (sym e)
 
-      pub read-padded : k ≤ i → array ≡ padded size blank (take k array)
-      read-padded h = let e : k ≡ i = omega arith in rw e (filled-padded size blank i array (omega arith) (so .filled))
+      -- The array's front has k entries, read or not, and blank ones stand behind them.
+      pub read-count : length (take k array) ≡ k
+      read-count = length-filled size blank k array fits (filled-later size blank i k array (so .within) (so .filled))
+
+      pub read-padded : array ≡ padded size blank (take k array)
+      read-padded = filled-padded size blank k array fits (filled-later size blank i k array (so .within) (so .filled))

@@ -170,3 +170,18 @@ fields-as-defined m i j s = simp when-given-twice
 pub link-there : (n : ℕ) (previous : Previous) (s : List ℕ) (at : ℕ) → at < length s → link-map (getD s at 0) ≡ true → link n previous (drop at s) ≡ link-pair n previous (getD s at 0) (drop (at + 1) s)
 unfolding link link-pair byte demand when-given
 link-there n previous s at h e = rw (drop-byte s at h, e) (simp fields-as-defined)
+
+-- The link records up to the end of the bytes.
+module _ (n r : ℕ) (s : List ℕ) where
+  pub links-refused : {k : ℕ} → links n r s ≡ refused k → outcome (last-links n r) s ≡ refused k
+  unfolding outcome last-links when-given
+  links-refused e = rw e
+
+  module _ {ls : List Link} (next : ℕ) (there : links n r s ≡ item-at s ls next) where
+    pub links-trailing : next < length s → outcome (last-links n r) s ≡ refused 7
+    unfolding outcome last-links when-given at-end
+    links-trailing h = rw (there, drop-byte s next h)
+
+    pub links-whole : length s ≤ next → outcome (last-links n r) s ≡ given ls
+    unfolding outcome last-links when-given at-end
+    links-whole h = rw (there, drop-end s next h)
