@@ -4,8 +4,8 @@ use mathlib.Core.Path.{_≡_, refl, sym, ap, _∙_}
 use mathlib.Core.List.{List, [], _∷_, _++_, append-assoc, append-nil}
 use Prim.Native.Nat.{ℕ, zero, suc, _+_, _-_, _≤_, _<_}
 use native.Mathlib.Omega.{arith}
-use lib.ListN.{length, take, drop, getD, set, replicate, drop-of-length-le}
-use lib.Seq.{drop-cons, append-snoc}
+use lib.ListN.{length, take, drop, getD, set, replicate, drop-of-length-le, length-drop}
+use lib.Seq.{drop-cons, take-all}
 use native.Mathlib.Numerals.{add-one}
 use Rattle.definitions.specs.Basics.{Outcome, given, refused, when-given}
 use Rattle.definitions.specs.Bytes.{Taken, Parser, records, padded}
@@ -23,6 +23,10 @@ drop-byte s at h = rw (add-one, drop-cons s at 0)
 
 pub drop-end : (s : List ℕ) (at : ℕ) → length s ≤ at → drop at s ≡ []
 drop-end s at h = drop-of-length-le s h
+
+-- The part of the bytes from a place on is all of them from there.
+pub part-rest : (s : List ℕ) (at : ℕ) → take (length s - at) (drop at s) ≡ drop at s
+part-rest s at = let e : length (drop at s) ≤ length s - at = simp length-drop (omega arith) in take-all (length s - at) (drop at s) e
 
 -- Records in front of those of an answer.
 unfoldable pub prepend : {A : Type 0} → List A → Outcome (Taken (List A)) → Outcome (Taken (List A))

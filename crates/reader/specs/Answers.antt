@@ -89,5 +89,5 @@ pub record LinksReads (s : List ℕ) (n k : ℕ) (r : LinksRead) : Type 0 where
 
 -- A report on what reading finds: the refusal or none, and the sheet as it is held.
 pub record Reports (p : Outcome Records) (r : Report) : Type 0 where
-  pub reading : reading-of (r .reading) tt ≡ when-given p (λ q. given tt)
+  pub reading : reading-of {A = Unit {0}} (r .reading) tt ≡ when-given p (λ q. given tt)
   pub sheet : r .sheet ≡ held p

@@ -8,7 +8,15 @@ ghost use Rattle.definitions.specs.Bytes.{blank-operation, blank-link, two-byte
 ghost use Rattle.definitions.specs.Bytes as Bytes;
 ghost use Rattle.reader.specs.Parts.{fixed, bound, link-fields, link-pair, sheet-records, sheet-counted, outcome};
 ghost use Rattle.reader.specs.Answers.{NumberReads, OperationReads, OperationsReads, LinksReads, Reports, bound-read, link-read};
-use definitions::{Bound, Delay, Link, Operation, Previous, Reading, Refusal, Report, Sheet};
+use definitions::Bound;
+use definitions::Delay;
+use definitions::Link;
+use definitions::Operation;
+use definitions::Previous;
+use definitions::Reading;
+use definitions::Refusal;
+use definitions::Report;
+use definitions::Sheet;
 
 // What is read at a place of the bytes, with the place after it; or the fault met there.
 pub enum NumberRead {
@@ -207,13 +215,7 @@ fn pair_rises(previous: Previous, i: u8, j: u8) -> bool
 {
     match previous {
         Previous::Nothing => true,
-        Previous::Pair(i0, j0) => {
-            if i0 == i {
-                j0 < j
-            } else {
-                i0 < i
-            }
-        }
+        Previous::Pair(i0, j0) => { if i0 == i { j0 < j } else { i0 < i } }
     }
 }
 
