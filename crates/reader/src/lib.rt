@@ -19,40 +19,40 @@ use definitions::Report;
 use definitions::Sheet;
 
 // What is read at a place of the bytes, with the place after it; or the fault met there.
-pub enum NumberRead {
+enum NumberRead {
     Item(u16, usize),
     Refused(Refusal),
 }
 
-pub enum OperationRead {
+enum OperationRead {
     Item(Operation, usize),
     Refused(Refusal),
 }
 
-pub enum BoundRead {
+enum BoundRead {
     Item(Bound, usize),
     Refused(Refusal),
 }
 
-pub enum LinkRead {
+enum LinkRead {
     Item(Link, usize),
     Refused(Refusal),
 }
 
 // Where a row of records ends; or the first fault in it. The records stand beside it, and blank ones behind them.
-pub enum Place {
+enum Place {
     At(usize),
     Refused(Refusal),
 }
 
-pub struct OperationsRead {
-    pub place: Place,
-    pub operations: [Operation; 64],
+struct OperationsRead {
+    place: Place,
+    operations: [Operation; 64],
 }
 
-pub struct LinksRead {
-    pub reading: Reading,
-    pub links: [Link; 512],
+struct LinksRead {
+    reading: Reading,
+    links: [Link; 512],
 }
 
 fn wide(x: u8) -> u16
