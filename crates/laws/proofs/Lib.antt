@@ -1,3 +1,5 @@
 pub mod Bools
 pub mod Tests
 pub mod Maps
+pub mod Arrays
+pub mod Parsers

@@ -1,0 +1,41 @@
+use mathlib.Core.Path.{_≡_, sym}
+use denote.Ref.{now}
+use Rattle.definitions.specs.Bytes.{two-bytes}
+use Rattle.reader.specs.Answers.{NumberReads}
+use Rattle.reader.proofs.Parts.{fixed-there, fixed-refused}
+use borrow.Author.Needs.{needs}
+use native.Mathlib.Omega.{arith}
+use Rattle.reader.proofs.fixed_operation.Statement.{statement}
+use Rattle.reader.proofs.fixed_operation.Tie as tie
+use Rattle.reader.proofs.fixed_operation.Reads as reads
+use Rattle.reader.proofs.fixed_operation.Lts as lts
+use Rattle.reader.proofs.read_number.Reads as read-number-reads
+
+read-number-requires : tie.Need-read-number-requires
+read-number-requires c κs = search needs
+
+enum-known-ticks : tie.Need-enum-known-ticks
+enum-known-ticks c = search needs
+
+enum-known-k : tie.Need-enum-known-k
+enum-known-k c = search needs
+
+returns : tie.Need-returns
+returns c =
+    let call = c .before .before .before .read-number in
+    let a = c .before .before .before .before .before .args in
+    let found : NumberReads (now (a .s)) (a .at) two-bytes (call .result) = call .ensures in
+    let item = rw (c .before .ticks .given .1) at found in
+    record { same = sym (fixed-there _ (sym (item .same))); inside = item .inside }
+
+returns-2 : tie.Need-returns-2
+returns-2 c =
+    let call = c .before .before .before .read-number in
+    let a = c .before .before .before .before .before .args in
+    let found : NumberReads (now (a .s)) (a .at) two-bytes (call .result) = call .ensures in
+    let item = rw (c .before .k .given .1) at found in
+    record { same = sym (fixed-refused _ (sym (item .same))); inside = item .inside }
+
+pub fixed-operation-spec : {M : Type 1} → statement M
+fixed-operation-spec =
+    tie.close (tie.spec read-number-requires enum-known-ticks enum-known-k returns returns-2)

@@ -1,0 +1,80 @@
+use mathlib.Core.Path.{_≡_, sym, _∙_}
+use Prim.Native.Nat.{ℕ, _≤_, _<_}
+use lib.ListN.{length, drop}
+use denote.Ref.{now}
+use Rattle.definitions.specs.Bytes.{two-bytes}
+use Rattle.reader.specs.Answers.{NumberReads, Reports}
+use Rattle.reader.proofs.Parts.{counted-refused, counted-above, counted-there}
+use borrow.Author.Needs.{needs}
+use native.Mathlib.Omega.{arith}
+use Rattle.reader.proofs.read_counted.Statement.{statement}
+use Rattle.reader.proofs.read_counted.Tie as tie
+use Rattle.reader.proofs.read_counted.Reads as reads
+use Rattle.reader.proofs.read_counted.Lts as lts
+use Rattle.reader.proofs.count_index.Reads as count-index-reads
+use Rattle.reader.proofs.read_number.Reads as read-number-reads
+use Rattle.reader.proofs.read_records.Reads as read-records-reads
+use Rattle.reader.proofs.refused_report.Reads as refused-report-reads
+
+read-number-requires : tie.Need-read-number-requires
+read-number-requires c κs = search needs
+
+enum-known-count : tie.Need-enum-known-count
+enum-known-count c = search needs
+
+count-index-requires : tie.Need-count-index-requires
+count-index-requires c κs = search needs
+
+refused-report-requires : tie.Need-refused-report-requires
+refused-report-requires c κs = search needs
+
+read-records-requires : tie.Need-read-records-requires
+read-records-requires c κs =
+    let a = c .before .before .before .before .before .before .before .args in
+    let found : NumberReads (now (a .s)) 1 two-bytes (c .before .before .before .before .before .read-number .result) = c .before .before .before .before .before .read-number .ensures in
+    let item = rw (c .before .before .before .count .given .1) at found in
+    (item .inside, omega arith, omega arith)
+
+enum-known-k : tie.Need-enum-known-k
+enum-known-k c = search needs
+
+refused-report-requires-2 : tie.Need-refused-report-requires-2
+refused-report-requires-2 c κs = search needs
+
+returns : tie.Need-returns
+returns c =
+    let a = c .before .before .before .before .before .before .before .before .args in
+    let found : NumberReads (now (a .s)) 1 two-bytes (c .before .before .before .before .before .before .read-number .result) = c .before .before .before .before .before .before .read-number .ensures in
+    let item = rw (c .before .before .before .before .count .given .1) at found in
+    let above : 512 < c .before .before .before .before .count .given .0 .0 = rw (c .before .before .count-index .ensures) at (c .before .if1 .taken) in
+    rw (counted-above (a .n) _ (sym (item .same)) above) (c .refused-report .ensures)
+
+returns-2 : tie.Need-returns-2
+returns-2 c =
+    let a = c .before .before .before .before .before .before .before .before .args in
+    let found : NumberReads (now (a .s)) 1 two-bytes (c .before .before .before .before .before .before .read-number .result) = c .before .before .before .before .before .before .read-number .ensures in
+    let item = rw (c .before .before .before .before .count .given .1) at found in
+    let below : c .before .before .before .before .count .given .0 .0 ≤ 512 = rw (c .before .before .count-index .ensures) at (c .before .if1 .left) in
+    rw (counted-there (a .n) _ (sym (item .same)) below) (rw (c .before .before .count-index .ensures) at (c .read-records .ensures))
+
+returns-3 : tie.Need-returns-3
+returns-3 c =
+    let a = c .before .before .before .before .before .before .args in
+    let found : NumberReads (now (a .s)) 1 two-bytes (c .before .before .before .before .read-number .result) = c .before .before .before .before .read-number .ensures in
+    let item = rw (c .before .before .k .given .1) at found in
+    rw (counted-refused (a .n) _ (sym (item .same))) (c .refused-report2 .ensures)
+
+pub read-counted-spec : {M : Type 1} → statement M
+read-counted-spec =
+    tie.close
+    (tie.spec
+    read-number-requires
+    enum-known-count
+    count-index-requires
+    refused-report-requires
+    read-records-requires
+    enum-known-k
+    refused-report-requires-2
+    returns
+    returns-2
+    returns-3)

@@ -1,0 +1,112 @@
+use Prim.Native.Nat.{_-_}
+use Rattle.laws.proofs.Parsers.{part-rest}
+use Rattle.reader.proofs.Rows.{report-whole}
+use mathlib.Core.Path.{_≡_, refl, sym, ap, _∙_}
+use mathlib.Core.List.{List}
+use Prim.Native.Nat.{ℕ, _≤_}
+use lib.ListN.{length, take, drop}
+use denote.Ref.{now}
+use Rattle.definitions.specs.Basics.{when-given}
+use Rattle.definitions.specs.Bytes.{held}
+use Rattle.reader.specs.Answers.{OperationsReads, LinksReads, Reports, place-end, row-read}
+use Rattle.reader.proofs.Parts.{steps-refused, pairs-refused, records-whole}
+use borrow.Author.Needs.{needs}
+use native.Mathlib.Omega.{arith}
+use Rattle.reader.proofs.read_records.Statement.{statement}
+use Rattle.reader.proofs.read_records.Tie as tie
+use Rattle.reader.proofs.read_records.Reads as reads
+use Rattle.reader.proofs.read_records.Lts as lts
+use Rattle.reader.proofs.read_links.Reads as read-links-reads
+use Rattle.reader.proofs.read_operations.Reads as read-operations-reads
+use Rattle.reader.proofs.refused_report.Reads as refused-report-reads
+
+read-operations-requires : tie.Need-read-operations-requires
+read-operations-requires c κs = search needs
+
+enum-known-place : tie.Need-enum-known-place
+enum-known-place c = search needs
+
+refused-report-requires : tie.Need-refused-report-requires
+refused-report-requires c κs = search needs
+
+enum-known-place-2 : tie.Need-enum-known-place-2
+enum-known-place-2 c = search needs
+
+sub-read-links : tie.Need-sub-read-links
+sub-read-links c =
+    let a = c .before .before .before .before .before .args in
+    let found : OperationsReads (now (a .s)) (a .at) (a .n) (c .before .before .before .read-operations .result) = c .before .before .before .read-operations .ensures in
+    rw (c .before .place2 .given .1) at (found .inside)
+
+part-read-links-start : tie.Need-part-read-links-start
+part-read-links-start c =
+    let a = c .before .before .before .before .before .args in
+    let found : OperationsReads (now (a .s)) (a .at) (a .n) (c .before .before .before .read-operations .result) = c .before .before .before .read-operations .ensures in
+    let inside = rw (c .before .place2 .given .1) at (found .inside) in
+    search needs
+
+part-read-links-end : tie.Need-part-read-links-end
+part-read-links-end c = search needs
+
+read-links-requires : tie.Need-read-links-requires
+read-links-requires c κs = search needs
+
+enum-known-reading : tie.Need-enum-known-reading
+enum-known-reading c = search needs
+
+refused-report-requires-2 : tie.Need-refused-report-requires-2
+refused-report-requires-2 c κs = search needs
+
+enum-told : tie.Need-enum-told
+enum-told c = search needs
+
+returns : tie.Need-returns
+returns c =
+    let a = c .before .before .before .before .before .before .args in
+    let s = now (a .s) in
+    let found : OperationsReads s (a .at) (a .n) (c .before .before .before .before .read-operations .result) = c .before .before .before .before .read-operations .ensures in
+    let steps = rw (c .before .before .place .given .1) at (found .same) in
+    rw (steps-refused (a .n) (a .r) (drop (a .at) s) (sym steps)) (c .refused-report .ensures)
+
+returns-2 : tie.Need-returns-2
+returns-2 c =
+    let a = c .before .before .before .before .before .before .before .before .before .before .before .args in
+    let s = now (a .s) in
+    let middle = c .before .before .before .before .before .before .before .place2 .given .0 .0 in
+    let found : OperationsReads s (a .at) (a .n) (c .before .before .before .before .before .before .before .before .before .read-operations .result) = c .before .before .before .before .before .before .before .before .before .read-operations .ensures in
+    let steps = rw (c .before .before .before .before .before .before .before .place2 .given .1) at (found .same) in
+    let in-part : LinksReads (take (length s - middle) (drop middle s)) (a .n) (a .r) (c .before .before .before .before .read-links .result) = c .before .before .before .before .read-links .ensures in
+    let found-2 = rw (part-rest s middle) at in-part in
+    let pairs = rw (c .before .before .reading .given .1) at (found-2 .same) in
+    rw (pairs-refused (a .n) (a .r) (drop (a .at) s) (sym steps) (sym pairs)) (c .refused-report2 .ensures)
+
+returns-3 : tie.Need-returns-3
+returns-3 c =
+    let a = c .before .before .before .before .before .before .before .before .before .before .before .args in
+    let s = now (a .s) in
+    let middle = c .before .before .before .before .before .before .before .place2 .given .0 .0 in
+    let found : OperationsReads s (a .at) (a .n) (c .before .before .before .before .before .before .before .before .before .read-operations .result) = c .before .before .before .before .before .before .before .before .before .read-operations .ensures in
+    let steps = rw (c .before .before .before .before .before .before .before .place2 .given .1) at (found .same) in
+    let in-part : LinksReads (take (length s - middle) (drop middle s)) (a .n) (a .r) (c .before .before .before .before .read-links .result) = c .before .before .before .before .read-links .ensures in
+    let found-2 = rw (part-rest s middle) at in-part in
+    let pairs = rw (c .before .before .enum-told .given .1) at (found-2 .same) in
+    rw (records-whole (a .n) (a .r) (drop (a .at) s) (sym steps) (sym pairs)) (report-whole (a .n) (a .r) _ _ (found .row) (found-2 .row))
+
+pub read-records-spec : {M : Type 1} → statement M
+read-records-spec =
+    tie.close
+    (tie.spec
+    read-operations-requires
+    enum-known-place
+    refused-report-requires
+    enum-known-place-2
+    sub-read-links
+    part-read-links-start
+    part-read-links-end
+    read-links-requires
+    enum-known-reading
+    refused-report-requires-2
+    enum-told
+    returns
+    returns-2
+    returns-3)

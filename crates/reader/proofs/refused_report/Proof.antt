@@ -1,0 +1,35 @@
+use mathlib.Core.Path.{_≡_, refl, ap₂}
+use lib.ListN.{replicate}
+use Rattle.definitions.specs.Basics.{when-given}
+use Rattle.definitions.specs.Bytes.{held, blank-operation, blank-link}
+use Rattle.definitions.specs.declared.Operation.{Operation}
+use Rattle.definitions.specs.declared.Link.{Link}
+use Rattle.definitions.specs.declared.Sheet.{Sheet}
+use borrow.Author.Needs.{needs}
+use native.Mathlib.Omega.{arith}
+use Rattle.reader.proofs.refused_report.Statement.{statement}
+use Rattle.reader.proofs.refused_report.Tie as tie
+use Rattle.reader.proofs.refused_report.Reads as reads
+use Rattle.reader.proofs.refused_report.Lts as lts
+use Rattle.reader.proofs.blank_link.Reads as blank-link-reads
+use Rattle.reader.proofs.blank_operation.Reads as blank-operation-reads
+
+blank-operation-requires : tie.Need-blank-operation-requires
+blank-operation-requires c κs = search needs
+
+blank-link-requires : tie.Need-blank-link-requires
+blank-link-requires c κs = search needs
+
+-- A sheet of no records, with these two for blanks.
+abbrev sheet-of : Operation → Link → Sheet
+sheet-of o l = record { n = 0; operations = replicate 64 o; r = 0; links = replicate 512 l }
+
+returns : tie.Need-returns
+unfolding when-given held
+returns c = record {
+  reading = refl;
+  sheet = ap₂ sheet-of (c .before .blank-operation .ensures) (c .blank-link .ensures);
+}
+
+pub refused-report-spec : {M : Type 1} → statement M
+refused-report-spec = tie.close (tie.spec blank-operation-requires blank-link-requires returns)
