@@ -1,0 +1,57 @@
+-- Truth values: their two cases, and what a conjunction, a disjunction and a negation say.
+use mathlib.Core.Path.{_≡_, refl, sym, _∙_}
+use mathlib.Core.Bool.{Bool, true, false, not, _&&_, _||_, true≢false, false≢true}
+use mathlib.Core.Logic.{_⊎_, inl, inr, _≢_}
+use Prim.Native.Nat.{ℕ}
+use native.Mathlib.Decide.{ℕ-discrete}
+
+unfoldable pub bool-cases : (b : Bool) → (b ≡ true) ⊎ (b ≡ false)
+bool-cases true = inl refl
+bool-cases false = inr refl
+
+-- Two numbers are the same or differ.
+pub same-or-not : (m n : ℕ) → (m ≡ n) ⊎ (m ≢ n)
+same-or-not m n = go (ℕ-discrete m n)
+  where
+    go : Dec (m ≡ n) → (m ≡ n) ⊎ (m ≢ n)
+    go (yes e) = inl e
+    go (no e) = inr e
+
+-- A test cannot pass and fail.
+pub both-ways : {b : Bool} → b ≡ true → b ≡ false → ⊥
+both-ways t f = true≢false (sym t ∙ f)
+
+pub and-split : (a b : Bool) → (a && b) ≡ true → (a ≡ true) × (b ≡ true)
+and-split true b h = (refl, h)
+and-split false b h = absurd (false≢true h)
+
+pub and-join : {a b : Bool} → a ≡ true → b ≡ true → (a && b) ≡ true
+and-join {a = true} ha hb = hb
+and-join {a = false} ha hb = ha
+
+pub or-split : (a b : Bool) → (a || b) ≡ true → (a ≡ true) ⊎ (b ≡ true)
+or-split true b h = inl refl
+or-split false b h = inr h
+
+pub or-left : {a : Bool} (b : Bool) → a ≡ true → (a || b) ≡ true
+or-left {a = true} b h = refl
+or-left {a = false} b h = absurd (false≢true h)
+
+pub or-right : (a : Bool) {b : Bool} → b ≡ true → (a || b) ≡ true
+or-right true h = refl
+or-right false h = h
+
+-- A test that cannot pass fails, and one that cannot fail passes.
+pub not-passing : (b : Bool) → b ≢ true → b ≡ false
+not-passing true h = absurd (h refl)
+not-passing false h = refl
+
+pub not-failing : (b : Bool) → b ≢ false → b ≡ true
+not-failing true h = refl
+not-failing false h = absurd (h refl)
+
+-- Two tests that pass for the same reasons are equal.
+pub same-test : (a b : Bool) → (a ≡ true → b ≡ true) → (b ≡ true → a ≡ true) → a ≡ b
+same-test true b f g = sym (f refl)
+same-test false true f g = g refl
+same-test false false f g = refl

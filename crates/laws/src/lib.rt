@@ -1,0 +1,1 @@
+// Laws about the general definitions: tests, lists, numbers. No code.
