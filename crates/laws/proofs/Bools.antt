@@ -1,7 +1,7 @@
 -- Truth values: their two cases, and what a conjunction, a disjunction and a negation say.
 use mathlib.Core.Path.{_≡_, refl, sym, _∙_}
 use mathlib.Core.Bool.{Bool, true, false, not, _&&_, _||_, true≢false, false≢true}
-use mathlib.Core.Logic.{_⊎_, inl, inr, _≢_}
+use mathlib.Core.Logic.{_⊎_, inl, inr, _≢_, _↔_}
 use Prim.Native.Nat.{ℕ}
 use native.Mathlib.Decide.{ℕ-discrete}
 
@@ -55,3 +55,11 @@ pub same-test : (a b : Bool) → (a ≡ true → b ≡ true) → (b ≡ true →
 same-test true b f g = sym (f refl)
 same-test false true f g = g refl
 same-test false false f g = refl
+
+-- A test that says whether P holds decides P.
+pub test-decides : {P : Type 0} {b : Bool} → ((b ≡ true) ↔ P) → Dec P
+test-decides {P} {b} h = go (bool-cases b)
+  where
+    go : (b ≡ true) ⊎ (b ≡ false) → Dec P
+    go (inl t) = yes (h .0 t)
+    go (inr f) = no (λ x. both-ways (h .1 x) f)

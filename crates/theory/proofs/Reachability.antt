@@ -1,0 +1,266 @@
+-- The executable tests of walks, anchor sets and well-posedness say what the relations say. Rounds on the edges with their weights taken away mark what a walk reaches.
+use mathlib.Core.Path.{_∙_, _≡_, ap, refl, subst, sym}
+use mathlib.Core.Bool.{Bool, _&&_, _||_, cond, false, not, true, true≢false}
+use mathlib.Core.Logic.{_↔_, _≢_, _⊎_, inl, inr}
+use mathlib.Core.List.{List, List·Memᴰ, List·Memᴰ·append-cases, List·Memᴰ·cases-cons, List·Memᴰ·eq-of-singleton, List·Memᴰ·head, List·Memᴰ·not-nil, List·Memᴰ·tail, Memᴰ·append-left, Memᴰ·append-right, [], _++_, _∷_}
+use Prim.Native.Nat.{_<_, _≤_, suc, zero, ℕ}
+use native.Mathlib.Omega.{arith}
+use native.Mathlib.Decide.{decLe}
+use lib.Dec.{eqb}
+use lib.ListN.{length, replicate}
+use borrow.Author.Tests.{eq-eqb, eqb-false, eqb-true, lt-ltb, ltb-true, ne-eqb, not-true}
+use Rattle.definitions.specs.Anchors.{InAnchorSet, WellPosed, chain, in-anchor-set, is-source, well-posed}
+use Rattle.definitions.specs.Basics.{all-below, any}
+use Rattle.definitions.specs.Links.{After, Edge, Forward, Graph, Joined, Walk, _⊑_, forwards, members, step, stop}
+use Rattle.definitions.specs.Rounds.{after-reaches, bare, bares, cell, extend, offer, raise, reaches, relax, round, rounds, source-row}
+use Rattle.laws.proofs.Bools.{and-join, and-split, bool-cases, both-ways, or-left, or-right, or-split, same-or-not, test-decides}
+use Rattle.laws.proofs.Tests.{all-below-by, all-below-each, all-by, all-each, any-by, any-has}
+use Rattle.theory.specs.Graphs.{NonPositive, Shape}
+use Rattle.theory.proofs.FirstRows.{zeros-at, zeros-length}
+use Rattle.theory.proofs.Pigeonhole.{shorten}
+use Rattle.theory.proofs.Relaxation.{Covers, Fits, fits-head, fits-relax, fits-rounds, raise-length, raise-other, raise-same, rounds-rise, walk-covered}
+use Rattle.theory.proofs.Walks.{after-mono, member-below, some-after, walk-none}
+
+-- The forward edges of a list are those of its graph.
+pub forwards-mem : (es : List Edge) → Forward (members es) ⊑ members (forwards es)
+unfolding forwards
+forwards-mem [] e m = absurd (List·Memᴰ·not-nil (m .0))
+forwards-mem (x ∷ es) e m = go (List·Memᴰ·cases-cons (m .0)) (λ i. forwards-mem es e (i, m .1))
+  where
+    kept : (b : Bool) → b ≡ false → e ≡ x → List·Memᴰ e (cond b [] (x ∷ []))
+    kept true h q = absurd (true≢false h)
+    kept false h q = List·Memᴰ·head q
+
+    go : (e ≡ x) ⊎ List·Memᴰ e es → (List·Memᴰ e es → List·Memᴰ e (forwards es)) → List·Memᴰ e (cond (x .back) [] (x ∷ []) ++ forwards es)
+    go (inl h) below = Memᴰ·append-left (forwards es) (kept (x .back) (sym (ap (λ (y : Edge). y .back) h) ∙ m .1) h)
+    go (inr i) below = Memᴰ·append-right (cond (x .back) [] (x ∷ [])) (below i)
+
+pub mem-forwards : (es : List Edge) → members (forwards es) ⊑ Forward (members es)
+unfolding forwards
+mem-forwards [] e m = absurd (List·Memᴰ·not-nil m)
+mem-forwards (x ∷ es) e m = go (List·Memᴰ·append-cases (cond (x .back) [] (x ∷ [])) m) (mem-forwards es e)
+  where
+    kept : (b : Bool) → List·Memᴰ e (cond b [] (x ∷ [])) → (b ≡ false) × (e ≡ x)
+    kept true i = absurd (List·Memᴰ·not-nil i)
+    kept false i = (refl, List·Memᴰ·eq-of-singleton i)
+
+    go : List·Memᴰ e (cond (x .back) [] (x ∷ [])) ⊎ List·Memᴰ e (forwards es) → (List·Memᴰ e (forwards es) → List·Memᴰ e es × (e .back ≡ false)) → List·Memᴰ e (x ∷ es) × (e .back ≡ false)
+    go (inl i) below = let r = kept (x .back) i in (List·Memᴰ·head (r .1), ap (λ (y : Edge). y .back) (r .1) ∙ r .0)
+    go (inr i) below = let r = below i in (List·Memᴰ·tail (r .0), r .1)
+
+pub forwards-shape : {n : ℕ} {es : List Edge} → Shape n (members es) → Shape n (members (forwards es))
+forwards-shape {n} {es} shape =
+    record { from-below = λ e m. shape .from-below e (mem-forwards es e m .0); to-below = λ e m. shape .to-below e (mem-forwards es e m .0); back-uncounted = λ e m. shape .back-uncounted e (mem-forwards es e m .0); forward-lossless = λ e m. shape .forward-lossless e (mem-forwards es e m .0) }
+
+-- Edges without their weights: the same walks, each of weight 0.
+mem-bare : {e : Edge} {es : List Edge} → List·Memᴰ e es → List·Memᴰ (bare e) (bares es)
+unfolding bares
+mem-bare (List·Memᴰ·head h) = List·Memᴰ·head (ap bare h)
+mem-bare (List·Memᴰ·tail m) = List·Memᴰ·tail (mem-bare m)
+
+record Bared (es : List Edge) (e : Edge) : Type 0 where
+  edge : Edge
+  mem : List·Memᴰ edge es
+  same : e ≡ bare edge
+
+bare-mem : {e : Edge} (es : List Edge) → List·Memᴰ e (bares es) → Bared es e
+unfolding bares
+bare-mem [] m = absurd (List·Memᴰ·not-nil m)
+bare-mem {e} (x ∷ es) m = go (List·Memᴰ·cases-cons m) (bare-mem es)
+  where
+    go : (e ≡ bare x) ⊎ List·Memᴰ e (bares es) → (List·Memᴰ e (bares es) → Bared es e) → Bared (x ∷ es) e
+    go (inl h) below = record { edge = x; mem = List·Memᴰ·head refl; same = h }
+    go (inr i) below = let r = below i in record { edge = r .edge; mem = List·Memᴰ·tail (r .mem); same = r .same }
+
+bare-walk : {es : List Edge} {x y k p q : ℕ} → Walk (members es) x y k p q → Walk (members (bares es)) x y k 0 0
+bare-walk (stop e hk hp hq) = stop e hk refl refl
+bare-walk (step w e m f o hk hp hq) = step {p′ = 0} {q′ = 0} (bare-walk w) (bare e) (mem-bare m) f o hk (omega arith) (omega arith)
+
+walk-bare : {es : List Edge} {x y k p q : ℕ} → Walk (members (bares es)) x y k p q → Joined (members es) x y × (p ≡ 0)
+walk-bare (stop e hk hp hq) = (record { k = 0; p = 0; q = 0; walk = stop e refl refl refl }, hp)
+walk-bare {es} (step w e m f o hk hp hq) =
+    let r = walk-bare w in
+    let b = bare-mem es m in
+    (record { k = _; p = _; q = _; walk = step (r .0 .walk) (b .edge) (b .mem) (sym (ap (λ (x : Edge). x .from) (b .same)) ∙ f) (sym (ap (λ (x : Edge). x .to) (b .same)) ∙ o) refl refl refl }, omega (arith, r .1, ap (λ (x : Edge). x .gain) (b .same)))
+
+bare-shape : {n : ℕ} {es : List Edge} → Shape n (members es) → Shape n (members (bares es))
+bare-shape {n} {es} shape = record { from-below = λ e m. from-at e (bare-mem es m); to-below = λ e m. to-at e (bare-mem es m); back-uncounted = λ e m b. count-at e (bare-mem es m) b; forward-lossless = λ e m b. ap (λ (x : Edge). x .loss) (bare-mem es m .same) }
+  where
+    from-at : (e : Edge) → Bared es e → e .from < n
+    from-at e r = omega (arith, shape .from-below (r .edge) (r .mem), ap (λ (x : Edge). x .from) (r .same))
+
+    to-at : (e : Edge) → Bared es e → e .to < n
+    to-at e r = omega (arith, shape .to-below (r .edge) (r .mem), ap (λ (x : Edge). x .to) (r .same))
+
+    count-at : (e : Edge) → Bared es e → e .back ≡ true → e .counted ≡ false
+    count-at e r b = ap (λ (x : Edge). x .counted) (r .same) ∙ shape .back-uncounted (r .edge) (r .mem) (sym (ap (λ (x : Edge). x .back) (r .same)) ∙ b)
+
+bare-nonpositive : (es : List Edge) → NonPositive (members (bares es))
+bare-nonpositive es = record { closed = λ w. let r = walk-bare w in omega (arith, r .1) }
+
+-- A row marks only what a walk from x reaches; a round keeps that.
+abbrev Marks : Graph → ℕ → List ℕ → Type 0
+Marks E x row = (v : ℕ) → 1 ≤ cell row v → Joined E x v
+
+extend-some : (r g l : ℕ) → 1 ≤ extend r g l → 1 ≤ r
+unfolding extend
+extend-some zero g l h = omega arith
+extend-some (suc r) g l h = omega arith
+
+joined-edge : {E : Graph} {x : ℕ} (e : Edge) → E e → Joined E x (e .from) → Joined E x (e .to)
+joined-edge e m J = record { k = _; p = _; q = _; walk = step (J .walk) e m refl refl refl refl refl }
+
+raise-marks : {E : Graph} {x : ℕ} (row : List ℕ) (v c : ℕ) → v < length row → (1 ≤ c → Joined E x v) → Marks E x row → Marks E x (raise row v c)
+raise-marks {E} {x} row v c b J M u h = go (same-or-not u v)
+  where
+    larger : u ≡ v → Dec (1 ≤ c) → Joined E x u
+    larger e (yes l) = subst (λ (w : ℕ). Joined E x w) (sym e) (J l)
+    larger e (no l) = M u (omega (arith, raise-same row v c b, ap (cell row) e, ap (cell (raise row v c)) e))
+
+    go : (u ≡ v) ⊎ (u ≢ v) → Joined E x u
+    go (inl e) = larger e (decLe 1 c)
+    go (inr e) = M u (omega (arith, raise-other row v c u e))
+
+round-marks : {E : Graph} {x : ℕ} (es : List Edge) (row : List ℕ) → Fits es row → members es ⊑ E → Marks E x row → Marks E x (round es row)
+unfolding round
+round-marks [] row h i M = M
+round-marks (y ∷ es) row h i M =
+    round-marks
+    es
+    (relax row y)
+    (fits-relax row h)
+    (λ e m. i e (List·Memᴰ·tail m))
+    (raise-marks row (y .to) (offer row y) (fits-head row h) (λ s. joined-edge y (i y (List·Memᴰ·head refl)) (M (y .from) (extend-some (cell row (y .from)) (y .gain) (y .loss) s))) M)
+
+rounds-marks : {x : ℕ} (es : List Edge) (k : ℕ) (row : List ℕ) → Fits es row → Marks (members es) x row → Marks (members es) x (rounds es k row)
+unfolding rounds
+rounds-marks es zero row h M = M
+rounds-marks es (suc k) row h M = round-marks es (rounds es k row) (fits-rounds k row h) (λ e m. m) (rounds-marks es k row h M)
+
+-- The row of the empty walk at x.
+module _ {n : ℕ} {x : ℕ} (inside : x < n) where
+  zeros-inside : x < length (replicate {A = ℕ} n 0)
+  zeros-inside = omega (arith, zeros-length n)
+
+  source-row-length : length (source-row n x) ≡ n
+  unfolding source-row
+  source-row-length = raise-length (replicate n 0) x 1 ∙ zeros-length n
+
+  source-row-covers : Covers (cell (source-row n x) x) 0 0
+  unfolding source-row
+  source-row-covers =
+      record { some = omega (arith, raise-same (replicate n 0) x 1 zeros-inside); enough = omega (arith, raise-same (replicate n 0) x 1 zeros-inside) }
+
+  source-row-marks : (E : Graph) → Marks E x (source-row n x)
+  unfolding source-row
+  source-row-marks E =
+      raise-marks
+      (replicate n 0)
+      x
+      1
+      zeros-inside
+      (λ h. record { k = 0; p = 0; q = 0; walk = walk-none x })
+      (λ v h. absurd (omega (arith, zeros-at n v)))
+
+module _ {n : ℕ} {es : List Edge} (shape : Shape n (members es)) where
+  -- A walk is cut to fewer than n edges, and so n rounds find it; and what a row marks is reached.
+  bare-fits : {x : ℕ} → x < n → Fits (bares es) (source-row n x)
+  bare-fits b e m = omega (arith, bare-shape shape .to-below e m, source-row-length b)
+
+  pub reaches-joined : {x : ℕ} → x < n → (v : ℕ) → reaches n es x v ≡ true → Joined (members es) x v
+  unfolding reaches
+  reaches-joined {x} b v h =
+      walk-bare
+      (rounds-marks (bares es) n (source-row n x) (bare-fits b) (source-row-marks b (members (bares es))) v (ltb-true 0 (cell (rounds (bares es) n (source-row n x)) v) h) .walk)
+      .0
+
+  pub joined-reaches : {x v : ℕ} → x < n → Joined (members es) x v → reaches n es x v ≡ true
+  unfolding reaches
+  joined-reaches {x} {v} b J =
+      let s = shorten (bare-shape shape) (bare-nonpositive es) b (bare-walk (J .walk)) in
+      let c = walk-covered (source-row n x) (bare-fits b) 0 0 (source-row-covers b) (s .walk) in
+      let u = rounds-rise (bares es) (s .k₂) n (source-row n x) (bare-fits b) (omega (arith, s .few)) v in
+      lt-ltb 0 (cell (rounds (bares es) n (source-row n x)) v) (omega (arith, c .some, u))
+
+  pub reaches-iff : {x : ℕ} → x < n → (v : ℕ) → (reaches n es x v ≡ true) ↔ Joined (members es) x v
+  reaches-iff b v = (reaches-joined b v, joined-reaches b)
+
+  -- A walk that begins with a counted edge out of a: its first edge, and a walk from that edge's end.
+  pub after-reaches-iff : (a v : ℕ) → (after-reaches n es a v ≡ true) ↔ After (members es) a v
+  unfolding after-reaches
+  after-reaches-iff a v = (found, test)
+    where
+      found : (not (eqb a 0) && any (λ e. e .counted && eqb (e .from) a && reaches n es (e .to) v) es) ≡ true → After (members es) a v
+      found h =
+          let r = and-split (not (eqb a 0)) (any (λ e. e .counted && eqb (e .from) a && reaches n es (e .to) v) es) h in
+          let s = any-has (λ e. e .counted && eqb (e .from) a && reaches n es (e .to) v) es (r .1) in
+          let t = and-split (s .0 .counted && eqb (s .0 .from) a) (reaches n es (s .0 .to) v) (s .2) in
+          let u = and-split (s .0 .counted) (eqb (s .0 .from) a) (t .0) in
+          let J = reaches-joined (shape .to-below (s .0) (s .1)) v (t .1) in
+          some-after (record { not-source = eqb-false a 0 (not-true (eqb a 0) (r .0)); edge = s .0; mem = s .1; leaves = eqb-true (s .0 .from) a (u .1); counts = u .0; k = J .k; g = J .p; l = J .q; rest = J .walk; gains = refl; losses = refl })
+
+      test : After (members es) a v → (not (eqb a 0) && any (λ e. e .counted && eqb (e .from) a && reaches n es (e .to) v) es) ≡ true
+      test w =
+          let u = w .walk in
+          and-join
+          (ap not (ne-eqb a 0 (u .not-source)))
+          (any-by
+          (λ e. e .counted && eqb (e .from) a && reaches n es (e .to) v)
+          es
+          (u .mem)
+          (and-join (and-join (u .counts) (eq-eqb (u .edge .from) a (u .leaves))) (joined-reaches (shape .to-below (u .edge) (u .mem)) (record { k = u .k; p = u .g; q = u .l; walk = u .rest }))))
+
+  pub dec-after : (a v : ℕ) → Dec (After (members es) a v)
+  dec-after a v = test-decides (after-reaches-iff a v)
+
+-- Anchor sets: the same on the forward edges.
+module _ {n : ℕ} {es : List Edge} (shape : Shape n (members es)) where
+  pub in-anchor-set-iff : (a v : ℕ) → (in-anchor-set n es a v ≡ true) ↔ InAnchorSet (members es) a v
+  unfolding in-anchor-set
+  in-anchor-set-iff a v = (λ h. found (or-split (eqb a 0) (after-reaches n (forwards es) a v) h), test)
+    where
+      found : (eqb a 0 ≡ true) ⊎ (after-reaches n (forwards es) a v ≡ true) → InAnchorSet (members es) a v
+      found (inl h) = is-source (eqb-true a 0 h)
+      found (inr h) = chain (some-after (after-mono (mem-forwards es) (after-reaches-iff (forwards-shape shape) a v .0 h .walk)))
+
+      test : InAnchorSet (members es) a v → (eqb a 0 || after-reaches n (forwards es) a v) ≡ true
+      test (is-source h) = or-left (after-reaches n (forwards es) a v) (eq-eqb a 0 h)
+      test (chain w) = or-right (eqb a 0) (after-reaches-iff (forwards-shape shape) a v .1 (some-after (after-mono (forwards-mem es) (w .walk))))
+
+  pub dec-member : (a v : ℕ) → Dec (InAnchorSet (members es) a v)
+  dec-member a v = test-decides (in-anchor-set-iff a v)
+
+  -- Well-posed: a member of a return's start is below n, so the test has tried it.
+  pub well-posed-iff : (well-posed n es ≡ true) ↔ WellPosed (members es)
+  unfolding well-posed
+  well-posed-iff = (λ h a e m b i. found e m b a i (all-each per-edge es h e m), λ posed. all-by per-edge es (λ e m. test posed e m (bool-cases (e .back))))
+    where
+      per-anchor : Edge → ℕ → Bool
+      per-anchor e a = not (in-anchor-set n es a (e .from)) || in-anchor-set n es a (e .to)
+
+      per-edge : Edge → Bool
+      per-edge e = not (e .back) || all-below (per-anchor e) n
+
+      found : (e : Edge) → List·Memᴰ e es → e .back ≡ true → (a : ℕ) → InAnchorSet (members es) a (e .from) → per-edge e ≡ true → InAnchorSet (members es) a (e .to)
+      found e m b a i h = on-edge (or-split (not (e .back)) (all-below (per-anchor e) n) h)
+        where
+          on-anchor : (not (in-anchor-set n es a (e .from)) ≡ true) ⊎ (in-anchor-set n es a (e .to) ≡ true) → InAnchorSet (members es) a (e .to)
+          on-anchor (inl z) = absurd (both-ways (in-anchor-set-iff a (e .from) .1 i) (not-true (in-anchor-set n es a (e .from)) z))
+          on-anchor (inr z) = in-anchor-set-iff a (e .to) .0 z
+
+          on-edge : (not (e .back) ≡ true) ⊎ (all-below (per-anchor e) n ≡ true) → InAnchorSet (members es) a (e .to)
+          on-edge (inl z) = absurd (both-ways b (not-true (e .back) z))
+          on-edge (inr z) =
+              on-anchor
+              (or-split
+              (not (in-anchor-set n es a (e .from)))
+              (in-anchor-set n es a (e .to))
+              (all-below-each (per-anchor e) n z a (member-below shape (shape .from-below e m) i)))
+
+      test : WellPosed (members es) → (e : Edge) → List·Memᴰ e es → (e .back ≡ true) ⊎ (e .back ≡ false) → per-edge e ≡ true
+      test posed e m (inr b) = or-left (all-below (per-anchor e) n) (ap not b)
+      test posed e m (inl b) = or-right (not (e .back)) (all-below-by (per-anchor e) n (λ a c. by a (bool-cases (in-anchor-set n es a (e .from)))))
+        where
+          by : (a : ℕ) → (in-anchor-set n es a (e .from) ≡ true) ⊎ (in-anchor-set n es a (e .from) ≡ false) → per-anchor e a ≡ true
+          by a (inl i) = or-right (not (in-anchor-set n es a (e .from))) (in-anchor-set-iff a (e .to) .1 (posed a e m b (in-anchor-set-iff a (e .from) .0 i)))
+          by a (inr i) = or-left (in-anchor-set n es a (e .to)) (ap not i)

@@ -1,0 +1,98 @@
+-- Relations on constraint graphs that the theorems speak of. A graph is a predicate on edges; a list of edges is one, and so is a rival's graph of any size.
+use mathlib.Core.Path.{_≡_}
+use mathlib.Core.Bool.{cond, false, true}
+use mathlib.Core.Logic.{_≢_, _⊎_}
+use Prim.Native.Nat.{_+_, _<_, _≤_, suc, ℕ}
+use Rattle.definitions.specs.Anchors.{InAnchorSet}
+use Rattle.definitions.specs.Links.{After, Edge, Forward, Graph, Joined, Walk, _⊑_}
+use Rattle.definitions.specs.Plan.{Offset}
+use Rattle.definitions.specs.Waits.{Wait}
+
+-- Start times t keep an edge under the delays d. This is `Keeps` of a link, read off its edge.
+abbrev pub KeepsEdge : (ℕ → ℕ) → (ℕ → ℕ) → Edge → Type 0
+KeepsEdge d t e = t (e .from) + e .gain + cond (e .counted) (d (e .from)) 0 ≤ t (e .to) + e .loss
+
+-- Start times that keep every edge.
+pub record Schedule (E : Graph) (d t : ℕ → ℕ) : Type 0 where
+  pub starts : t 0 ≡ 0
+  pub keeps : (e : Edge) → E e → KeepsEdge d t e
+
+-- What the graph of every sheet of n steps has.
+pub record Shape (n : ℕ) (E : Graph) : Type 0 where
+  pub from-below : (e : Edge) → E e → e .from < n
+  pub to-below : (e : Edge) → E e → e .to < n
+  pub back-uncounted : (e : Edge) → E e → e .back ≡ true → e .counted ≡ false
+  pub forward-lossless : (e : Edge) → E e → e .back ≡ false → e .loss ≡ 0
+
+-- Every step has a forward chain from step 0: not refusal 9.
+abbrev pub Rooted : ℕ → Graph → Type 0
+Rooted n E = (v : ℕ) → v < n → Joined (Forward E) 0 v
+
+-- Forward edges close no circle: not refusal 8.
+abbrev pub ForwardAcyclic : Graph → Type 0
+ForwardAcyclic E = (x k p q : ℕ) → ¬ Walk (Forward E) x x (suc k) p q
+
+-- No walk from the end of an open step comes back to that step: not refusal 11.
+abbrev pub Acyclic : Graph → Type 0
+Acyclic E = (a : ℕ) → ¬ After E a a
+
+-- No closed walk weighs more than 0: not refusal 10.
+pub record NonPositive (E : Graph) : Type 0 where
+  pub closed : {x k p q : ℕ} → Walk E x x k p q → p ≤ q
+
+-- No edge gains, or loses, more than g.
+abbrev pub Gains : Graph → ℕ → Type 0
+Gains E g = (e : Edge) → E e → e .gain ≤ g
+
+abbrev pub Losses : Graph → ℕ → Type 0
+Losses E l = (e : Edge) → E e → e .loss ≤ l
+
+-- A graph that can be scheduled for every list of delays.
+pub record Well (n : ℕ) (E : Graph) : Type 0 where
+  pub some : 0 < n
+  pub shape : Shape n E
+  pub rooted : Rooted n E
+  pub acyclic : Acyclic E
+  pub never : NonPositive E
+
+-- The serialization edge of a wait.
+pub record WaitEdge (E : Graph) (e : Edge) : Type 0 where
+  pub counts : e .counted ≡ true
+  pub forward : e .back ≡ false
+  pub gainless : e .gain ≡ 0
+  pub lossless : e .loss ≡ 0
+  pub wait : Wait E (e .from) (e .to)
+
+-- E′ has the edges of E and a serialization edge for each wait of E, and no others.
+pub record Waited (E E′ : Graph) : Type 0 where
+  pub keeps-all : E ⊑ E′
+  pub adds : (e : Edge) → WaitEdge E e → E′ e
+  pub only : (e : Edge) → E′ e → E e ⊎ WaitEdge E e
+
+-- S v is one of the terms of v's anchor set.
+pub record Attained (E : Graph) (d S : ℕ → ℕ) (off : ℕ → ℕ → ℕ) (v : ℕ) : Type 0 where
+  pub anchor : ℕ
+  pub inside : InAnchorSet E anchor v
+  pub equals : S v ≡ S anchor + d anchor + off anchor v
+
+-- S is the relative schedule of E under the delays d: S v is the largest of the terms of v's anchor set, an upper bound of them all and one of them. The offsets for a are taken in the graph G a.
+pub record RelativeOn (n : ℕ) (E : Graph) (G : ℕ → Graph) (d S : ℕ → ℕ) (off : ℕ → ℕ → ℕ) : Type 0 where
+  pub starts : S 0 ≡ 0
+  pub no-wait : d 0 ≡ 0
+  pub offsets : (a v : ℕ) → v < n → InAnchorSet E a v → Offset (G a) a v (off a v)
+  pub above : (a v : ℕ) → v < n → InAnchorSet E a v → S a + d a + off a v ≤ S v
+  pub attained : (v : ℕ) → v < n → Attained E d S off v
+
+abbrev pub Relative : ℕ → Graph → (ℕ → ℕ) → (ℕ → ℕ) → (ℕ → ℕ → ℕ) → Type 0
+Relative n E d S off = RelativeOn n E (λ a. E) d S off
+
+-- The member b makes the member a needless in the anchor set of v; and a decides v, where none does. Off stands for the offsets.
+pub record Overrides (E : Graph) (off : ℕ → ℕ → ℕ) (a v b : ℕ) : Type 0 where
+  pub other : b ≢ a
+  pub inside : InAnchorSet E b v
+  pub behind : InAnchorSet E a b
+  pub heavy : off a v ≤ off a b + off b v
+
+pub record Decides (E : Graph) (off : ℕ → ℕ → ℕ) (a v : ℕ) : Type 0 where
+  pub inside : InAnchorSet E a v
+  pub alone : (b : ℕ) → ¬ Overrides E off a v b
