@@ -2,13 +2,17 @@
 use mathlib.Core.Path.{_≡_, refl, sym, ap, subst, _∙_}
 use mathlib.Core.Bool.{Bool, true, false, cond, not, _&&_, _||_, true≢false, false≢true}
 use mathlib.Core.Logic.{_⊎_, inl, inr, _≢_}
-use mathlib.Core.List.{List, [], _∷_, _++_, List·Memᴰ, List·Memᴰ·head, List·Memᴰ·tail, List·Memᴰ·not-nil, List·Memᴰ·cases-cons, List·Memᴰ·append-cases, List·Memᴰ·eq-of-singleton, Memᴰ·append-left, Memᴰ·append-right}
-use Prim.Native.Nat.{ℕ, zero, suc, _+_, _≤_, _<_, max}
+use mathlib.Core.List.{List, [], _∷_, _++_, List·Memᴰ, List·Memᴰ·head, List·Memᴰ·tail, List·Memᴰ·not-nil, List·Memᴰ·cases-cons, List·Memᴰ·append-cases, List·Memᴰ·eq-of-singleton, Memᴰ·append-left, Memᴰ·append-right, flatMap}
+use Prim.Native.Nat.{ℕ, zero, suc, _+_, _-_, _*_, _/_, _%_, _^_, _≤_, _<_, max}
 use native.Mathlib.Omega.{arith}
 use native.Mathlib.Decide.{decLe, decLt}
+use native.Mathlib.Nat.{add-mul-div-right, add-mul-mod-self-right, div-eq-of-lt, mul-assoc, pow-suc}
+use lib.Dec.{eqb, ltb}
 use lib.ListN.{length, getD, length-append, List·getD-append, List·getD-eq-default}
+use lib.Pow.{pow-pos, pow-mono, pow-add, high}
 use lib.Seq.{getD-append-add}
-use Rattle.definitions.specs.Basics.{any, all, any-below, all-below, tabulate, select-below, largest}
+use borrow.Author.Tests.{lt-ltb, le-ltb}
+use Rattle.definitions.specs.Basics.{any, all, any-below, all-below, tabulate, select-below, largest, test-bit, bits-below}
 use Rattle.laws.proofs.Bools.{bool-cases, same-or-not, both-ways, and-split, and-join, or-split, or-left, or-right, not-passing}
 
 -- Some element passes. Induction on the list.
@@ -246,3 +250,82 @@ largest-same-test t u f zero h = refl
 largest-same-test t u f (suc n) h =
     let rest = largest-same-test t u f n (λ k b. h k (omega arith)) in
     omega (arith, ap (λ (b : Bool). cond b (f n) 0) (h n (omega arith)))
+
+-- What is in a list that is made of lists.
+module _ {A B : Type 0} (f : A → List B) where
+  pub flatMap-has : {x : A} {y : B} (xs : List A) → List·Memᴰ x xs → List·Memᴰ y (f x) → List·Memᴰ y (flatMap f xs)
+  unfolding flatMap
+  flatMap-has [] m h = absurd (List·Memᴰ·not-nil m)
+  flatMap-has {x} {y} (z ∷ xs) m h = go (List·Memᴰ·cases-cons m) (λ i. flatMap-has xs i h)
+    where
+      go : (x ≡ z) ⊎ List·Memᴰ x xs → (List·Memᴰ x xs → List·Memᴰ y (flatMap f xs)) → List·Memᴰ y (f z ++ flatMap f xs)
+      go (inl e) below = Memᴰ·append-left (flatMap f xs) (subst (λ (w : A). List·Memᴰ y (f w)) e h)
+      go (inr i) below = Memᴰ·append-right (f z) (below i)
+
+  pub flatMap-only : {y : B} (xs : List A) → List·Memᴰ y (flatMap f xs) → (x : A) × List·Memᴰ x xs × List·Memᴰ y (f x)
+  unfolding flatMap
+  flatMap-only [] m = absurd (List·Memᴰ·not-nil m)
+  flatMap-only {y} (z ∷ xs) m = go (List·Memᴰ·append-cases (f z) m) (flatMap-only xs)
+    where
+      go : List·Memᴰ y (f z) ⊎ List·Memᴰ y (flatMap f xs) → (List·Memᴰ y (flatMap f xs) → (x : A) × List·Memᴰ x xs × List·Memᴰ y (f x)) → (x : A) × List·Memᴰ x (z ∷ xs) × List·Memᴰ y (f x)
+      go (inl i) below = (z, List·Memᴰ·head refl, i)
+      go (inr i) below = let r = below i in (r .0, List·Memᴰ·tail (r .1), r .2)
+
+-- A map of bits has the bits that pass, and no others. The last bit stands above all others, so it changes none of them.
+pub bits-below-small : (test : ℕ → Bool) (n : ℕ) → bits-below test n < 2 ^ n
+unfolding bits-below
+bits-below-small test zero = omega arith
+bits-below-small test (suc n) = go (test n) (bits-below-small test n)
+  where
+    go : (t : Bool) → bits-below test n < 2 ^ n → bits-below test n + cond t (2 ^ n) 0 < 2 ^ suc n
+    go true h = omega (arith, pow-suc 2 n)
+    go false h = omega (arith, pow-suc 2 n)
+
+-- Bit k of a number whose bits stand from k + 1 on.
+bit-under : (r c k j : ℕ) → (r + c * 2 ^ (suc j + k)) / 2 ^ k % 2 ≡ r / 2 ^ k % 2
+bit-under r c k j =
+    let e : c * 2 ^ (suc j + k) ≡ c * 2 ^ j * 2 * 2 ^ k = ap (λ (x : ℕ). c * x) (pow-add 2 (suc j) k ∙ ap (λ (x : ℕ). x * 2 ^ k) (pow-suc 2 j)) ∙ sym (mul-assoc c (2 ^ j * 2) (2 ^ k)) ∙ ap (λ (x : ℕ). x * 2 ^ k) (sym (mul-assoc c (2 ^ j) 2)) in
+    ap (λ (x : ℕ). (r + x) / 2 ^ k % 2) e
+    ∙ ap (λ (x : ℕ). x % 2) (add-mul-div-right r (c * 2 ^ j * 2) (pow-pos k))
+    ∙ add-mul-mod-self-right (r / 2 ^ k) (c * 2 ^ j) 2
+
+pub bits-below-at : (test : ℕ → Bool) (n k : ℕ) → test-bit (bits-below test n) k ≡ (ltb k n && test k)
+unfolding test-bit bits-below
+bits-below-at test zero k =
+    ap (λ (x : ℕ). eqb (x % 2) 1) (div-eq-of-lt (pow-pos k)) ∙ sym (ap (λ (b : Bool). b && test k) (le-ltb k 0 (omega arith)))
+bits-below-at test (suc n) k = go (last-or-below′ (decLt k n) (decLt n k)) (bits-below-at test n k)
+  where
+    last-or-below′ : Dec (k < n) → Dec (n < k) → ((k ≡ n) ⊎ (k < n)) ⊎ (n < k)
+    last-or-below′ (yes c) d = inl (inr c)
+    last-or-below′ (no c) (yes d) = inr d
+    last-or-below′ (no c) (no d) = inl (inl (omega arith))
+
+    as-product : (t : Bool) → cond t (2 ^ n) 0 ≡ cond t 1 0 * 2 ^ n
+    as-product true = omega arith
+    as-product false = omega arith
+
+    one-bit : (t : Bool) → eqb (cond t 1 0 % 2) 1 ≡ t
+    one-bit true = refl
+    one-bit false = refl
+
+    go : ((k ≡ n) ⊎ (k < n)) ⊎ (n < k) → eqb (bits-below test n / 2 ^ k % 2) 1 ≡ (ltb k n && test k) → eqb ((bits-below test n + cond (test n) (2 ^ n) 0) / 2 ^ k % 2) 1 ≡ (ltb k (suc n) && test k)
+    go (inr d) rest =
+        ap (λ (x : ℕ). eqb (x % 2) 1) (div-eq-of-lt (bound d))
+        ∙ sym (ap (λ (b : Bool). b && test k) (le-ltb k (suc n) (omega arith)))
+      where
+        bound : n < k → bits-below test n + cond (test n) (2 ^ n) 0 < 2 ^ k
+        bound d = let small : bits-below test n + cond (test n) (2 ^ n) 0 < 2 ^ suc n = unfold bits-below in bits-below-small test (suc n) in omega (arith, pow-mono d)
+    go (inl (inr c)) rest =
+        let j : ℕ = n - k - 1 in
+        let e : n ≡ suc j + k = omega arith in
+        ap (λ (x : ℕ). eqb ((bits-below test n + x) / 2 ^ k % 2) 1) (as-product (test n) ∙ ap (λ (x : ℕ). cond (test n) 1 0 * 2 ^ x) e)
+        ∙ ap (λ (x : ℕ). eqb x 1) (bit-under (bits-below test n) (cond (test n) 1 0) k j)
+        ∙ rest
+        ∙ ap (λ (b : Bool). b && test k) (lt-ltb k n c ∙ sym (lt-ltb k (suc n) (omega arith)))
+    go (inl (inl e)) rest =
+        ap (λ (x : ℕ). eqb ((bits-below test n + cond (test n) (2 ^ n) 0) / 2 ^ x % 2) 1) e
+        ∙ ap (λ (x : ℕ). eqb (x / 2 ^ n % 2) 1) (ap (λ (x : ℕ). bits-below test n + x) (as-product (test n)) ∙ omega arith)
+        ∙ ap (λ (x : ℕ). eqb (x % 2) 1) (high (cond (test n) 1 0) n (bits-below-small test n))
+        ∙ one-bit (test n)
+        ∙ ap test (sym e)
+        ∙ sym (ap (λ (b : Bool). b && test k) (lt-ltb k (suc n) (omega arith)))
