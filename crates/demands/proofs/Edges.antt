@@ -18,7 +18,7 @@ use Rattle.definitions.specs.declared.Operation.{Operation}
 use Rattle.definitions.specs.declared.Bound.{Bound}
 use Rattle.definitions.specs.declared.Bound.the-variants.{Absent, Ticks}
 use Rattle.definitions.specs.declared.Link.{Link}
-use Rattle.laws.proofs.Lists.{mem-flat-map, of-flat-map}
+use Rattle.laws.proofs.Tests.{flatMap-has, flatMap-only}
 use Rattle.theory.specs.Graphs.{KeepsEdge, Schedule, Shape, Gains, Losses}
 use Rattle.demands.proofs.Reading.{Fits, LinkFits}
 
@@ -148,7 +148,7 @@ record-is n l c f m = go (List·Memᴰ·append-cases (sequencing-of (l .from) (l
 module _ {q : Records} (fits : Fits q) where
   sheet-link : (c : Constraint) → List·Memᴰ c (constraints (q .pairs)) → LinkIs (count-of q) 65535 c
   unfolding constraints
-  sheet-link c m = let r = of-flat-map link-constraints (q .pairs) m in record-is (count-of q) (r .0) c (fits .links (r .0) (r .1)) (r .2)
+  sheet-link c m = let r = flatMap-only link-constraints (q .pairs) m in record-is (count-of q) (r .0) c (fits .links (r .0) (r .1)) (r .2)
 
   pub sheet-ends : (c : Constraint) → List·Memᴰ c (constraints (q .pairs)) → Ends (count-of q) c
   sheet-ends c m = sheet-link c m .ends
