@@ -6,3 +6,5 @@ pub mod Serialization
 pub mod Relaxation
 pub mod FirstRows
 pub mod Reachability
+pub mod WaitLists
+pub mod Feasibility

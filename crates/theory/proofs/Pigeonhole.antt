@@ -1,13 +1,13 @@
 -- The pigeonhole principle: a walk of n edges or more through vertices below n goes round a closed walk. Where no closed walk weighs more than 0, walks of fewer than n edges are as heavy as any.
-use mathlib.Core.Path.{_∙_, _≡_, refl, sym}
+use mathlib.Core.Path.{_∙_, _≡_, ap, refl, sym}
 use mathlib.Core.Logic.{_≢_, _⊎_, inl, inr}
 use mathlib.Core.List.{List, List·Memᴰ, List·Memᴰ·cases-cons, List·Memᴰ·eq-of-singleton, List·Memᴰ·head, List·Memᴰ·not-nil, List·Memᴰ·tail, Memᴰ·cast, [], _∷_}
-use Prim.Native.Nat.{_+_, _<_, _≤_, suc, zero, ℕ}
+use Prim.Native.Nat.{_*_, _+_, _<_, _≤_, suc, zero, ℕ}
 use native.Mathlib.Omega.{arith}
 use native.Mathlib.Decide.{decLt, ℕ-discrete}
-use Rattle.definitions.specs.Links.{Edge, Graph, Walk, step, stop}
-use Rattle.definitions.specs.Rounds.{cell}
-use Rattle.theory.specs.Graphs.{NonPositive, Shape}
+use native.Mathlib.Nat.{suc-mul}
+use Rattle.definitions.specs.Links.{Edge, Graph, Joined, Walk, step, stop}
+use Rattle.theory.specs.Graphs.{Gains, Losses, NonPositive, Shape}
 use Rattle.theory.proofs.Walks.{join, walk-none, walk-to}
 
 pub dec-mem : (z : ℕ) (l : List ℕ) → Dec (List·Memᴰ z l)
@@ -177,3 +177,32 @@ module _ {n : ℕ} {E : Graph} (shape : Shape n E) (never : NonPositive E) where
 
   pub shorten : {x y k p q : ℕ} → x < n → Walk E x y k p q → Short n E x y p q
   shorten {k = k} b w = shorten-below (suc k) (omega arith) b w
+
+-- Without regard to weight: some walk between the same ends has fewer than n edges.
+pub record Brief (n : ℕ) (E : Graph) (x y : ℕ) : Type 0 where
+  pub k : ℕ
+  pub p : ℕ
+  pub q : ℕ
+  pub few : k < n
+  pub walk : Walk E x y k p q
+
+module _ {n : ℕ} {E : Graph} (shape : Shape n E) where
+  brief-below : (fuel : ℕ) {x y k p q : ℕ} → k < fuel → x < n → Walk E x y k p q → Brief n E x y
+  brief-below zero h b w = absurd (omega arith)
+  brief-below (suc fuel) {x} {y} {k} {p} {q} h b w = go (decLt k n) (λ s. brief-below fuel (omega (arith, s .ks)) b (join (s .before) (s .behind)))
+    where
+      go : Dec (k < n) → ((s : Loop E x y k p q) → Brief n E x y) → Brief n E x y
+      go (yes c) below = record { k = k; p = p; q = q; few = c; walk = w }
+      go (no c) below = below (walk-loop shape b (omega arith) w)
+
+  pub brief : {x y : ℕ} → x < n → Joined E x y → Brief n E x y
+  brief b J = brief-below (suc (J .k)) (omega arith) b (J .walk)
+
+-- A walk's sums are at most its edges' largest gain, or loss, for each edge.
+pub walk-gain : {E : Graph} {g x y k p q : ℕ} → Gains E g → Walk E x y k p q → p ≤ k * g
+walk-gain G (stop e hk hp hq) = omega arith
+walk-gain {g = g} G (step {k = k₀} w e m f o hk hp hq) = omega (arith, walk-gain G w, G e m, suc-mul k₀ g, ap (λ (i : ℕ). i * g) hk)
+
+pub walk-loss : {E : Graph} {l x y k p q : ℕ} → Losses E l → Walk E x y k p q → q ≤ k * l
+walk-loss L (stop e hk hp hq) = omega arith
+walk-loss {l = l} L (step {k = k₀} w e m f o hk hp hq) = omega (arith, walk-loss L w, L e m, suc-mul k₀ l, ap (λ (i : ℕ). i * l) hk)

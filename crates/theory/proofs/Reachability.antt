@@ -19,7 +19,7 @@ use Rattle.theory.specs.Graphs.{NonPositive, Shape}
 use Rattle.theory.proofs.FirstRows.{zeros-at, zeros-length}
 use Rattle.theory.proofs.Pigeonhole.{shorten}
 use Rattle.theory.proofs.Relaxation.{Covers, Fits, fits-head, fits-relax, fits-rounds, raise-length, raise-other, raise-same, rounds-rise, walk-covered}
-use Rattle.theory.proofs.Walks.{after-mono, member-below, some-after, walk-none}
+use Rattle.theory.proofs.Walks.{after-by, after-mono, member-below, some-after, walk-none}
 
 -- The forward edges of a list are those of its graph.
 pub forwards-mem : (es : List Edge) → Forward (members es) ⊑ members (forwards es)
@@ -196,8 +196,7 @@ module _ {n : ℕ} {es : List Edge} (shape : Shape n (members es)) where
           let s = any-has (λ e. e .counted && eqb (e .from) a && reaches n es (e .to) v) es (r .1) in
           let t = and-split (s .0 .counted && eqb (s .0 .from) a) (reaches n es (s .0 .to) v) (s .2) in
           let u = and-split (s .0 .counted) (eqb (s .0 .from) a) (t .0) in
-          let J = reaches-joined (shape .to-below (s .0) (s .1)) v (t .1) in
-          some-after (record { not-source = eqb-false a 0 (not-true (eqb a 0) (r .0)); edge = s .0; mem = s .1; leaves = eqb-true (s .0 .from) a (u .1); counts = u .0; k = J .k; g = J .p; l = J .q; rest = J .walk; gains = refl; losses = refl })
+          after-by (s .0) (eqb-false a 0 (not-true (eqb a 0) (r .0))) (s .1) (eqb-true (s .0 .from) a (u .1)) (u .0) (reaches-joined (shape .to-below (s .0) (s .1)) v (t .1))
 
       test : After (members es) a v → (not (eqb a 0) && any (λ e. e .counted && eqb (e .from) a && reaches n es (e .to) v) es) ≡ true
       test w =

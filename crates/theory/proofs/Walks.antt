@@ -66,6 +66,11 @@ span-join (after w) v = after (after-join w v)
 pub some-after : {E : Graph} {a y p q : ℕ} → AfterWalk E a y p q → After E a y
 some-after {p = p} {q = q} w = record { p = p; q = q; walk = w }
 
+-- A first counted edge out of a, and a walk from its end.
+pub after-by : {E : Graph} {a v : ℕ} (e : Edge) → a ≢ 0 → E e → e .from ≡ a → e .counted ≡ true → Joined E (e .to) v → After E a v
+after-by e z m f c J =
+    record { p = e .gain + J .p; q = e .loss + J .q; walk = record { not-source = z; edge = e; mem = m; leaves = f; counts = c; k = J .k; g = J .p; l = J .q; rest = J .walk; gains = refl; losses = refl } }
+
 -- The anchor set.
 pub member-to : {E : Graph} {a v w : ℕ} → v ≡ w → InAnchorSet E a v → InAnchorSet E a w
 member-to h (is-source e) = is-source e

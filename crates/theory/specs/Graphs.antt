@@ -2,7 +2,8 @@
 use mathlib.Core.Path.{_≡_}
 use mathlib.Core.Bool.{cond, false, true}
 use mathlib.Core.Logic.{_≢_, _⊎_}
-use Prim.Native.Nat.{_+_, _<_, _≤_, suc, ℕ}
+use Prim.Native.Nat.{_+_, _<_, _≤_, suc, zero, ℕ}
+use lib.Dec.{eqb}
 use Rattle.definitions.specs.Anchors.{InAnchorSet}
 use Rattle.definitions.specs.Links.{After, Edge, Forward, Graph, Joined, Walk, _⊑_}
 use Rattle.definitions.specs.Plan.{Offset}
@@ -96,3 +97,12 @@ pub record Overrides (E : Graph) (off : ℕ → ℕ → ℕ) (a v b : ℕ) : Typ
 pub record Decides (E : Graph) (off : ℕ → ℕ → ℕ) (a v : ℕ) : Type 0 where
   pub inside : InAnchorSet E a v
   pub alone : (b : ℕ) → ¬ Overrides E off a v b
+
+-- The delays in which a lasts x and every other step 0.
+unfoldable pub lasting : ℕ → ℕ → ℕ → ℕ
+lasting a x v = cond (eqb v a) x 0
+
+-- The delays that show a: it lasts x, and every other step 0. The source lasts 0.
+unfoldable pub pulse : ℕ → ℕ → ℕ → ℕ
+pulse x zero v = 0
+pulse x (suc a) v = lasting (suc a) x v

@@ -1,0 +1,178 @@
+-- When start times exist. With all delays 0: exactly if the row of the source is stable after n rounds. For every list of delays: exactly if, besides, no walk from the end of a step comes back to it.
+use mathlib.Core.Path.{_∙_, _≡_, ap, refl, sym}
+use mathlib.Core.Bool.{Bool, cond, false, true}
+use mathlib.Core.Logic.{_↔_, _≢_}
+use mathlib.Core.List.{List, List·Memᴰ}
+use Prim.Native.Nat.{_*_, _+_, _-_, _<_, _≤_, suc, zero, ℕ}
+use native.Mathlib.Omega.{arith}
+use native.Mathlib.Nat.{mul-le-mul-right, suc-mul}
+use lib.Dec.{leb}
+use borrow.Author.Tests.{eq-eqb, le-leb, leb-true, ne-eqb}
+use Rattle.definitions.specs.Anchors.{is-source}
+use Rattle.definitions.specs.Basics.{all-below, any}
+use Rattle.definitions.specs.Links.{After, AfterWalk, Edge, Graph, Walk, forwards, members, step, stop}
+use Rattle.definitions.specs.Plan.{Span, after, source}
+use Rattle.definitions.specs.Rounds.{after-reaches, cell, extend, offer, reaches, rounds, source-row, stable}
+use Rattle.laws.proofs.Bools.{both-ways, not-passing}
+use Rattle.laws.proofs.Tests.{all-below-by, all-below-each, all-by, all-each, any-none, none-any}
+use Rattle.theory.specs.Graphs.{ForwardAcyclic, KeepsEdge, Losses, NonPositive, Rooted, Schedule, Shape, Well, lasting}
+use Rattle.theory.proofs.FirstRows.{source-start}
+use Rattle.theory.proofs.Pigeonhole.{brief, walk-loss}
+use Rattle.theory.proofs.Reachability.{after-reaches-iff, forwards-mem, forwards-shape, joined-reaches, mem-forwards, reaches-joined}
+use Rattle.theory.proofs.Relaxation.{Covers, Grounded, Stable, Start, covers-up, fixpoint-stable, grounded, rounds-fixed, rounds-length, rounds-offset, rounds-rise, stable-walk}
+use Rattle.theory.proofs.Serialization.{schedule-nonpositive}
+use Rattle.theory.proofs.Walks.{after-bound, after-start-below, delay-counted, delay-uncounted, joined-mono, walk-from, walk-mono, walk-to}
+
+-- A stable row says of each edge what start times must keep; its cells less 1 are such times.
+pub stable-iff : (es : List Edge) (row : List ℕ) → (stable es row ≡ true) ↔ Stable es row
+unfolding stable
+stable-iff es row =
+    (
+      λ h e m. leb-true (offer row e) (cell row (e .to)) (all-each (λ x. leb (offer row x) (cell row (x .to))) es h e m),
+      λ st. all-by (λ x. leb (offer row x) (cell row (x .to))) es (λ e m. le-leb (offer row e) (cell row (e .to)) (st e m)),
+    )
+
+extend-keeps : (r s g l : ℕ) → 1 ≤ r → extend r g l ≤ s → r - 1 + g ≤ s - 1 + l
+unfolding extend
+extend-keeps zero s g l h k = omega arith
+extend-keeps (suc w) s g l h k = omega arith
+
+pub stable-schedule : {n : ℕ} {es : List Edge} → Shape n (members es) → (row : List ℕ) → Stable es row → ((v : ℕ) → v < n → 1 ≤ cell row v) → cell row 0 ≡ 1 → Schedule (members es) (λ v. 0) (λ v. cell row v - 1)
+stable-schedule {n} {es} shape row st full z = record { starts = omega arith; keeps = keeps-each }
+  where
+    none : (b : Bool) → cond {A = ℕ} b 0 0 ≡ 0
+    none true = refl
+    none false = refl
+
+    keeps-each : (e : Edge) → List·Memᴰ e es → KeepsEdge (λ v. 0) (λ v. cell row v - 1) e
+    keeps-each e m =
+        omega (arith, extend-keeps (cell row (e .from)) (cell row (e .to)) (e .gain) (e .loss) (full (e .from) (shape .from-below e m)) (st e m), none (e .counted))
+
+module _ {n : ℕ} {es : List Edge} (some : 0 < n) (shape : Shape n (members es)) (rooted : Rooted n (members es)) where
+  -- For the source every graph is well-posed, and so grounded.
+  ground : Grounded n (members es) 0
+  ground = grounded shape 0 (λ e m b i. is-source refl) (λ h. rooted)
+
+  start : Start es 0 (source-row n 0)
+  start = source-start shape some ground
+
+  abbrev settled : List ℕ
+  settled = rounds es n (source-row n 0)
+
+  source-covered : Covers (cell settled 0) 0 0
+  unfolding rounds
+  source-covered = covers-up (start .covers-source refl) (rounds-rise es 0 n (source-row n 0) (start .fits) (omega arith) 0)
+
+  all-covered : Stable es settled → (v : ℕ) → v < n → 1 ≤ cell settled v
+  all-covered st v b = stable-walk settled st 0 0 source-covered (joined-mono (λ e m. m .0) (rooted v b) .walk) .some
+
+  -- Where no closed walk is above 0, n rounds settle the row.
+  pub nonpositive-stable : NonPositive (members es) → Stable es settled
+  nonpositive-stable never =
+      fixpoint-stable es settled (λ e m. omega (arith, start .fits e m, rounds-length es n (source-row n 0))) (rounds-fixed shape some ground never start)
+
+  source-at-zero : NonPositive (members es) → cell settled 0 ≡ 1
+  source-at-zero never = go (cell settled 0) refl (source-covered .some)
+    where
+      by-span : {o p q : ℕ} → p ≡ o + q → Span (members es) 0 0 p q → o ≡ 0
+      by-span h (source z w) = omega (arith, never .closed w)
+      by-span h (after w) = absurd (w .not-source refl)
+
+      go : (r : ℕ) → cell settled 0 ≡ r → 1 ≤ cell settled 0 → cell settled 0 ≡ 1
+      go zero h l = absurd (omega arith)
+      go (suc o) h l = let O = rounds-offset shape some ground never start 0 o h in let z = by-span (O .attained) (O .span) in omega arith
+
+  pub zero-delay-schedule : NonPositive (members es) → Schedule (members es) (λ v. 0) (λ v. cell settled v - 1)
+  zero-delay-schedule never =
+      let st = nonpositive-stable never in
+      stable-schedule shape settled st (all-covered st) (source-at-zero never)
+
+  -- A stable row with no empty cell: around a closed walk the cells come back to where they were.
+  closed-in : {x y k p q : ℕ} → Stable es settled → Walk (members es) x y k p q → x ≡ y → p ≤ q
+  closed-in st (stop e hk hp hq) s = omega arith
+  closed-in {x} {y} {k} {p} {q} st (step w e m f o hk hp hq) s = from-cell (cell settled x) refl (all-covered st x (omega (arith, shape .to-below e m)))
+    where
+      from-cell : (r : ℕ) → cell settled x ≡ r → 1 ≤ cell settled x → p ≤ q
+      from-cell zero h l = absurd (omega arith)
+      from-cell (suc r) h l =
+          omega (arith, stable-walk settled st r 0 (record { some = omega arith; enough = omega arith }) (step w e m f o hk hp hq) .enough, ap (cell settled) s)
+
+  -- Refusal 10, and what it says.
+  pub stable-nonpositive-iff : (stable es settled ≡ true) ↔ NonPositive (members es)
+  stable-nonpositive-iff = (λ h. record { closed = λ w. closed-in (stable-iff es settled .0 h) w refl }, λ never. stable-iff es settled .1 (nonpositive-stable never))
+
+  pub stable-schedule-iff : (stable es settled ≡ true) ↔ ((t : ℕ → ℕ) × Schedule (members es) (λ v. 0) t)
+  stable-schedule-iff =
+      (
+        λ h. ((λ v. cell settled v - 1), zero-delay-schedule (stable-nonpositive-iff .0 h)),
+        λ r. stable-nonpositive-iff .1 (schedule-nonpositive (r .1)),
+      )
+
+  -- A graph that passes the tests for 10 and 11 can be scheduled.
+  pub well-by : stable es settled ≡ true → ((a : ℕ) → a < n → after-reaches n es a a ≡ false) → Well n (members es)
+  well-by st once =
+      record { some = some; shape = shape; rooted = rooted; acyclic = λ a w. both-ways (after-reaches-iff shape a a .1 w) (once a (after-start-below shape w)); never = stable-nonpositive-iff .0 st }
+
+-- Every step has a chain from step 0, as a test.
+pub rooted-iff : {n : ℕ} {es : List Edge} → 0 < n → Shape n (members es) → (all-below (reaches n (forwards es) 0) n ≡ true) ↔ Rooted n (members es)
+rooted-iff {n} {es} some shape =
+    (
+      λ h v b. joined-mono (mem-forwards es) (reaches-joined (forwards-shape shape) some v (all-below-each (reaches n (forwards es) 0) n h v b)),
+      λ rooted. all-below-by (reaches n (forwards es) 0) n (λ v b. joined-reaches (forwards-shape shape) some (joined-mono (forwards-mem es) (rooted v b))),
+    )
+
+-- Forward edges close no circle, as a test: from no forward edge's end a chain leads back to its start.
+pub forward-acyclic-iff : {n : ℕ} {es : List Edge} → Shape n (members es) → (any (λ e. reaches n (forwards es) (e .to) (e .from)) (forwards es) ≡ false) ↔ ForwardAcyclic (members es)
+forward-acyclic-iff {n} {es} shape = (acyclic, test)
+  where
+    back-to : Edge → Bool
+    back-to e = reaches n (forwards es) (e .to) (e .from)
+
+    last-edge : any back-to (forwards es) ≡ false → {x y k p q j : ℕ} → Walk (members (forwards es)) x y k p q → x ≡ y → k ≡ suc j → ⊥
+    last-edge h (stop e hk hp hq) s c = omega arith
+    last-edge h (step w e m f o hk hp hq) s c =
+        both-ways
+        (joined-reaches (forwards-shape shape) (forwards-shape shape .to-below e m) (record { k = _; p = _; q = _; walk = walk-from (o ∙ sym s) (walk-to w (sym f) refl refl refl) }))
+        (any-none back-to (forwards es) h e m)
+
+    acyclic : any back-to (forwards es) ≡ false → ForwardAcyclic (members es)
+    acyclic h x k p q w = last-edge h (walk-mono (forwards-mem es) w) refl refl
+
+    test : ForwardAcyclic (members es) → any back-to (forwards es) ≡ false
+    test once =
+        none-any
+        back-to
+        (forwards es)
+        (λ e m.
+        not-passing
+        (back-to e)
+        (λ t.
+        let J = reaches-joined (forwards-shape shape) (forwards-shape shape .to-below e m) (e .from) t in
+        once (e .to) (J .k) _ _ (walk-mono (mem-forwards es) (step (J .walk) e m refl refl refl refl refl))))
+
+-- The delays of one step.
+pub lasting-at : (a x : ℕ) → lasting a x a ≡ x
+unfolding lasting
+lasting-at a x = delay-counted x (eq-eqb a a refl)
+
+pub lasting-other : (a x v : ℕ) → v ≢ a → lasting a x v ≡ 0
+unfolding lasting
+lasting-other a x v h = delay-uncounted x (ne-eqb v a h)
+
+-- Refusal 11. A closed walk that begins with a counted edge out of a is cut to at most n edges. It loses at most n times the largest loss, and so no start times let a last longer than that.
+pub closed-after-unschedulable : {n l a : ℕ} {E : Graph} {d t : ℕ → ℕ} → Shape n E → Losses E l → After E a a → n * l < d a → ¬ Schedule E d t
+closed-after-unschedulable {n} {l} {a} {E} shape losses w h s =
+    let u = w .walk in
+    let b = brief shape (shape .to-below (u .edge) (u .mem)) (record { k = u .k; p = u .g; q = u .l; walk = u .rest }) in
+    let v : AfterWalk E a a (u .edge .gain + b .p) (u .edge .loss + b .q) = record { not-source = u .not-source; edge = u .edge; mem = u .mem; leaves = u .leaves; counts = u .counts; k = b .k; g = b .p; l = b .q; rest = b .walk; gains = refl; losses = refl } in
+    omega (
+      arith,
+      after-bound s v,
+      walk-loss losses (b .walk),
+      losses (u .edge) (u .mem),
+      suc-mul (b .k) l,
+      mul-le-mul-right l (b .few),
+    )
+
+pub closed-after-64 : {n a : ℕ} {E : Graph} {t : ℕ → ℕ} → Shape n E → n ≤ 64 → Losses E 65535 → After E a a → ¬ Schedule E (lasting a 16777215) t
+closed-after-64 {n} {a} shape few losses w = closed-after-unschedulable shape losses w (omega (arith, lasting-at a 16777215, mul-le-mul-right 65535 few))

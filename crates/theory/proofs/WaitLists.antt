@@ -1,0 +1,170 @@
+-- The executable waits: the test is the relation, the list holds the pairs that pass it, the maps have their bits, and the list of edges with the waits in is the graph with its serialization edges.
+use mathlib.Core.Path.{_∙_, _≡_, ap, refl, subst, sym}
+use mathlib.Core.Bool.{Bool, _&&_, false, not, true}
+use mathlib.Core.Logic.{_↔_, _⊎_, inl, inr}
+use mathlib.Core.List.{List, List·Memᴰ, List·Memᴰ·append-cases, List·Memᴰ·head, List·Memᴰ·not-nil, Memᴰ·append-left, Memᴰ·append-right, Memᴰ·cast, Memᴰ·map, Memᴰ·of-map, [], _++_, _∷_, append-nil, map}
+use Prim.Native.Nat.{_<_, _^_, suc, ℕ}
+use native.Mathlib.Omega.{arith}
+use lib.Dec.{eqb, ltb}
+use lib.ListN.{getD, length}
+use borrow.Author.Tests.{eq-eqb, eqb-true, le-ltb, lt-ltb, ltb-false, not-true}
+use Rattle.definitions.specs.Anchors.{InAnchorSet, WellPosed, chain, in-anchor-set, is-source}
+use Rattle.definitions.specs.Basics.{any, select-below, tabulate, test-bit}
+use Rattle.definitions.specs.Links.{Edge, members, usable}
+use Rattle.definitions.specs.Rounds.{after-reaches}
+use Rattle.definitions.specs.Waits.{Wait, WaitPair, needs-waits, serialized, wait-count, wait-edge, wait-list, wait-map, wait-maps, waits-for, waits-of}
+use Rattle.laws.proofs.Bools.{and-join, and-split, both-ways, not-passing}
+use Rattle.laws.proofs.Tests.{any-by, any-has, bits-below-at, bits-below-small, flatMap-has, flatMap-only, mem-tabulate, select-below-has, select-below-only, tabulate-at, tabulate-mem}
+use Rattle.theory.specs.Graphs.{Shape, WaitEdge, Waited}
+use Rattle.theory.proofs.Reachability.{after-reaches-iff, dec-member, in-anchor-set-iff}
+use Rattle.theory.proofs.Serialization.{waited-shape, waited-well-posed}
+use Rattle.theory.proofs.Walks.{after-start-below, chain-after, member-after, member-to}
+
+-- A walk counted from the end of a may take every edge. Request L11 changes this, and what is built on it here.
+pub usable-all : (es : List Edge) (a : ℕ) → usable es a ≡ es
+unfolding usable
+usable-all es a = refl
+
+module _ {n : ℕ} {es : List Edge} (shape : Shape n (members es)) where
+  pub waits-for-iff : (a i : ℕ) → (waits-for n es a i ≡ true) ↔ Wait (members es) a i
+  unfolding waits-for
+  waits-for-iff a i = (found, test)
+    where
+      returns : Edge → Bool
+      returns e = e .back && eqb (e .to) i && after-reaches n (usable es a) a (e .from)
+
+      found : (any returns es && not (in-anchor-set n es a i)) ≡ true → Wait (members es) a i
+      found h =
+          let r = and-split (any returns es) (not (in-anchor-set n es a i)) h in
+          let s = any-has returns es (r .0) in
+          let t = and-split (s .0 .back && eqb (s .0 .to) i) (after-reaches n (usable es a) a (s .0 .from)) (s .2) in
+          let u = and-split (s .0 .back) (eqb (s .0 .to) i) (t .0) in
+          record { edge = s .0; mem = s .1; returns = u .0; enters = eqb-true (s .0 .to) i (u .1); reaches = after-reaches-iff shape a (s .0 .from) .0 (ap (λ (x : List Edge). after-reaches n x a (s .0 .from)) (sym (usable-all es a)) ∙ t .1); absent = λ k. both-ways (in-anchor-set-iff shape a i .1 k) (not-true (in-anchor-set n es a i) (r .1)) }
+
+      test : Wait (members es) a i → (any returns es && not (in-anchor-set n es a i)) ≡ true
+      test w =
+          and-join
+          (any-by
+          returns
+          es
+          (w .mem)
+          (and-join
+          (and-join (w .returns) (eq-eqb (w .edge .to) i (w .enters)))
+          (ap (λ (x : List Edge). after-reaches n x a (w .edge .from)) (usable-all es a) ∙ after-reaches-iff shape a (w .edge .from) .1 (w .reaches))))
+          (ap not (not-passing (in-anchor-set n es a i) (λ t. w .absent (in-anchor-set-iff shape a i .0 t))))
+
+  pub wait-anchor-below : {a i : ℕ} → Wait (members es) a i → a < n
+  wait-anchor-below w = after-start-below shape (w .reaches)
+
+  pub wait-target-below : {a i : ℕ} → Wait (members es) a i → i < n
+  wait-target-below w = rw (w .enters) at (shape .to-below (w .edge) (w .mem))
+
+-- The list holds each pair below n that passes, and only those.
+pub wait-list-has : (n : ℕ) (es : List Edge) {a i : ℕ} → a < n → i < n → waits-for n es a i ≡ true → List·Memᴰ (record { anchor = a; target = i }) (wait-list n es)
+unfolding wait-list waits-of
+wait-list-has n es {a} {i} b c h =
+    flatMap-has
+    (waits-of n es)
+    (tabulate (λ x. x) n)
+    (tabulate-mem (λ x. x) n b)
+    (Memᴰ·map (λ (x : ℕ). record { anchor = a; target = x }) (select-below-has (waits-for n es a) n c h))
+
+pub wait-list-only : (n : ℕ) (es : List Edge) {w : WaitPair} → List·Memᴰ w (wait-list n es) → (w .anchor < n) × (w .target < n) × (waits-for n es (w .anchor) (w .target) ≡ true)
+unfolding wait-list waits-of
+wait-list-only n es {w} m = from-anchor (flatMap-only (waits-of n es) (tabulate (λ x. x) n) m)
+  where
+    from-pair : (a : ℕ) → a < n → (i : ℕ) × List·Memᴰ i (select-below (waits-for n es a) n) × (record { anchor = a; target = i } ≡ w) → (w .anchor < n) × (w .target < n) × (waits-for n es (w .anchor) (w .target) ≡ true)
+    from-pair a b r =
+        let s = select-below-only (waits-for n es a) n (r .1) in
+        subst (λ (x : WaitPair). (x .anchor < n) × (x .target < n) × (waits-for n es (x .anchor) (x .target) ≡ true)) (r .2) (b, s .0, s .1)
+
+    from-anchor : (a : ℕ) × List·Memᴰ a (tabulate (λ x. x) n) × List·Memᴰ w (waits-of n es a) → (w .anchor < n) × (w .target < n) × (waits-for n es (w .anchor) (w .target) ≡ true)
+    from-anchor r =
+        let s = mem-tabulate (λ x. x) n (r .1) in
+        from-pair (r .0) (omega (arith, s .1, s .2)) (Memᴰ·of-map (λ (x : ℕ). record { anchor = r .0; target = x }) (select-below (waits-for n es (r .0)) n) (r .2))
+
+module _ {n : ℕ} {es : List Edge} (shape : Shape n (members es)) where
+  pub wait-listed : {a i : ℕ} → Wait (members es) a i → List·Memᴰ (record { anchor = a; target = i }) (wait-list n es)
+  wait-listed {a} {i} w = wait-list-has n es (wait-anchor-below shape w) (wait-target-below shape w) (waits-for-iff shape a i .1 w)
+
+  pub listed-wait : {w : WaitPair} → List·Memᴰ w (wait-list n es) → Wait (members es) (w .anchor) (w .target)
+  listed-wait {w} m = waits-for-iff shape (w .anchor) (w .target) .0 (wait-list-only n es m .2)
+
+  -- The sheet with its waits in.
+  pub serialized-waited : Waited (members es) (members (serialized n es))
+  unfolding serialized
+  serialized-waited = record { keeps-all = λ e m. Memᴰ·append-left (map wait-edge (wait-list n es)) m; adds = adds; only = λ e m. only e (List·Memᴰ·append-cases es m) }
+    where
+      is-wait-edge : (e : Edge) → WaitEdge (members es) e → e ≡ wait-edge (record { anchor = e .from; target = e .to })
+      is-wait-edge e h = λ i. record { from = e .from; to = e .to; gain = h .gainless i; loss = h .lossless i; counted = h .counts i; back = h .forward i }
+
+      adds : (e : Edge) → WaitEdge (members es) e → List·Memᴰ e (es ++ map wait-edge (wait-list n es))
+      adds e h = Memᴰ·append-right es (Memᴰ·cast (is-wait-edge e h) (Memᴰ·map wait-edge (wait-listed (h .wait))))
+
+      only : (e : Edge) → List·Memᴰ e es ⊎ List·Memᴰ e (map wait-edge (wait-list n es)) → List·Memᴰ e es ⊎ WaitEdge (members es) e
+      only e (inl m) = inl m
+      only e (inr m) =
+          let r = Memᴰ·of-map wait-edge (wait-list n es) m in
+          inr (subst (WaitEdge (members es)) (r .2) (record { counts = refl; forward = refl; gainless = refl; lossless = refl; wait = listed-wait (r .1) }))
+
+  -- No waits are needed exactly where the graph is well-posed.
+  empty-none : (l : List WaitPair) → ltb 0 (length l) ≡ false → (w : WaitPair) → ¬ List·Memᴰ w l
+  empty-none [] h w m = List·Memᴰ·not-nil m
+  empty-none (x ∷ l) h w m = omega (arith, ltb-false 0 (suc (length l)) h)
+
+  none-empty : (l : List WaitPair) → ((w : WaitPair) → ¬ List·Memᴰ w l) → l ≡ []
+  none-empty [] h = refl
+  none-empty (x ∷ l) h = absurd (h x (List·Memᴰ·head refl))
+
+  pub well-posed-unlisted : WellPosed (members es) → wait-list n es ≡ []
+  well-posed-unlisted posed = none-empty (wait-list n es) (λ w m. refuse (listed-wait m))
+    where
+      refuse : {a i : ℕ} → Wait (members es) a i → ⊥
+      refuse {a} {i} w = w .absent (member-to (w .enters) (posed a (w .edge) (w .mem) (w .returns) (member-after shape (posed a) (w .reaches .walk))))
+
+  pub needs-waits-iff : (needs-waits n es ≡ false) ↔ WellPosed (members es)
+  unfolding needs-waits wait-count
+  needs-waits-iff = (posed, λ p. ap (λ (l : List WaitPair). ltb 0 (length l)) (well-posed-unlisted p) ∙ le-ltb 0 0 (omega arith))
+    where
+      posed : ltb 0 (length (wait-list n es)) ≡ false → WellPosed (members es)
+      posed h a e m b (is-source z) = is-source z
+      posed h a e m b (chain c) = go (dec-member shape a (e .to))
+        where
+          go : Dec (InAnchorSet (members es) a (e .to)) → InAnchorSet (members es) a (e .to)
+          go (yes i) = i
+          go (no i) = absurd (empty-none (wait-list n es) h _ (wait-listed (record { edge = e; mem = m; returns = b; enters = refl; reaches = chain-after c; absent = i })))
+
+  -- Then the waits change nothing.
+  pub serialized-none : needs-waits n es ≡ false → serialized n es ≡ es
+  unfolding serialized
+  serialized-none h = ap (λ (l : List WaitPair). es ++ map wait-edge l) (well-posed-unlisted (needs-waits-iff .0 h)) ∙ append-nil es
+
+  pub serialized-well-posed : WellPosed (members (serialized n es))
+  serialized-well-posed = waited-well-posed serialized-waited (dec-member shape)
+
+  pub serialized-shape : Shape n (members (serialized n es))
+  serialized-shape = waited-shape serialized-waited shape
+
+-- The maps: bit a of map i.
+pub wait-map-bit : (n : ℕ) (es : List Edge) (i a : ℕ) → test-bit (wait-map n es i) a ≡ (ltb a n && (ltb i n && waits-for n es a i))
+unfolding wait-map
+wait-map-bit n es i a = bits-below-at (λ x. ltb i n && waits-for n es x i) n a
+
+pub wait-map-iff : {n : ℕ} {es : List Edge} → Shape n (members es) → (i a : ℕ) → (test-bit (wait-map n es i) a ≡ true) ↔ Wait (members es) a i
+wait-map-iff {n} {es} shape i a = (found, test)
+  where
+    found : test-bit (wait-map n es i) a ≡ true → Wait (members es) a i
+    found h =
+        let r = and-split (ltb a n) (ltb i n && waits-for n es a i) (sym (wait-map-bit n es i a) ∙ h) in
+        waits-for-iff shape a i .0 (and-split (ltb i n) (waits-for n es a i) (r .1) .1)
+
+    test : Wait (members es) a i → test-bit (wait-map n es i) a ≡ true
+    test w = wait-map-bit n es i a ∙ and-join (lt-ltb a n (wait-anchor-below shape w)) (and-join (lt-ltb i n (wait-target-below shape w)) (waits-for-iff shape a i .1 w))
+
+pub wait-map-small : (n : ℕ) (es : List Edge) (i : ℕ) → wait-map n es i < 2 ^ n
+unfolding wait-map
+wait-map-small n es i = bits-below-small (λ a. ltb i n && waits-for n es a i) n
+
+pub wait-maps-at : (n : ℕ) (es : List Edge) (i : ℕ) → i < 64 → getD (wait-maps n es) i 0 ≡ wait-map n es i
+unfolding wait-maps
+wait-maps-at n es i b = tabulate-at (wait-map n es) 64 i 0 b
