@@ -1,3 +1,4 @@
 pub mod Reading
 pub mod Edges
 pub mod Judging
+pub mod Meaning
