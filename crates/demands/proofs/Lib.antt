@@ -2,3 +2,5 @@ pub mod Reading
 pub mod Edges
 pub mod Judging
 pub mod Meaning
+pub mod Sums
+pub mod Listing
