@@ -8,3 +8,6 @@ pub mod FirstRows
 pub mod Reachability
 pub mod WaitLists
 pub mod Feasibility
+pub mod Offsets
+pub mod Irredundance
+pub mod StartTimes

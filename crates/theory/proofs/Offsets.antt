@@ -1,0 +1,143 @@
+-- Offsets: n rounds find them, and how large they can be.
+use mathlib.Core.Path.{_≡_, refl, subst, sym}
+use mathlib.Core.Logic.{_↔_, _⊎_, inl, inr}
+use mathlib.Core.List.{List, List·Memᴰ}
+use Prim.Native.Nat.{_*_, _+_, _-_, _<_, _≤_, suc, zero, ℕ}
+use native.Mathlib.Omega.{arith}
+use native.Mathlib.Nat.{mul-le-mul-right, suc-mul}
+use Rattle.definitions.specs.Anchors.{InAnchorSet, WellPosed, WellPosedFor, chain, is-source}
+use Rattle.definitions.specs.Links.{After, Edge, Graph, Walk, members, usable}
+use Rattle.definitions.specs.Plan.{Offset, Span, after, first-row, offset, offset-row, source}
+use Rattle.definitions.specs.Rounds.{cell, rounds}
+use Rattle.theory.specs.Graphs.{Gains, NonPositive, Rooted, Shape, Well}
+use Rattle.theory.proofs.FirstRows.{after-start, source-start}
+use Rattle.theory.proofs.Pigeonhole.{Loop, Short, free, free-take, loop-or-free, shorten, split-at, trail, walk-gain}
+use Rattle.theory.proofs.Relaxation.{Grounded, Start, grounded, rounds-offset, rounds-span, rounds-under}
+use Rattle.theory.proofs.WaitLists.{usable-all}
+use Rattle.theory.proofs.Walks.{after-by, after-mono, join, member-below, member-span, walk-from, walk-mono}
+
+pub usable-by : {es : List Edge} (a : ℕ) (P : List Edge → Type 0) → P es → P (usable es a)
+usable-by {es} a P h = subst P (sym (usable-all es a)) h
+
+first-start : {n : ℕ} {es : List Edge} → Shape n (members es) → 0 < n → (a : ℕ) → Grounded n (members es) a → Start es a (first-row n es a)
+unfolding first-row
+first-start shape some zero G = source-start shape some G
+first-start shape some (suc a) G = after-start shape (omega arith) G
+
+-- The graph need be well-posed for the anchor alone. A member is reached by a chain, so its cell is not empty after n rounds; and what the cell says is attained and a bound.
+module _ {n : ℕ} {es : List Edge} (some : 0 < n) (shape : Shape n (members es)) (never : NonPositive (members es)) {a : ℕ} (rooted : a ≡ 0 → Rooted n (members es)) (posed : WellPosedFor (members es) a) where
+  ground : Grounded n (members es) a
+  ground = grounded shape a posed rooted
+
+  start : Start es a (first-row n es a)
+  start = first-start shape some a ground
+
+  abbrev row : List ℕ
+  row = rounds es n (first-row n es a)
+
+  member-reached : {v : ℕ} → v < n → InAnchorSet (members es) a v → (p : ℕ) × (q : ℕ) × Span (members es) a v p q
+  member-reached {v = v} b (is-source h) = let J = rooted h v b in (J .p, J .q, source h (walk-from h (walk-mono (λ e m. m .0) (J .walk))))
+  member-reached b (chain c) = (c .p, c .q, after (after-mono (λ e m. m .0) (c .walk)))
+
+  pub row-member : (v : ℕ) → v < n → InAnchorSet (members es) a v → 1 ≤ cell row v
+  row-member v b i = let s = member-reached b i in rounds-span shape (member-below shape b i) ground never start (s .2) .some
+
+  pub row-reached : (v : ℕ) → 1 ≤ cell row v → InAnchorSet (members es) a v
+  row-reached v h = go (cell row v) refl
+    where
+      go : (r : ℕ) → cell row v ≡ r → InAnchorSet (members es) a v
+      go zero e = absurd (omega arith)
+      go (suc o) e = member-span shape posed (rounds-under shape ground start n v o e .span)
+
+  pub row-offset : (v : ℕ) → v < n → InAnchorSet (members es) a v → Offset (members es) a v (cell row v - 1)
+  row-offset v b i = go (cell row v) refl (row-member v b i)
+    where
+      go : (r : ℕ) → cell row v ≡ r → 1 ≤ cell row v → Offset (members es) a v (cell row v - 1)
+      go zero h l = absurd (omega arith)
+      go (suc o) h l =
+          let e : cell row v - 1 ≡ o = omega arith in
+          rw e (rounds-offset shape (member-below shape b i) ground never start v o h)
+
+-- In a well-posed graph.
+module _ {n : ℕ} {es : List Edge} (well : Well n (members es)) (posed : WellPosed (members es)) where
+  pub offset-found : (a v : ℕ) → v < n → InAnchorSet (members es) a v → Offset (members (usable es a)) a v (offset n es a v)
+  unfolding offset offset-row
+  offset-found a v b i =
+      usable-by {es = es} a (λ us. Offset (members us) a v (cell (rounds us n (first-row n us a)) v - 1)) (row-offset (well .some) (well .shape) (well .never) (λ h. well .rooted) (posed a) v b i)
+
+  -- A cell of an offset row is empty exactly where the anchor is no member.
+  pub offset-row-iff : (a v : ℕ) → v < n → (1 ≤ cell (offset-row n es a) v) ↔ InAnchorSet (members es) a v
+  unfolding offset-row
+  offset-row-iff a v b =
+      usable-by
+      {es = es}
+      a
+      (λ us. (1 ≤ cell (rounds us n (first-row n us a)) v) ↔ InAnchorSet (members es) a v)
+      (row-reached (well .some) (well .shape) (well .never) (λ h. well .rooted) (posed a) v, row-member (well .some) (well .shape) (well .never) (λ h. well .rooted) (posed a) v b)
+
+-- A walk from the end of a never comes back to a, and so it is cut to fewer than n - 1 edges after the first.
+module _ {n : ℕ} {E : Graph} (shape : Shape n E) (never : NonPositive E) {a : ℕ} (inside : a < n) where
+  loop-or-few : {x y k p q : ℕ} → x < n → ((k p q : ℕ) → ¬ Walk E x a k p q) → Walk E x y k p q → Loop E x y k p q ⊎ (suc k < n)
+  loop-or-few {x} {y} {k} {p} {q} b avoids w = go (loop-or-free shape b w)
+    where
+      apart : ¬ List·Memᴰ a (trail w)
+      apart m = let s = split-at w m in avoids (s .k₁) (s .p₁) (s .q₁) (s .before)
+
+      go : Loop E x y k p q ⊎ (suc k + free n (trail w) ≡ n) → Loop E x y k p q ⊎ (suc k < n)
+      go (inl s) = inl s
+      go (inr e) = inr (omega (arith, free-take n a (trail w) inside apart))
+
+  fewer-below : (fuel : ℕ) {x y k p q : ℕ} → k < fuel → x < n → ((k p q : ℕ) → ¬ Walk E x a k p q) → Walk E x y k p q → Short (n - 1) E x y p q
+  fewer-below zero h b avoids w = absurd (omega arith)
+  fewer-below (suc fuel) {x} {y} {k} {p} {q} h b avoids w =
+      go (loop-or-few b avoids w) (λ s. fewer-below fuel (omega (arith, s .ks)) b avoids (join (s .before) (s .behind)))
+    where
+      go : Loop E x y k p q ⊎ (suc k < n) → ((s : Loop E x y k p q) → Short (n - 1) E x y (s .p₁ + s .p₃) (s .q₁ + s .q₃)) → Short (n - 1) E x y p q
+      go (inr c) below = record { k₂ = k; p₂ = p; q₂ = q; few = omega arith; walk = w; heavy = omega arith }
+      go (inl s) below =
+          let r = below s in
+          record { k₂ = r .k₂; p₂ = r .p₂; q₂ = r .q₂; few = r .few; walk = r .walk; heavy = omega (arith, r .heavy, s .ps, s .qs, never .closed (s .round)) }
+
+-- An offset is at most n - 1 edges' gains.
+module _ {n : ℕ} {E : Graph} {g : ℕ} (shape : Shape n E) (never : NonPositive E) (gains : Gains E g) where
+  span-gain : {a v p q : ℕ} → ¬ After E a a → 0 < n → Span E a v p q → p ≤ (n - 1) * g + q
+  span-gain {v = v} {p = p} {q = q} once b (source h w) =
+      let s = shorten shape never (omega arith) w in
+      let few : s .k₂ ≤ n - 1 = omega (arith, s .few) in
+      omega (arith, s .heavy, walk-gain gains (s .walk), mul-le-mul-right g few)
+  span-gain {a} {v} once b (after w) =
+      let avoids : (k p q : ℕ) → ¬ Walk E (w .edge .to) a k p q = λ k p q u. once (after-by (w .edge) (w .not-source) (w .mem) (w .leaves) (w .counts) (record { k = k; p = p; q = q; walk = u })) in
+      let inside : a < n = rw (w .leaves) at (shape .from-below (w .edge) (w .mem)) in
+      let s = fewer-below shape never inside (suc (w .k)) (omega arith) (shape .to-below (w .edge) (w .mem)) avoids (w .rest) in
+      let few : suc (s .k₂) ≤ n - 1 = omega (arith, s .few) in
+      omega (
+        arith,
+        s .heavy,
+        walk-gain gains (s .walk),
+        gains (w .edge) (w .mem),
+        mul-le-mul-right g few,
+        suc-mul (s .k₂) g,
+        w .gains,
+        w .losses,
+      )
+
+  pub offset-small : {a v o : ℕ} → ¬ After E a a → 0 < n → Offset E a v o → o ≤ (n - 1) * g
+  offset-small once b O = omega (arith, span-gain once b (O .span), O .attained)
+
+-- With the limits of a sheet.
+pub offset-64 : {n : ℕ} {E : Graph} {a v o : ℕ} → Shape n E → NonPositive E → ¬ After E a a → Gains E 65535 → 0 < n → n ≤ 64 → Offset E a v o → o ≤ 4128705
+offset-64 {n} shape never once gains b h O =
+    let few : n - 1 ≤ 63 = omega arith in
+    omega (arith, offset-small shape never gains once b O, mul-le-mul-right 65535 few)
+
+module _ {n : ℕ} {es : List Edge} (well : Well n (members es)) (posed : WellPosed (members es)) (gains : Gains (members es) 65535) (few : n ≤ 64) where
+  pub offset-limit : (a v : ℕ) → v < n → InAnchorSet (members es) a v → offset n es a v ≤ 4128705
+  offset-limit a v b i =
+      offset-64
+      (usable-by {es = es} a (λ us. Shape n (members us)) (well .shape))
+      (usable-by {es = es} a (λ us. NonPositive (members us)) (well .never))
+      (usable-by {es = es} a (λ us. ¬ After (members us) a a) (well .acyclic a))
+      (usable-by {es = es} a (λ us. Gains (members us) 65535) gains)
+      (well .some)
+      few
+      (offset-found well posed a v b i)
