@@ -4,3 +4,5 @@ pub mod Judging
 pub mod Meaning
 pub mod Sums
 pub mod Listing
+pub mod DelayLists
+pub mod Calls

@@ -1,0 +1,100 @@
+-- Lists of durations: what refusal 13 leaves, and lists made of given delays.
+use mathlib.Core.Path.{_≡_, refl, sym, ap, subst, _∙_}
+use mathlib.Core.Bool.{Bool, true, false, _&&_}
+use mathlib.Core.Logic.{_⊎_, inl, inr, _≢_}
+use mathlib.Core.List.{List, [], _∷_}
+use Prim.Native.Nat.{ℕ, zero, suc, _+_, _≤_, _<_}
+use native.Mathlib.Omega.{arith}
+use native.Mathlib.Decide.{decLt}
+use lib.Dec.{ltb}
+use lib.ListN.{length, getD, List·getD-eq-default}
+use borrow.Author.Tests.{ltb-false, lt-ltb, le-ltb, ltb-true}
+use Rattle.definitions.specs.Basics.{tabulate, any-below}
+use Rattle.definitions.specs.Bytes.{Records}
+use Rattle.definitions.specs.Links.{delay-at}
+use Rattle.definitions.specs.Plan.{delay-limit, delay-wrong, delays-wrong, delays}
+use Rattle.definitions.specs.Answers.{count-of}
+use Rattle.definitions.specs.declared.Delay.{Delay}
+use Rattle.definitions.specs.declared.Delay.the-variants.{Open, Fixed}
+use Rattle.definitions.specs.declared.Operation.{Operation}
+use Rattle.laws.proofs.Bools.{bool-cases, and-split, and-join, both-ways, not-passing}
+use Rattle.laws.proofs.Tests.{any-below-none, none-any-below, tabulate-length, tabulate-at, tabulate-past}
+use Rattle.theory.specs.Graphs.{lasting}
+use Rattle.theory.proofs.Feasibility.{lasting-at, lasting-other}
+use Rattle.laws.proofs.Bools.{same-or-not}
+use Rattle.demands.specs.Demands.{IsDelayList}
+
+-- A list is not refused exactly if each of its first entries is within its step's limit; an entry that is not there is 0.
+pub list-within : (os : List Operation) (list : List ℕ) → delays-wrong os list ≡ false → (i : ℕ) → i < length os → delays list i ≤ delay-limit i (delay-at os i)
+unfolding delays-wrong delay-wrong
+list-within os list h i b = go (decLt i (length list)) (bool-cases (delay-wrong os list i))
+  where
+    go : Dec (i < length list) → (delay-wrong os list i ≡ true) ⊎ (delay-wrong os list i ≡ false) → delays list i ≤ delay-limit i (delay-at os i)
+    go (no c) w = omega (arith, List·getD-eq-default list 0 {n = i} (omega arith))
+    go (yes c) (inr f) = ltb-false (delay-limit i (delay-at os i)) (getD list i 0) f
+    go (yes c) (inl t) = absurd (both-ways (and-join (lt-ltb i (length list) c) t) (any-below-none (λ j. ltb j (length list) && delay-wrong os list j) (length os) h i b))
+
+pub within-list : (os : List Operation) (list : List ℕ) → ((i : ℕ) → i < length os → delays list i ≤ delay-limit i (delay-at os i)) → delays-wrong os list ≡ false
+unfolding delays-wrong delay-wrong
+within-list os list h =
+    none-any-below
+    (λ j. ltb j (length list) && delay-wrong os list j)
+    (length os)
+    (λ i b. not-passing (ltb i (length list) && delay-wrong os list i) (λ t. both-ways (and-split (ltb i (length list)) (delay-wrong os list i) t .1) (le-ltb (delay-limit i (delay-at os i)) (getD list i 0) (h i b))))
+
+-- The limits: 0 for step 0, and 16,777,215 at most.
+pub limit-source : (x : Delay) → delay-limit 0 x ≡ 0
+unfolding delay-limit
+limit-source Open = refl
+limit-source (Fixed t) = refl
+
+pub limit-most : (i : ℕ) (x : Delay) → delay-limit i x ≤ 16777215
+unfolding delay-limit
+limit-most zero Open = omega arith
+limit-most (suc i) Open = omega arith
+limit-most i (Fixed t) = omega arith
+
+pub limit-open : (i : ℕ) (x : Delay) → i ≢ 0 → x ≡ Open → delay-limit i x ≡ 16777215
+unfolding delay-limit
+limit-open zero x z e = absurd (z refl)
+limit-open (suc i) Open z e = refl
+limit-open (suc i) (Fixed t) z e = let c : _≡_ {A = ℕ} 0 1 = cc in absurd (omega arith)
+
+pub source-zero : (os : List Operation) (list : List ℕ) → 1 ≤ length os → delays-wrong os list ≡ false → delays list 0 ≡ 0
+source-zero os list some h = omega (arith, list-within os list h 0 some, limit-source (delay-at os 0))
+
+-- The list in which the open step a takes the longest time, and every other none.
+abbrev pub pulse-list : ℕ → ℕ → List ℕ
+pulse-list n a = tabulate (lasting a 16777215) n
+
+pub pulse-delays : (n a i : ℕ) → a < n → delays (pulse-list n a) i ≡ lasting a 16777215 i
+pulse-delays n a i h = go (decLt i n)
+  where
+    go : Dec (i < n) → delays (pulse-list n a) i ≡ lasting a 16777215 i
+    go (yes c) = tabulate-at (lasting a 16777215) n i 0 c
+    go (no c) = tabulate-past (lasting a 16777215) n i 0 (omega arith) ∙ sym (lasting-other a 16777215 i (λ e. omega arith))
+
+pub pulse-allowed : (q : Records) (a : ℕ) → a < count-of q → a ≢ 0 → delay-at (q .steps) a ≡ Open → IsDelayList q (pulse-list (count-of q) a)
+pulse-allowed q a b z h = record { size = tabulate-length (lasting a 16777215) (count-of q); within = within-list (q .steps) (pulse-list (count-of q) a) (λ i c. go i (same-or-not i a)) }
+  where
+    go : (i : ℕ) → (i ≡ a) ⊎ (i ≢ a) → delays (pulse-list (count-of q) a) i ≤ delay-limit i (delay-at (q .steps) i)
+    go i (inl e) =
+        omega (arith, pulse-delays (count-of q) a i b, ap (lasting a 16777215) e, lasting-at a 16777215, limit-open i (delay-at (q .steps) i) (λ y. z (sym e ∙ y)) (ap (delay-at (q .steps)) e ∙ h))
+    go i (inr e) = omega (arith, pulse-delays (count-of q) a i b, lasting-other a 16777215 i e)
+
+-- The list in which nothing takes any time.
+abbrev pub nothing : ℕ → ℕ
+nothing i = 0
+
+abbrev pub zero-list : ℕ → List ℕ
+zero-list n = tabulate nothing n
+
+pub zero-delays : (n i : ℕ) → delays (zero-list n) i ≡ 0
+zero-delays n i = go (decLt i n)
+  where
+    go : Dec (i < n) → delays (zero-list n) i ≡ 0
+    go (yes c) = tabulate-at nothing n i 0 c
+    go (no c) = tabulate-past nothing n i 0 (omega arith)
+
+pub zero-allowed : (q : Records) → IsDelayList q (zero-list (count-of q))
+zero-allowed q = record { size = tabulate-length nothing (count-of q); within = within-list (q .steps) (zero-list (count-of q)) (λ i c. omega (arith, zero-delays (count-of q) i)) }
