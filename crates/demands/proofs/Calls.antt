@@ -22,7 +22,9 @@ use Rattle.laws.proofs.Bools.{bool-cases, and-join, both-ways}
 use Rattle.laws.proofs.Outcomes.{given-not-refused, refused-same, refuse-given, refuse-passed, when-given-by, when-given-has}
 use Rattle.laws.proofs.Tests.{last-or-below, tabulate-length, tabulate-at, any-below-none}
 use Rattle.demands.specs.Demands.{IsSheet, Accepted, SameRefusal, ReturnedFor, our-start}
-use Rattle.demands.proofs.Reading.{Fits, read-fits}
+use Rattle.theory.proofs.StartTimes.{start-times-length}
+use Rattle.demands.proofs.Reading.{read-fits}
+use Rattle.demands.proofs.DelayLists.{source-zero}
 
 -- A check that refuses with a later number only leaves the earlier refusals as they are.
 later : (b : Bool) (k l : ℕ) (rest : Outcome ℕ) → k < l → rest ≢ refused k → refuse-if b l rest ≢ refused k
@@ -66,3 +68,58 @@ pub same-refusal : (s : List ℕ) (allow : Bool) (k : ℕ) → k ≤ 12 → Same
 unfolding waits-answer planned starts-answer judged
 same-refusal s allow k h =
     record { waits = waits-same k (read s); plan = λ table. plan-same allow table k h (read s); starts = λ list out. starts-same allow list out k h (read s) }
+
+-- Starts are returned only of an accepted sheet, for a list that is not refused; and the numbers that are returned begin with them.
+written-given : {o : Outcome ℕ} {v : ℕ} (new lent : List ℕ) → o ≡ given v → written o new lent ≡ new ++ drop (length new) lent
+unfolding written
+written-given new lent h = rw h
+
+returned-records : (s : List ℕ) (allow : Bool) (q : Records) (v : ℕ) (list out : List ℕ) → IsSheet s q → starts-verdict q allow list out ≡ given v → starts-answer s allow list out .numbers ≡ written (starts-verdict q allow list out) (start-times (count-of q) (serialized-of q) (delays list)) out → ReturnedFor s allow q v list out
+unfolding starts-verdict judged
+returned-records s allow q v list out sheet h e =
+    let times = start-times (count-of q) (serialized-of q) (delays list) in
+    let short = too-short list (count-of q) || too-short out (count-of q) in
+    let r = when-given-has (judge-records q allow) (λ v. refuse-if (delays-wrong (q .steps) list) 13 (refuse-if short 14 (given v))) h in
+    let r13 = refuse-given (delays-wrong (q .steps) list) 13 (refuse-if short 14 (given (r .0))) (r .2) in
+    let r14 = refuse-given short 14 (given (r .0)) (r13 .1) in
+    record {
+      accepted = record { sheet = sheet; accepts = when-given-by (λ q. judge-records q allow) (sheet .reads) ∙ r .1 ∙ r14 .1 };
+      source = source-zero (q .steps) list (read-fits s q (sheet .bytes) (sheet .reads) .some) (r13 .0);
+      numbers = λ i b. ap (λ (l : List ℕ). cell l i) (e ∙ written-given times out h) ∙ List·getD-append times (drop (length times) out) 0 i (omega (arith, start-times-length (count-of q) (serialized-of q) (delays list)));
+    }
+
+pub returned : (s : List ℕ) (allow : Bool) (q : Records) (v : ℕ) (list out : List ℕ) → IsSheet s q → starts-answer s allow list out .verdict ≡ given v → ReturnedFor s allow q v list out
+unfolding starts-answer starts-read
+returned s allow q v list out sheet h =
+    returned-records s allow q v list out sheet (ap (λ (o : Outcome Records). starts-read o allow list out .verdict) (sym (sheet .reads)) ∙ h) (ap (λ (o : Outcome Records). starts-read o allow list out .numbers) (sheet .reads))
+
+-- The plan's table is its rows, one behind the other.
+module _ (n : ℕ) (es : List Edge) where
+  row-length : (v : ℕ) → length (plan-row n es v) ≡ n
+  unfolding plan-row
+  row-length v = tabulate-length (plan-entry n es v) n
+
+  rows-length : (k : ℕ) → length (plan-rows n es k) ≡ k * n
+  unfolding plan-rows
+  rows-length zero = omega arith
+  rows-length (suc k) = omega (arith, length-append (plan-rows n es k) (plan-row n es k), rows-length k, row-length k, suc-mul k n)
+
+  rows-at : (k v a : ℕ) → v < k → a < n → getD (plan-rows n es k) (v * n + a) 0 ≡ plan-entry n es v a
+  unfolding plan-rows plan-row
+  rows-at zero v a h b = absurd (omega arith)
+  rows-at (suc k) v a h b = go (last-or-below k v h) (λ c. rows-at k v a c b)
+    where
+      go : (v ≡ k) ⊎ (v < k) → (v < k → getD (plan-rows n es k) (v * n + a) 0 ≡ plan-entry n es v a) → getD (plan-rows n es k ++ plan-row n es k) (v * n + a) 0 ≡ plan-entry n es v a
+      go (inl e) below =
+          ap (λ (i : ℕ). getD (plan-rows n es k ++ plan-row n es k) i 0) (let at : v * n + a ≡ length (plan-rows n es k) + a = omega (arith, rows-length k, ap (λ (i : ℕ). i * n) e) in at) ∙
+          getD-append-add (plan-rows n es k) (plan-row n es k) a 0 ∙ tabulate-at (plan-entry n es k) n a 0 b ∙ ap (λ (i : ℕ). plan-entry n es i a) (sym e)
+      go (inr c) below =
+          List·getD-append (plan-rows n es k) (plan-row n es k) 0 (v * n + a) (omega (arith, rows-length k, mul-le-mul-right n c, suc-mul v n)) ∙ below c
+
+  pub table-length : length (plan-table n es) ≡ n * n
+  unfolding plan-table
+  table-length = rows-length n
+
+  pub table-at : (v a : ℕ) → v < n → a < n → getD (plan-table n es) (v * n + a) 0 ≡ plan-entry n es v a
+  unfolding plan-table
+  table-at v a h b = rows-at n v a h b
