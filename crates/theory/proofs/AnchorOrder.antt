@@ -41,7 +41,7 @@ module _ (n : ℕ) (E : Graph) (acyclic : Acyclic E) where
   pub anchored-induct : (P : ℕ → Type 0) → ((a : ℕ) → a < n → ((v : ℕ) → v < n → After E a v → P v) → P a) → (a : ℕ) → a < n → P a
   anchored-induct = induct n (λ v a. After E a v) (λ c b a w v. after-trans v w) acyclic
 
--- T3 with no rank: it is enough that no open step waits for its own end.
+-- The relative schedule is the least. By induction along anchors: its start at v is a term of an anchor before v, and any schedule keeps that term.
 pub least-acyclic : {n : ℕ} {E : Graph} {d S t : ℕ → ℕ} {off : ℕ → ℕ → ℕ} → Shape n E → Acyclic E → Relative n E d S off → Schedule E d t → (v : ℕ) → v < n → S v ≤ t v
 least-acyclic {n} {E} {d} {S} {t} shape acyclic rel s =
     anchor-induct n E acyclic (λ v. S v ≤ t v) (λ v b ih. least-at shape rel s v b (λ a c w. ih a c (chain-after w)))

@@ -114,7 +114,7 @@ offset-triangle {E} {c} {b} {v} {o₁} {o₂} {o} z O₁ O₂ O = go (O₂ .span
 
 -- Each deciding member a is needed. Let a last more than twice what any offset is, and every other step 0; where a is the source let none last. By induction along the anchors before v, the term of every other member is smaller:
 -- its start is decided through a, and then the offsets leave it behind, or it does not depend on a at all.
-module _ {n : ℕ} {E : Graph} {G : ℕ → Graph} {d S : ℕ → ℕ} {off : ℕ → ℕ → ℕ} {a v : ℕ} (shape : Shape n E) (acyclic : Acyclic (Forward E)) (rel : RelativeOn n E G d S off) (triangle : (c b u : ℕ) → b < n → u < n → After (Forward E) c b → After (Forward E) b u → off c b + off b u ≤ off c u) (inside : v < n) (decides : Decides E off a v) (limit : ℕ) (long : a ≢ 0 → limit + limit < d a) (none : (b : ℕ) → b ≢ a → d b ≡ 0) (small : (b u : ℕ) → u < n → InAnchorSet E b u → off b u ≤ limit) where
+module _ {n : ℕ} {E : Graph} {G : ℕ → Graph} {d S : ℕ → ℕ} {off : ℕ → ℕ → ℕ} {a v : ℕ} (shape : Shape n E) (acyclic : Acyclic (Forward E)) (rel : RelativeOn n E G d S off) (triangle : (c b u : ℕ) → b < n → u < n → After (Forward E) c b → After (Forward E) b u → off c b + off b u ≤ off c u) (inside : v < n) (stays : Decides E off a v) (limit : ℕ) (long : a ≢ 0 → limit + limit < d a) (none : (b : ℕ) → b ≢ a → d b ≡ 0) (small : (b u : ℕ) → u < n → InAnchorSet E b u → off b u ≤ limit) where
   smaller-source : (b : ℕ) → b ≢ a → b ≡ 0 → InAnchorSet E b v → S b + off b v < S a + d a + off a v
   smaller-source b other e i = omega (arith, small b v inside i, ap S e, rel .starts, long (λ z. other (e ∙ sym z)))
 
@@ -125,7 +125,7 @@ module _ {n : ℕ} {E : Graph} {G : ℕ → Graph} {d S : ℕ → ℕ} {off : �
       go j (decLe (off a v) (off a b + off b v))
     where
       go : InAnchorSet E a b → Dec (off a v ≤ off a b + off b v) → S b + off b v < S a + d a + off a v
-      go j (yes l) = absurd (decides .alone b (record { other = other; inside = chain w; behind = j; heavy = l }))
+      go j (yes l) = absurd (stays .alone b (record { other = other; inside = chain w; behind = j; heavy = l }))
       go j (no l) = omega (arith, e, ap S same, ap d same, ap (λ (x : ℕ). off x b) same)
   smaller-by b h other w c (is-source s) e ih (no differs) =
       omega (arith, e, ap S s, rel .starts, none c differs, small c b h (is-source s), small b v inside (chain w), long (λ z. differs (s ∙ sym z)))

@@ -11,3 +11,5 @@ pub mod Feasibility
 pub mod Offsets
 pub mod Irredundance
 pub mod StartTimes
+pub mod DecidingSets
+pub mod Plans

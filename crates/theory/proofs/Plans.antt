@@ -1,0 +1,99 @@
+-- The plan of a sheet with its waits: the theorems above, for the list of edges `serialized n es`.
+use mathlib.Core.Path.{_≡_, subst, sym}
+use mathlib.Core.Bool.{Bool, false, true}
+use mathlib.Core.Logic.{_≢_}
+use mathlib.Core.List.{List}
+use Prim.Native.Nat.{_*_, _+_, _<_, _≤_, ℕ}
+use native.Mathlib.Omega.{arith}
+use native.Mathlib.Nat.{mul-le-mul-right}
+use Rattle.definitions.specs.Anchors.{InAnchorSet, WellPosed, in-anchor-set}
+use Rattle.definitions.specs.Basics.{any-below, largest}
+use Rattle.definitions.specs.Links.{Edge, Graph, _⊑_, members, usable}
+use Rattle.definitions.specs.Plan.{Offset, decides, offset, start-times}
+use Rattle.definitions.specs.Rounds.{cell}
+use Rattle.definitions.specs.Waits.{Wait, needs-waits, serialized}
+use Rattle.theory.specs.Graphs.{ForwardAcyclic, Gains, RelativeOn, Schedule, Shape, Well, pulse}
+use Rattle.theory.proofs.AnchorOrder.{least-acyclic}
+use Rattle.theory.proofs.DecidingSets.{deciding-enough, deciding-least, deciding-needed, deciding-strict}
+use Rattle.theory.proofs.Offsets.{offset-found, offset-limit}
+use Rattle.theory.proofs.RelativeSchedules.{relative-keeps}
+use Rattle.theory.proofs.Serialization.{rival-keeps, wait-not-source, wait-other, waited-forward-acyclic, waited-gains, waited-well}
+use Rattle.theory.proofs.StartTimes.{relative-all, relative-small, start-times-relative}
+use Rattle.theory.proofs.WaitLists.{serialized-none, serialized-waited, serialized-well-posed}
+use Rattle.theory.proofs.Walks.{chain-after, member-below}
+
+module _ {n : ℕ} {es : List Edge} (well : Well n (members es)) where
+  -- With its waits the graph can be scheduled and is well-posed.
+  pub plan-well : Well n (members (serialized n es))
+  plan-well = waited-well (serialized-waited (well .shape)) well
+
+  pub plan-posed : WellPosed (members (serialized n es))
+  plan-posed = serialized-well-posed (well .shape)
+
+  pub plan-forward-acyclic : ForwardAcyclic (members es) → ForwardAcyclic (members (serialized n es))
+  plan-forward-acyclic = waited-forward-acyclic (serialized-waited (well .shape)) (well .acyclic)
+
+  -- No step waits for itself, and step 0 waits for none.
+  pub plan-wait-other : {a i : ℕ} → Wait (members es) a i → a ≢ i
+  plan-wait-other = wait-other (serialized-waited (well .shape)) (well .acyclic)
+
+  pub plan-wait-not-source : {a i : ℕ} → Wait (members es) a i → i ≢ 0
+  plan-wait-not-source = wait-not-source (serialized-waited (well .shape)) (well .acyclic) (well .shape) (well .rooted)
+
+  pub plan-offset : (a v : ℕ) → v < n → InAnchorSet (members (serialized n es)) a v → Offset (members (usable (serialized n es) a)) a v (offset n (serialized n es) a v)
+  plan-offset = offset-found plan-well plan-posed
+
+  -- Our starts are the relative schedule; so they keep every link and every wait, whatever the delays.
+  pub plan-relative : (d : ℕ → ℕ) → d 0 ≡ 0 → RelativeOn n (members (serialized n es)) (λ a. members (usable (serialized n es) a)) d (cell (start-times n (serialized n es) d)) (offset n (serialized n es))
+  plan-relative = start-times-relative plan-well plan-posed
+
+  pub plan-keeps-waits : (d : ℕ → ℕ) → d 0 ≡ 0 → Schedule (members (serialized n es)) d (cell (start-times n (serialized n es) d))
+  plan-keeps-waits d d0 = relative-keeps (plan-well .shape) plan-posed (relative-all (plan-relative d d0))
+
+  pub plan-keeps : (d : ℕ → ℕ) → d 0 ≡ 0 → Schedule (members es) d (cell (start-times n (serialized n es) d))
+  plan-keeps d d0 =
+      let s = plan-keeps-waits d d0 in
+      record { starts = s .starts; keeps = λ e m. s .keeps e (serialized-waited (well .shape) .keeps-all e m) }
+
+  -- None that keep the links and waits start anything earlier.
+  pub plan-least : {d t : ℕ → ℕ} → d 0 ≡ 0 → Schedule (members (serialized n es)) d t → (v : ℕ) → v < n → cell (start-times n (serialized n es) d) v ≤ t v
+  plan-least {d} d0 s = least-acyclic (plan-well .shape) (plan-well .acyclic) (relative-all (plan-relative d d0)) s
+
+  -- Where no waits are needed, none that keep the links do.
+  pub plan-least-unwaited : {d t : ℕ → ℕ} → needs-waits n es ≡ false → d 0 ≡ 0 → Schedule (members es) d t → (v : ℕ) → v < n → cell (start-times n (serialized n es) d) v ≤ t v
+  plan-least-unwaited {d} {t} h d0 s = plan-least d0 (subst (λ (l : List Edge). Schedule (members l) d t) (sym (serialized-none (well .shape) h)) s)
+
+  -- And none that keep a well-posed extension do: it keeps the waits already.
+  pub plan-least-rival : {F : Graph} {d t : ℕ → ℕ} → members es ⊑ F → Shape n F → WellPosed F → d 0 ≡ 0 → Schedule F d t → (v : ℕ) → v < n → cell (start-times n (serialized n es) d) v ≤ t v
+  plan-least-rival above shape posed d0 s = plan-least d0 (rival-keeps (serialized-waited (well .shape)) above shape posed s)
+
+  -- The largest term over the deciding members is the start.
+  pub plan-enough : (d : ℕ → ℕ) → d 0 ≡ 0 → (v : ℕ) → v < n → cell (start-times n (serialized n es) d) v ≡ largest (λ a. decides n (serialized n es) a v) (λ a. cell (start-times n (serialized n es) d) a + d a + offset n (serialized n es) a v) n
+  plan-enough = deciding-enough plan-well plan-posed
+
+  -- With the limits of a sheet.
+  module _ (gains : Gains (members es) 65535) (few : n ≤ 64) where
+    pub plan-offset-limit : (a v : ℕ) → v < n → InAnchorSet (members (serialized n es)) a v → offset n (serialized n es) a v ≤ 4128705
+    plan-offset-limit = offset-limit plan-well plan-posed (waited-gains (serialized-waited (well .shape)) gains) few
+
+    pub plan-start-limit : (d : ℕ → ℕ) → d 0 ≡ 0 → ((a : ℕ) → a < n → d a ≤ 16777215) → (v : ℕ) → v < n → cell (start-times n (serialized n es) d) v ≤ n * 20905920
+    plan-start-limit d d0 short =
+        relative-small
+        (plan-well .shape)
+        (λ a w. plan-well .acyclic a (chain-after w))
+        (plan-relative d d0)
+        20905920
+        (λ a v b i. omega (arith, short a (member-below (plan-well .shape) b i), plan-offset-limit a v b i))
+
+    pub plan-start-limit-64 : (d : ℕ → ℕ) → d 0 ≡ 0 → ((a : ℕ) → a < n → d a ≤ 16777215) → (v : ℕ) → v < n → cell (start-times n (serialized n es) d) v ≤ 1337978880
+    plan-start-limit-64 d d0 short v b = omega (arith, plan-start-limit d d0 short v b, mul-le-mul-right 20905920 few)
+
+    -- No deciding member can be left out: the delays that show it are within the limit.
+    pub plan-strict : (a v : ℕ) → v < n → decides n (serialized n es) a v ≡ true → (b : ℕ) → b ≢ a → InAnchorSet (members (serialized n es)) b v → cell (start-times n (serialized n es) (pulse 16777215 a)) b + pulse 16777215 a b + offset n (serialized n es) b v < cell (start-times n (serialized n es) (pulse 16777215 a)) a + pulse 16777215 a a + offset n (serialized n es) a v
+    plan-strict = deciding-strict plan-well plan-posed 4128705 plan-offset-limit 16777215 (omega arith)
+
+    pub plan-needed : (P : ℕ → Type 0) (a v : ℕ) → v < n → ((b : ℕ) → P b → InAnchorSet (members (serialized n es)) b v) → ((b : ℕ) × P b × (cell (start-times n (serialized n es) (pulse 16777215 a)) v ≡ cell (start-times n (serialized n es) (pulse 16777215 a)) b + pulse 16777215 a b + offset n (serialized n es) b v)) → decides n (serialized n es) a v ≡ true → P a
+    plan-needed = deciding-needed plan-well plan-posed 4128705 plan-offset-limit 16777215 (omega arith)
+
+    pub plan-deciding-least : (part : ℕ → Bool) (a v : ℕ) → v < n → ((b : ℕ) → part b ≡ true → in-anchor-set n (serialized n es) b v ≡ true) → any-below part n ≡ true → cell (start-times n (serialized n es) (pulse 16777215 a)) v ≡ largest part (λ b. cell (start-times n (serialized n es) (pulse 16777215 a)) b + pulse 16777215 a b + offset n (serialized n es) b v) n → decides n (serialized n es) a v ≡ true → part a ≡ true
+    plan-deciding-least = deciding-least plan-well plan-posed 4128705 plan-offset-limit 16777215 (omega arith)
