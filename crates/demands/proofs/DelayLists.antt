@@ -1,5 +1,5 @@
 -- Lists of durations: what refusal 13 leaves, and lists made of given delays.
-use mathlib.Core.Path.{_≡_, refl, sym, ap, subst, _∙_}
+use mathlib.Core.Path.{_≡_, refl, sym, ap, fun-ext, _∙_}
 use mathlib.Core.Bool.{Bool, true, false, _&&_}
 use mathlib.Core.Logic.{_⊎_, inl, inr, _≢_}
 use mathlib.Core.List.{List, [], _∷_}
@@ -17,11 +17,10 @@ use Rattle.definitions.specs.Answers.{count-of}
 use Rattle.definitions.specs.declared.Delay.{Delay}
 use Rattle.definitions.specs.declared.Delay.the-variants.{Open, Fixed}
 use Rattle.definitions.specs.declared.Operation.{Operation}
-use Rattle.laws.proofs.Bools.{bool-cases, and-split, and-join, both-ways, not-passing}
+use Rattle.laws.proofs.Bools.{bool-cases, and-split, and-join, both-ways, not-passing, same-or-not}
 use Rattle.laws.proofs.Tests.{any-below-none, none-any-below, tabulate-length, tabulate-at, tabulate-past}
-use Rattle.theory.specs.Graphs.{lasting}
-use Rattle.theory.proofs.Feasibility.{lasting-at, lasting-other}
-use Rattle.laws.proofs.Bools.{same-or-not}
+use Rattle.theory.specs.Graphs.{lasting, pulse}
+use Rattle.theory.proofs.DecidingSets.{pulse-source, pulse-none, pulse-limit}
 use Rattle.demands.specs.Demands.{IsDelayList}
 
 -- A list is not refused exactly if each of its first entries is within its step's limit; an entry that is not there is 0.
@@ -63,38 +62,36 @@ limit-open (suc i) (Fixed t) z e = let c : _≡_ {A = ℕ} 0 1 = cc in absurd (o
 pub source-zero : (os : List Operation) (list : List ℕ) → 1 ≤ length os → delays-wrong os list ≡ false → delays list 0 ≡ 0
 source-zero os list some h = omega (arith, list-within os list h 0 some, limit-source (delay-at os 0))
 
--- The list in which the open step a takes the longest time, and every other none.
+-- The list in which the open step a takes the longest time, and every other none; for a = 0, none takes any.
 abbrev pub pulse-list : ℕ → ℕ → List ℕ
-pulse-list n a = tabulate (lasting a 16777215) n
+pulse-list n a = tabulate (pulse 16777215 a) n
 
-pub pulse-delays : (n a i : ℕ) → a < n → delays (pulse-list n a) i ≡ lasting a 16777215 i
-pulse-delays n a i h = go (decLt i n)
+pub pulse-delays : (n a : ℕ) → a < n → delays (pulse-list n a) ≡ pulse 16777215 a
+pulse-delays n a h = fun-ext (λ i. go i (decLt i n))
   where
-    go : Dec (i < n) → delays (pulse-list n a) i ≡ lasting a 16777215 i
-    go (yes c) = tabulate-at (lasting a 16777215) n i 0 c
-    go (no c) = tabulate-past (lasting a 16777215) n i 0 (omega arith) ∙ sym (lasting-other a 16777215 i (λ e. omega arith))
+    go : (i : ℕ) → Dec (i < n) → delays (pulse-list n a) i ≡ pulse 16777215 a i
+    go i (yes c) = tabulate-at (pulse 16777215 a) n i 0 c
+    go i (no c) = tabulate-past (pulse 16777215 a) n i 0 (omega arith) ∙ sym (pulse-none 16777215 a i (λ e. omega arith))
 
-pub pulse-allowed : (q : Records) (a : ℕ) → a < count-of q → a ≢ 0 → delay-at (q .steps) a ≡ Open → IsDelayList q (pulse-list (count-of q) a)
-pulse-allowed q a b z h = record { size = tabulate-length (lasting a 16777215) (count-of q); within = within-list (q .steps) (pulse-list (count-of q) a) (λ i c. go i (same-or-not i a)) }
+pub pulse-allowed : (q : Records) (a : ℕ) → a < count-of q → (a ≡ 0) ⊎ (delay-at (q .steps) a ≡ Open) → IsDelayList q (pulse-list (count-of q) a)
+pulse-allowed q a b lasts = record { size = tabulate-length (pulse 16777215 a) (count-of q); within = within-list (q .steps) (pulse-list (count-of q) a) (λ i c. go i (same-or-not i a) (same-or-not a 0) lasts) }
   where
-    go : (i : ℕ) → (i ≡ a) ⊎ (i ≢ a) → delays (pulse-list (count-of q) a) i ≤ delay-limit i (delay-at (q .steps) i)
-    go i (inl e) =
-        omega (arith, pulse-delays (count-of q) a i b, ap (lasting a 16777215) e, lasting-at a 16777215, limit-open i (delay-at (q .steps) i) (λ y. z (sym e ∙ y)) (ap (delay-at (q .steps)) e ∙ h))
-    go i (inr e) = omega (arith, pulse-delays (count-of q) a i b, lasting-other a 16777215 i e)
+    at : (i : ℕ) → delays (pulse-list (count-of q) a) i ≡ pulse 16777215 a i
+    at i = ap (λ (d : ℕ → ℕ). d i) (pulse-delays (count-of q) a b)
 
--- The list in which nothing takes any time.
-abbrev pub nothing : ℕ → ℕ
-nothing i = 0
+    go : (i : ℕ) → (i ≡ a) ⊎ (i ≢ a) → (a ≡ 0) ⊎ (a ≢ 0) → (a ≡ 0) ⊎ (delay-at (q .steps) a ≡ Open) → delays (pulse-list (count-of q) a) i ≤ delay-limit i (delay-at (q .steps) i)
+    go i (inr e) z h = omega (arith, at i, pulse-none 16777215 a i e)
+    go i (inl e) (inl z) h = omega (arith, at i, ap (pulse 16777215 a) (e ∙ z), pulse-source 16777215 a)
+    go i (inl e) (inr z) (inl h) = absurd (z h)
+    go i (inl e) (inr z) (inr h) =
+        omega (arith, at i, pulse-limit 16777215 a i, limit-open i (delay-at (q .steps) i) (λ y. z (sym e ∙ y)) (ap (delay-at (q .steps)) e ∙ h))
 
-abbrev pub zero-list : ℕ → List ℕ
-zero-list n = tabulate nothing n
+-- For an open step these are the delays in which it alone lasts.
+pub pulse-lasting : (x a : ℕ) → a ≢ 0 → pulse x a ≡ lasting a x
+unfolding pulse
+pulse-lasting x zero z = absurd (z refl)
+pulse-lasting x (suc a) z = refl
 
-pub zero-delays : (n i : ℕ) → delays (zero-list n) i ≡ 0
-zero-delays n i = go (decLt i n)
-  where
-    go : Dec (i < n) → delays (zero-list n) i ≡ 0
-    go (yes c) = tabulate-at nothing n i 0 c
-    go (no c) = tabulate-past nothing n i 0 (omega arith)
-
-pub zero-allowed : (q : Records) → IsDelayList q (zero-list (count-of q))
-zero-allowed q = record { size = tabulate-length nothing (count-of q); within = within-list (q .steps) (zero-list (count-of q)) (λ i c. omega (arith, zero-delays (count-of q) i)) }
+pub pulse-zero : (x : ℕ) → pulse x 0 ≡ (λ a. 0)
+unfolding pulse
+pulse-zero x = refl

@@ -6,3 +6,4 @@ pub mod Sums
 pub mod Listing
 pub mod DelayLists
 pub mod Calls
+pub mod Sheets

@@ -231,8 +231,9 @@ StartRule = (s : List ℕ) (allow : Bool) (q : Records) (v : ℕ) → Accepted s
 
 -- ## Demand 2: deciding sets
 
--- A part of the start set of v that gives the same largest value for every list.
+-- A part of the start set of v that gives the same largest value for every list. A part with no member has no largest value.
 pub record GivesStart (q : Records) (v : ℕ) (part : ℕ → Bool) : Type 0 where
+  pub some : (a : ℕ) × (part a ≡ true)
   pub within : (a : ℕ) → part a ≡ true → in-start-set q a v ≡ true
   pub same : (list : List ℕ) → IsDelayList q list → our-start q (delays list) v ≡ largest part (term q (delays list) v) (count-of q)
 
