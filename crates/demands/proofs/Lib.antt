@@ -7,3 +7,4 @@ pub mod Listing
 pub mod DelayLists
 pub mod Calls
 pub mod Sheets
+pub mod Impossibility
