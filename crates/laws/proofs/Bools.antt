@@ -1,6 +1,6 @@
 -- Truth values: their two cases, and what a conjunction, a disjunction and a negation say.
-use mathlib.Core.Path.{_≡_, refl, sym, _∙_}
-use mathlib.Core.Bool.{Bool, true, false, not, _&&_, _||_, true≢false, false≢true}
+use mathlib.Core.Path.{_≡_, refl, sym, ap, _∙_}
+use mathlib.Core.Bool.{Bool, true, false, cond, not, _&&_, _||_, true≢false, false≢true}
 use mathlib.Core.Logic.{_⊎_, inl, inr, _≢_, _↔_}
 use Prim.Native.Nat.{ℕ}
 use native.Mathlib.Decide.{ℕ-discrete}
@@ -41,14 +41,17 @@ pub or-right : (a : Bool) {b : Bool} → b ≡ true → (a || b) ≡ true
 or-right true h = refl
 or-right false h = h
 
--- A test that cannot pass fails, and one that cannot fail passes.
+-- A test that cannot pass fails.
 pub not-passing : (b : Bool) → b ≢ true → b ≡ false
 not-passing true h = absurd (h refl)
 not-passing false h = refl
 
-pub not-failing : (b : Bool) → b ≢ false → b ≡ true
-not-failing true h = refl
-not-failing false h = absurd (h refl)
+-- A choice by a test whose value is known.
+pub cond-true : {A : Type 0} {b : Bool} (x y : A) → b ≡ true → cond b x y ≡ x
+cond-true x y h = ap (λ b. cond b x y) h
+
+pub cond-false : {A : Type 0} {b : Bool} (x y : A) → b ≡ false → cond b x y ≡ y
+cond-false x y h = ap (λ b. cond b x y) h
 
 -- Two tests that pass for the same reasons are equal.
 pub same-test : (a b : Bool) → (a ≡ true → b ≡ true) → (b ≡ true → a ≡ true) → a ≡ b

@@ -13,7 +13,7 @@ use lib.Pow.{pow-pos, pow-mono, pow-add, high}
 use lib.Seq.{getD-append-add}
 use borrow.Author.Tests.{lt-ltb, le-ltb}
 use Rattle.definitions.specs.Basics.{any, all, any-below, all-below, tabulate, select-below, largest, test-bit, bits-below}
-use Rattle.laws.proofs.Bools.{bool-cases, same-or-not, both-ways, and-split, and-join, or-split, or-left, or-right, not-passing}
+use Rattle.laws.proofs.Bools.{bool-cases, same-or-not, both-ways, and-split, and-join, or-split, or-left, or-right, not-passing, cond-true, cond-false}
 
 -- Some element passes. Induction on the list.
 module _ {A : Type 0} (test : A → Bool) where
@@ -198,12 +198,6 @@ mem-tabulate {A} f (suc n) {x} m = go (List·Memᴰ·append-cases (tabulate f n)
     go (inr i) below = (n, omega arith, List·Memᴰ·eq-of-singleton i)
 
 -- The largest value: no passing number has a larger one, and one has it, or it is 0.
-cond-true : {b : Bool} (x y : ℕ) → b ≡ true → cond b x y ≡ x
-cond-true x y h = ap (λ b. cond b x y) h
-
-cond-false : {b : Bool} (x y : ℕ) → b ≡ false → cond b x y ≡ y
-cond-false x y h = ap (λ b. cond b x y) h
-
 pub largest-above : (test : ℕ → Bool) (f : ℕ → ℕ) (n k : ℕ) → k < n → test k ≡ true → f k ≤ largest test f n
 unfolding largest
 largest-above test f zero k b h = omega arith

@@ -24,6 +24,7 @@ behind-more R trans l v a h r z m = go (List·Memᴰ·cases-cons m)
     go (inl e) = subst (λ (w : ℕ). R a w) (sym e) r
     go (inr i) = trans a v z r (h z i)
 
+-- Induction along a transitive relation with no circle on the numbers below n: what stands before v is new to the list of all that stand behind, and n numbers can be new.
 module _ (n : ℕ) (R : ℕ → ℕ → Type 0) (trans : (a b c : ℕ) → R a b → R b c → R a c) (never : (a : ℕ) → ¬ R a a) (P : ℕ → Type 0) (each : (v : ℕ) → v < n → ((a : ℕ) → a < n → R a v → P a) → P v) where
   induct-below : (fuel : ℕ) (l : List ℕ) (v : ℕ) → v < n → free n l ≤ fuel → Behind R l v → P v
   induct-below zero l v b f h = absurd (omega (arith, free-take n v l b (behind-new R never l v h)))

@@ -1,9 +1,9 @@
 -- Deciding sets, on a well-posed list of edges: the executable tests are the relations, the start times are the largest terms of the deciding members, and none of these can be left out.
-use mathlib.Core.Path.{_∙_, _≡_, ap, refl, subst}
+use mathlib.Core.Path.{_∙_, _≡_, ap, subst}
 use mathlib.Core.Bool.{Bool, _&&_, not, true}
 use mathlib.Core.Logic.{_↔_, _≢_, _⊎_, inl, inr}
 use mathlib.Core.List.{List}
-use Prim.Native.Nat.{_+_, _<_, _≤_, suc, zero, ℕ}
+use Prim.Native.Nat.{_+_, _<_, _≤_, ℕ}
 use native.Mathlib.Omega.{arith}
 use lib.Dec.{eqb, leb}
 use borrow.Author.Tests.{eqb-false, le-leb, leb-true, ne-eqb, not-true}
@@ -14,10 +14,10 @@ use Rattle.definitions.specs.Plan.{decides, offset, overrides, start-times}
 use Rattle.definitions.specs.Rounds.{cell}
 use Rattle.laws.proofs.Bools.{and-join, and-split, both-ways, not-passing, same-or-not}
 use Rattle.laws.proofs.Tests.{any-below-has, any-below-none, largest-above, largest-attained, largest-below, none-any-below}
-use Rattle.theory.specs.Graphs.{Acyclic, Decides, Overrides, Relative, RelativeOn, Shape, Well, pulse}
-use Rattle.theory.proofs.Feasibility.{lasting-at, lasting-other}
+use Rattle.theory.specs.Graphs.{Acyclic, Decides, Overrides, Relative, RelativeOn, Shape, Well, sole-delay}
 use Rattle.theory.proofs.Irredundance.{deciding-attains, offset-triangle, strictly-largest}
 use Rattle.theory.proofs.Reachability.{dec-member, in-anchor-set-iff}
+use Rattle.theory.proofs.SoleDelays.{sole-delay-other, sole-delay-own, sole-delay-source}
 use Rattle.theory.proofs.StartTimes.{relative-all, start-times-relative}
 use Rattle.theory.proofs.Walks.{after-trans, chain-after, member-below}
 
@@ -26,12 +26,6 @@ module _ {n : ℕ} {es : List Edge} (shape : Shape n (members es)) where
   unfolding overrides
   overrides-iff a v b = (found, test)
     where
-      other : Bool
-      other = not (eqb b a)
-
-      reached : Bool
-      reached = leb (offset n es a v) (offset n es a b + offset n es b v)
-
       found : (not (eqb b a) && in-anchor-set n es b v && in-anchor-set n es a b && leb (offset n es a v) (offset n es a b + offset n es b v)) ≡ true → Overrides (members es) (offset n es) a v b
       found h =
           let r = and-split (not (eqb b a) && in-anchor-set n es b v && in-anchor-set n es a b) (leb (offset n es a v) (offset n es a b + offset n es b v)) h in
@@ -82,33 +76,9 @@ module _ {n : ℕ} {es : List Edge} (well : Well n (members es)) (posed : WellPo
       rel : RelativeOn n (members es) (λ a. members (usable es a)) d (cell (start-times n es d)) (offset n es)
       rel = start-times-relative well posed d d0
 
--- The delays that show one step.
-pub pulse-source : (x a : ℕ) → pulse x a 0 ≡ 0
-unfolding pulse
-pulse-source x zero = refl
-pulse-source x (suc a) = lasting-other (suc a) x 0 (omega arith)
-
-pub pulse-long : (x a : ℕ) → a ≢ 0 → pulse x a a ≡ x
-unfolding pulse
-pulse-long x zero h = absurd (h refl)
-pulse-long x (suc a) h = lasting-at (suc a) x
-
-pub pulse-none : (x a b : ℕ) → b ≢ a → pulse x a b ≡ 0
-unfolding pulse
-pulse-none x zero b h = refl
-pulse-none x (suc a) b h = lasting-other (suc a) x b h
-
-pub pulse-limit : (x a b : ℕ) → pulse x a b ≤ x
-pulse-limit x a b = go (same-or-not b a) (same-or-not a 0)
-  where
-    go : (b ≡ a) ⊎ (b ≢ a) → (a ≡ 0) ⊎ (a ≢ 0) → pulse x a b ≤ x
-    go (inr h) z = omega (arith, pulse-none x a b h)
-    go (inl h) (inl z) = omega (arith, ap (pulse x a) (h ∙ z), pulse-source x a)
-    go (inl h) (inr z) = omega (arith, ap (pulse x a) h, pulse-long x a z)
-
 -- Needed: where a lasts x, more than twice what any offset is, its term alone is the largest.
 module _ {n : ℕ} {es : List Edge} (well : Well n (members es)) (posed : WellPosed (members es)) (limit : ℕ) (small : (a v : ℕ) → v < n → InAnchorSet (members es) a v → offset n es a v ≤ limit) (x : ℕ) (long : limit + limit < x) where
-  pub deciding-strict : (a v : ℕ) → v < n → decides n es a v ≡ true → (b : ℕ) → b ≢ a → InAnchorSet (members es) b v → cell (start-times n es (pulse x a)) b + pulse x a b + offset n es b v < cell (start-times n es (pulse x a)) a + pulse x a a + offset n es a v
+  pub deciding-strict : (a v : ℕ) → v < n → decides n es a v ≡ true → (b : ℕ) → b ≢ a → InAnchorSet (members es) b v → cell (start-times n es (sole-delay x a)) b + sole-delay x a b + offset n es b v < cell (start-times n es (sole-delay x a)) a + sole-delay x a a + offset n es a v
   deciding-strict a v b D =
       strictly-largest
       (well .shape)
@@ -118,15 +88,15 @@ module _ {n : ℕ} {es : List Edge} (well : Well n (members es)) (posed : WellPo
       b
       (decides-iff (well .shape) a v b .0 D)
       limit
-      (λ z. omega (arith, pulse-long x a z))
-      (pulse-none x a)
+      (λ z. omega (arith, sole-delay-own x a z))
+      (sole-delay-other x a)
       small
     where
-      rel : Relative n (members es) (pulse x a) (cell (start-times n es (pulse x a))) (offset n es)
-      rel = relative-all (start-times-relative well posed (pulse x a) (pulse-source x a))
+      rel : Relative n (members es) (sole-delay x a) (cell (start-times n es (sole-delay x a))) (offset n es)
+      rel = relative-all (start-times-relative well posed (sole-delay x a) (sole-delay-source x a))
 
   -- So every part P of the anchor set that has the start among its terms, for the delays that show a, contains a.
-  pub deciding-needed : (P : ℕ → Type 0) (a v : ℕ) → v < n → ((b : ℕ) → P b → InAnchorSet (members es) b v) → ((b : ℕ) × P b × (cell (start-times n es (pulse x a)) v ≡ cell (start-times n es (pulse x a)) b + pulse x a b + offset n es b v)) → decides n es a v ≡ true → P a
+  pub deciding-needed : (P : ℕ → Type 0) (a v : ℕ) → v < n → ((b : ℕ) → P b → InAnchorSet (members es) b v) → ((b : ℕ) × P b × (cell (start-times n es (sole-delay x a)) v ≡ cell (start-times n es (sole-delay x a)) b + sole-delay x a b + offset n es b v)) → decides n es a v ≡ true → P a
   deciding-needed P a v h part r D = go (same-or-not (r .0) a)
     where
       go : (r .0 ≡ a) ⊎ (r .0 ≢ a) → P a
@@ -137,18 +107,18 @@ module _ {n : ℕ} {es : List Edge} (well : Well n (members es)) (posed : WellPo
             arith,
             r .2,
             deciding-strict a v h D (r .0) e (part (r .0) (r .1)),
-            start-times-relative well posed (pulse x a) (pulse-source x a) .above a v h (decides-iff (well .shape) a v h .0 D .inside),
+            start-times-relative well posed (sole-delay x a) (sole-delay-source x a) .above a v h (decides-iff (well .shape) a v h .0 D .inside),
           ))
 
   -- The same for a part given by a test, with the largest of its terms. A part with no member has no largest term.
-  pub deciding-least : (part : ℕ → Bool) (a v : ℕ) → v < n → ((b : ℕ) → part b ≡ true → in-anchor-set n es b v ≡ true) → any-below part n ≡ true → cell (start-times n es (pulse x a)) v ≡ largest part (λ b. cell (start-times n es (pulse x a)) b + pulse x a b + offset n es b v) n → decides n es a v ≡ true → part a ≡ true
+  pub deciding-least : (part : ℕ → Bool) (a v : ℕ) → v < n → ((b : ℕ) → part b ≡ true → in-anchor-set n es b v ≡ true) → any-below part n ≡ true → cell (start-times n es (sole-delay x a)) v ≡ largest part (λ b. cell (start-times n es (sole-delay x a)) b + sole-delay x a b + offset n es b v) n → decides n es a v ≡ true → part a ≡ true
   deciding-least part a v h inside some same =
       deciding-needed (λ b. part b ≡ true) a v h (λ b i. in-anchor-set-iff (well .shape) b v .0 (inside b i)) (attained (largest-attained part value n))
     where
       value : ℕ → ℕ
-      value b = cell (start-times n es (pulse x a)) b + pulse x a b + offset n es b v
+      value b = cell (start-times n es (sole-delay x a)) b + sole-delay x a b + offset n es b v
 
-      attained : (largest part value n ≡ 0) ⊎ ((b : ℕ) × (b < n) × (part b ≡ true) × (largest part value n ≡ value b)) → (b : ℕ) × (part b ≡ true) × (cell (start-times n es (pulse x a)) v ≡ value b)
+      attained : (largest part value n ≡ 0) ⊎ ((b : ℕ) × (b < n) × (part b ≡ true) × (largest part value n ≡ value b)) → (b : ℕ) × (part b ≡ true) × (cell (start-times n es (sole-delay x a)) v ≡ value b)
       attained (inr r) = (r .0, r .2, same ∙ r .3)
       attained (inl e) =
           let r = any-below-has part n some in

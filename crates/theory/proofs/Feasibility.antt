@@ -1,37 +1,28 @@
 -- When start times exist. With all delays 0: exactly if the row of the source is stable after n rounds. For every list of delays: exactly if, besides, no walk from the end of a step comes back to it.
 use mathlib.Core.Path.{_∙_, _≡_, ap, refl, sym}
 use mathlib.Core.Bool.{Bool, cond, false, true}
-use mathlib.Core.Logic.{_↔_, _≢_}
+use mathlib.Core.Logic.{_↔_}
 use mathlib.Core.List.{List, List·Memᴰ}
 use Prim.Native.Nat.{_*_, _+_, _-_, _<_, _≤_, suc, zero, ℕ}
 use native.Mathlib.Omega.{arith}
 use native.Mathlib.Nat.{mul-le-mul-right, suc-mul}
-use lib.Dec.{leb}
-use borrow.Author.Tests.{eq-eqb, le-leb, leb-true, ne-eqb}
 use Rattle.definitions.specs.Anchors.{is-source}
 use Rattle.definitions.specs.Basics.{all-below, any}
 use Rattle.definitions.specs.Links.{After, AfterWalk, Edge, Graph, Walk, forwards, members, step, stop}
 use Rattle.definitions.specs.Plan.{Span, after, source}
-use Rattle.definitions.specs.Rounds.{after-reaches, cell, extend, offer, reaches, rounds, source-row, stable}
+use Rattle.definitions.specs.Rounds.{after-reaches, cell, extend, reaches, rounds, source-row, stable}
 use Rattle.laws.proofs.Bools.{both-ways, not-passing}
-use Rattle.laws.proofs.Tests.{all-below-by, all-below-each, all-by, all-each, any-none, none-any}
-use Rattle.theory.specs.Graphs.{ForwardAcyclic, KeepsEdge, Losses, NonPositive, Rooted, Schedule, Shape, Well, lasting}
+use Rattle.laws.proofs.Tests.{all-below-by, all-below-each, any-none, none-any}
+use Rattle.theory.specs.Graphs.{ForwardAcyclic, KeepsEdge, Losses, NonPositive, Rooted, Schedule, Shape, Well, sole-delay}
 use Rattle.theory.proofs.FirstRows.{source-start}
 use Rattle.theory.proofs.Pigeonhole.{brief, walk-loss}
 use Rattle.theory.proofs.Reachability.{after-reaches-iff, forwards-mem, forwards-shape, joined-reaches, mem-forwards, reaches-joined}
-use Rattle.theory.proofs.Relaxation.{Covers, Grounded, Stable, Start, covers-up, fixpoint-stable, grounded, rounds-fixed, rounds-length, rounds-offset, rounds-rise, stable-walk}
+use Rattle.theory.proofs.Relaxation.{Covers, Grounded, Stable, Start, covers-up, fixpoint-stable, grounded, rounds-fixed, rounds-length, rounds-offset, rounds-rise, stable-iff, stable-walk}
 use Rattle.theory.proofs.Serialization.{schedule-nonpositive}
-use Rattle.theory.proofs.Walks.{after-bound, after-start-below, delay-counted, delay-uncounted, joined-mono, walk-from, walk-mono, walk-to}
+use Rattle.theory.proofs.SoleDelays.{sole-delay-own}
+use Rattle.theory.proofs.Walks.{after-bound, after-start-below, joined-mono, walk-from, walk-mono, walk-to}
 
--- A stable row says of each edge what start times must keep; its cells less 1 are such times.
-pub stable-iff : (es : List Edge) (row : List ℕ) → (stable es row ≡ true) ↔ Stable es row
-unfolding stable
-stable-iff es row =
-    (
-      λ h e m. leb-true (offer row e) (cell row (e .to)) (all-each (λ x. leb (offer row x) (cell row (x .to))) es h e m),
-      λ st. all-by (λ x. leb (offer row x) (cell row (x .to))) es (λ e m. le-leb (offer row e) (cell row (e .to)) (st e m)),
-    )
-
+-- A stable row says of each edge what start times must keep: its cells less 1 are such times.
 extend-keeps : (r s g l : ℕ) → 1 ≤ r → extend r g l ≤ s → r - 1 + g ≤ s - 1 + l
 unfolding extend
 extend-keeps zero s g l h k = omega arith
@@ -102,11 +93,10 @@ module _ {n : ℕ} {es : List Edge} (some : 0 < n) (shape : Shape n (members es)
   stable-nonpositive-iff = (λ h. record { closed = λ w. closed-in (stable-iff es settled .0 h) w refl }, λ never. stable-iff es settled .1 (nonpositive-stable never))
 
   pub stable-schedule-iff : (stable es settled ≡ true) ↔ ((t : ℕ → ℕ) × Schedule (members es) (λ v. 0) t)
-  stable-schedule-iff =
-      (
-        λ h. ((λ v. cell settled v - 1), zero-delay-schedule (stable-nonpositive-iff .0 h)),
-        λ r. stable-nonpositive-iff .1 (schedule-nonpositive (r .1)),
-      )
+  stable-schedule-iff = (
+    λ h. ((λ v. cell settled v - 1), zero-delay-schedule (stable-nonpositive-iff .0 h)),
+    λ r. stable-nonpositive-iff .1 (schedule-nonpositive (r .1)),
+  )
 
   -- A graph that passes the tests for 10 and 11 can be scheduled.
   pub well-by : stable es settled ≡ true → ((a : ℕ) → a < n → after-reaches n es a a ≡ false) → Well n (members es)
@@ -115,11 +105,10 @@ module _ {n : ℕ} {es : List Edge} (some : 0 < n) (shape : Shape n (members es)
 
 -- Every step has a chain from step 0, as a test.
 pub rooted-iff : {n : ℕ} {es : List Edge} → 0 < n → Shape n (members es) → (all-below (reaches n (forwards es) 0) n ≡ true) ↔ Rooted n (members es)
-rooted-iff {n} {es} some shape =
-    (
-      λ h v b. joined-mono (mem-forwards es) (reaches-joined (forwards-shape shape) some v (all-below-each (reaches n (forwards es) 0) n h v b)),
-      λ rooted. all-below-by (reaches n (forwards es) 0) n (λ v b. joined-reaches (forwards-shape shape) some (joined-mono (forwards-mem es) (rooted v b))),
-    )
+rooted-iff {n} {es} some shape = (
+  λ h v b. joined-mono (mem-forwards es) (reaches-joined (forwards-shape shape) some v (all-below-each (reaches n (forwards es) 0) n h v b)),
+  λ rooted. all-below-by (reaches n (forwards es) 0) n (λ v b. joined-reaches (forwards-shape shape) some (joined-mono (forwards-mem es) (rooted v b))),
+)
 
 -- Forward edges close no circle, as a test: from no forward edge's end a chain leads back to its start.
 pub forward-acyclic-iff : {n : ℕ} {es : List Edge} → Shape n (members es) → (any (λ e. reaches n (forwards es) (e .to) (e .from)) (forwards es) ≡ false) ↔ ForwardAcyclic (members es)
@@ -150,15 +139,6 @@ forward-acyclic-iff {n} {es} shape = (acyclic, test)
         let J = reaches-joined (forwards-shape shape) (forwards-shape shape .to-below e m) (e .from) t in
         once (e .to) (J .k) _ _ (walk-mono (mem-forwards es) (step (J .walk) e m refl refl refl refl refl))))
 
--- The delays of one step.
-pub lasting-at : (a x : ℕ) → lasting a x a ≡ x
-unfolding lasting
-lasting-at a x = delay-counted x (eq-eqb a a refl)
-
-pub lasting-other : (a x v : ℕ) → v ≢ a → lasting a x v ≡ 0
-unfolding lasting
-lasting-other a x v h = delay-uncounted x (ne-eqb v a h)
-
 -- Refusal 11. A closed walk that begins with a counted edge out of a is cut to at most n edges. It loses at most n times the largest loss, and so no start times let a last longer than that.
 pub closed-after-unschedulable : {n l a : ℕ} {E : Graph} {d t : ℕ → ℕ} → Shape n E → Losses E l → After E a a → n * l < d a → ¬ Schedule E d t
 closed-after-unschedulable {n} {l} {a} {E} shape losses w h s =
@@ -174,5 +154,5 @@ closed-after-unschedulable {n} {l} {a} {E} shape losses w h s =
       mul-le-mul-right l (b .few),
     )
 
-pub closed-after-64 : {n a : ℕ} {E : Graph} {t : ℕ → ℕ} → Shape n E → n ≤ 64 → Losses E 65535 → After E a a → ¬ Schedule E (lasting a 16777215) t
-closed-after-64 {n} {a} shape few losses w = closed-after-unschedulable shape losses w (omega (arith, lasting-at a 16777215, mul-le-mul-right 65535 few))
+pub closed-after-64 : {n a : ℕ} {E : Graph} {t : ℕ → ℕ} → Shape n E → n ≤ 64 → Losses E 65535 → After E a a → ¬ Schedule E (sole-delay 16777215 a) t
+closed-after-64 {n} {a} shape few losses w = closed-after-unschedulable shape losses w (omega (arith, sole-delay-own 16777215 a (w .walk .not-source), mul-le-mul-right 65535 few))

@@ -26,6 +26,7 @@ zeros-length n = length-replicate {A = ℕ} n 0
 zeros-under : (E : Graph) (a n : ℕ) → Under E a (replicate n 0)
 zeros-under E a n v o h = absurd (omega (arith, zeros-at n v))
 
+-- The source's row.
 pub source-start : {n : ℕ} {es : List Edge} → Shape n (members es) → 0 < n → Grounded n (members es) 0 → Start es 0 (source-row n 0)
 unfolding source-row
 source-start {n} {es} shape b G =
@@ -46,7 +47,7 @@ pub seed-counted : (a : ℕ) (e : Edge) → e .counted ≡ true → e .from ≡ 
 unfolding seed
 seed-counted a e c f = seed-on (e .counted) (eqb (e .from) a) (suc (e .gain - e .loss)) c (rw f (eqb-refl a))
 
--- What the seeds leave in a row.
+-- What the seeds leave in a row: each cell is the weight of a counted edge out of a, and each such edge is covered.
 module _ {n : ℕ} {E : Graph} {a : ℕ} (shape : Shape n E) (inside : a ≢ 0) (G : Grounded n E a) where
   seed-reach : (e : Edge) → E e → (o : ℕ) → seed a e ≡ suc o → Reach E a (e .to) o
   unfolding seed
@@ -97,6 +98,7 @@ seeds-hand a (x ∷ es) row h e m = go (List·Memᴰ·cases-cons m) (seeds-hand 
     go (inl i) below = rw i here
     go (inr i) below = below i
 
+-- The row of the counted edges out of a.
 pub after-start : {n : ℕ} {es : List Edge} {a : ℕ} → Shape n (members es) → a ≢ 0 → Grounded n (members es) a → Start es a (after-row n es a)
 unfolding after-row
 after-start {n} {es} {a} shape h G =

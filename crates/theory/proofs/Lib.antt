@@ -1,5 +1,6 @@
 pub mod Walks
 pub mod Pigeonhole
+pub mod SoleDelays
 pub mod RelativeSchedules
 pub mod AnchorOrder
 pub mod Serialization
@@ -13,3 +14,5 @@ pub mod Irredundance
 pub mod StartTimes
 pub mod DecidingSets
 pub mod Plans
+pub mod WaitCounts
+pub mod RowLaws

@@ -16,6 +16,7 @@ use Rattle.theory.proofs.Relaxation.{Grounded, Start, grounded, rounds-
 use Rattle.theory.proofs.WaitLists.{usable-all}
 use Rattle.theory.proofs.Walks.{after-by, after-mono, join, member-below, member-span, walk-from, walk-mono}
 
+-- What holds of the list holds of the edges that walks from the end of a may take.
 pub usable-by : {es : List Edge} (a : ℕ) (P : List Edge → Type 0) → P es → P (usable es a)
 usable-by {es} a P h = subst P (sym (usable-all es a)) h
 

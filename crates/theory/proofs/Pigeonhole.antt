@@ -10,6 +10,7 @@ use Rattle.definitions.specs.Links.{Edge, Graph, Joined, Walk, step, stop}
 use Rattle.theory.specs.Graphs.{Gains, Losses, NonPositive, Shape}
 use Rattle.theory.proofs.Walks.{join, walk-none, walk-to}
 
+-- Whether a number is in a list.
 pub dec-mem : (z : ℕ) (l : List ℕ) → Dec (List·Memᴰ z l)
 dec-mem z [] = no List·Memᴰ·not-nil
 dec-mem z (x ∷ l) = go (ℕ-discrete z x) (dec-mem z l)
@@ -23,6 +24,7 @@ dec-mem z (x ∷ l) = go (ℕ-discrete z x) (dec-mem z l)
         neither (inl h) = e h
         neither (inr h) = m h
 
+-- How many numbers below n a list leaves free. Each new number below n takes one: the pigeonhole principle in the form that an induction uses as fuel.
 tick : {A : Type 0} → Dec A → ℕ
 tick (yes a) = 0
 tick (no a) = 1
@@ -73,7 +75,7 @@ free-take (suc m) z l b h = go (ℕ-discrete m z) (λ c. free-take m z l c h)
         omega (arith, tick-yes (dec-mem m (z ∷ l)) (List·Memᴰ·head e), tick-no (dec-mem m l) (λ i. h (Memᴰ·cast (sym e) i)), free-skip m z l (omega arith))
     go (no e) ih = omega (arith, tick-same (dec-mem m (z ∷ l)) (dec-mem m l) (other e) List·Memᴰ·tail, ih (omega arith))
 
-
+-- A walk through z: the part before it and the part behind it. And one that goes round: a part before, a closed walk of at least one edge, a part behind.
 pub record Split (E : Graph) (x z y k p q : ℕ) : Type 0 where
   pub k₁ : ℕ
   pub p₁ : ℕ
@@ -137,6 +139,7 @@ loop-close {y′ = y′} s e m f o hk hp hq =
     record { z = y′; k₁ = s .k₁; p₁ = s .p₁; q₁ = s .q₁; k₂ = s .k₂; p₂ = s .p₂ + e .gain; q₂ = s .q₂ + e .loss; k₃ = 0; p₃ = 0; q₃ = 0; before = s .before; round = step (s .behind) e m f o refl refl refl; behind = walk-none y′; ks = omega (arith, s .ks); ps = omega (arith, s .ps); qs = omega (arith, s .qs) }
 
 module _ {n : ℕ} {E : Graph} (shape : Shape n E) where
+  -- Either some vertex comes twice, or each of the k + 1 vertices takes a free number. Induction on the walk.
   pub loop-or-free : {x y k p q : ℕ} → x < n → (w : Walk E x y k p q) → Loop E x y k p q ⊎ (suc k + free n (trail w) ≡ n)
   unfolding trail
   loop-or-free {x} {y} b (stop e hk hp hq) = inr (omega (arith, free-take n y [] (omega arith) List·Memᴰ·not-nil, free-none n))
@@ -164,6 +167,7 @@ pub record Short (n : ℕ) (E : Graph) (x y p q : ℕ) : Type 0 where
   pub heavy : p + q₂ ≤ p₂ + q
 
 module _ {n : ℕ} {E : Graph} (shape : Shape n E) (never : NonPositive E) where
+  -- Cut out closed walks, none of which is above 0, until fewer than n edges are left.
   shorten-below : (fuel : ℕ) {x y k p q : ℕ} → k < fuel → x < n → Walk E x y k p q → Short n E x y p q
   shorten-below zero h b w = absurd (omega arith)
   shorten-below (suc fuel) {x} {y} {k} {p} {q} h b w = go (decLt k n) (λ s. shorten-below fuel (omega (arith, s .ks)) b (join (s .before) (s .behind)))

@@ -1,4 +1,4 @@
--- The plan of a sheet with its waits: the theorems above, for the list of edges `serialized n es`.
+-- The plan of a sheet with its waits in: what is proved of well-posed lists of edges, for `serialized n es`.
 use mathlib.Core.Path.{_≡_, subst, sym}
 use mathlib.Core.Bool.{Bool, false, true}
 use mathlib.Core.Logic.{_≢_}
@@ -12,7 +12,7 @@ use Rattle.definitions.specs.Links.{Edge, Graph, _⊑_, members, usable}
 use Rattle.definitions.specs.Plan.{Offset, decides, offset, start-times}
 use Rattle.definitions.specs.Rounds.{cell}
 use Rattle.definitions.specs.Waits.{Wait, needs-waits, serialized}
-use Rattle.theory.specs.Graphs.{ForwardAcyclic, Gains, RelativeOn, Schedule, Shape, Well, pulse}
+use Rattle.theory.specs.Graphs.{ForwardAcyclic, Gains, RelativeOn, Schedule, Shape, Well, sole-delay}
 use Rattle.theory.proofs.AnchorOrder.{least-acyclic}
 use Rattle.theory.proofs.DecidingSets.{deciding-enough, deciding-least, deciding-needed, deciding-strict}
 use Rattle.theory.proofs.Offsets.{offset-found, offset-limit}
@@ -89,11 +89,11 @@ module _ {n : ℕ} {es : List Edge} (well : Well n (members es)) where
     plan-start-limit-64 d d0 short v b = omega (arith, plan-start-limit d d0 short v b, mul-le-mul-right 20905920 few)
 
     -- No deciding member can be left out: the delays that show it are within the limit.
-    pub plan-strict : (a v : ℕ) → v < n → decides n (serialized n es) a v ≡ true → (b : ℕ) → b ≢ a → InAnchorSet (members (serialized n es)) b v → cell (start-times n (serialized n es) (pulse 16777215 a)) b + pulse 16777215 a b + offset n (serialized n es) b v < cell (start-times n (serialized n es) (pulse 16777215 a)) a + pulse 16777215 a a + offset n (serialized n es) a v
+    pub plan-strict : (a v : ℕ) → v < n → decides n (serialized n es) a v ≡ true → (b : ℕ) → b ≢ a → InAnchorSet (members (serialized n es)) b v → cell (start-times n (serialized n es) (sole-delay 16777215 a)) b + sole-delay 16777215 a b + offset n (serialized n es) b v < cell (start-times n (serialized n es) (sole-delay 16777215 a)) a + sole-delay 16777215 a a + offset n (serialized n es) a v
     plan-strict = deciding-strict plan-well plan-posed 4128705 plan-offset-limit 16777215 (omega arith)
 
-    pub plan-needed : (P : ℕ → Type 0) (a v : ℕ) → v < n → ((b : ℕ) → P b → InAnchorSet (members (serialized n es)) b v) → ((b : ℕ) × P b × (cell (start-times n (serialized n es) (pulse 16777215 a)) v ≡ cell (start-times n (serialized n es) (pulse 16777215 a)) b + pulse 16777215 a b + offset n (serialized n es) b v)) → decides n (serialized n es) a v ≡ true → P a
+    pub plan-needed : (P : ℕ → Type 0) (a v : ℕ) → v < n → ((b : ℕ) → P b → InAnchorSet (members (serialized n es)) b v) → ((b : ℕ) × P b × (cell (start-times n (serialized n es) (sole-delay 16777215 a)) v ≡ cell (start-times n (serialized n es) (sole-delay 16777215 a)) b + sole-delay 16777215 a b + offset n (serialized n es) b v)) → decides n (serialized n es) a v ≡ true → P a
     plan-needed = deciding-needed plan-well plan-posed 4128705 plan-offset-limit 16777215 (omega arith)
 
-    pub plan-deciding-least : (part : ℕ → Bool) (a v : ℕ) → v < n → ((b : ℕ) → part b ≡ true → in-anchor-set n (serialized n es) b v ≡ true) → any-below part n ≡ true → cell (start-times n (serialized n es) (pulse 16777215 a)) v ≡ largest part (λ b. cell (start-times n (serialized n es) (pulse 16777215 a)) b + pulse 16777215 a b + offset n (serialized n es) b v) n → decides n (serialized n es) a v ≡ true → part a ≡ true
+    pub plan-deciding-least : (part : ℕ → Bool) (a v : ℕ) → v < n → ((b : ℕ) → part b ≡ true → in-anchor-set n (serialized n es) b v ≡ true) → any-below part n ≡ true → cell (start-times n (serialized n es) (sole-delay 16777215 a)) v ≡ largest part (λ b. cell (start-times n (serialized n es) (sole-delay 16777215 a)) b + sole-delay 16777215 a b + offset n (serialized n es) b v) n → decides n (serialized n es) a v ≡ true → part a ≡ true
     plan-deciding-least = deciding-least plan-well plan-posed 4128705 plan-offset-limit 16777215 (omega arith)

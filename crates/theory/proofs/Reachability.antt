@@ -209,9 +209,6 @@ module _ {n : ℕ} {es : List Edge} (shape : Shape n (members es)) where
           (u .mem)
           (and-join (and-join (u .counts) (eq-eqb (u .edge .from) a (u .leaves))) (joined-reaches (shape .to-below (u .edge) (u .mem)) (record { k = u .k; p = u .g; q = u .l; walk = u .rest }))))
 
-  pub dec-after : (a v : ℕ) → Dec (After (members es) a v)
-  dec-after a v = test-decides (after-reaches-iff a v)
-
 -- Anchor sets: the same on the forward edges.
 module _ {n : ℕ} {es : List Edge} (shape : Shape n (members es)) where
   pub in-anchor-set-iff : (a v : ℕ) → (in-anchor-set n es a v ≡ true) ↔ InAnchorSet (members es) a v

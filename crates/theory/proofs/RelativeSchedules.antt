@@ -7,11 +7,11 @@ use native.Mathlib.Omega.{arith}
 use Rattle.definitions.specs.Anchors.{InAnchorSet, WellPosed, chain, is-source}
 use Rattle.definitions.specs.Links.{After, Edge, Forward, Graph}
 use Rattle.definitions.specs.Plan.{Offset, after}
-use Rattle.laws.proofs.Bools.{bool-cases, same-or-not}
+use Rattle.laws.proofs.Bools.{bool-cases, cond-false, cond-true, same-or-not}
 use Rattle.theory.specs.Graphs.{KeepsEdge, Relative, Schedule, Shape}
-use Rattle.theory.proofs.Walks.{after-edge, delay-counted, delay-uncounted, member-counted, member-edge, span-bound, span-join, walk-edge}
+use Rattle.theory.proofs.Walks.{after-edge, member-counted, member-edge, span-bound, span-join, walk-edge}
 
--- A span from a to the end of an edge, for any span to its start.
+-- Along an edge an offset grows by at least the gain less the loss: the edge makes a walk longer.
 pub offset-edge : {E : Graph} {a o o′ : ℕ} (e : Edge) → E e → Offset E a (e .from) o → Offset E a (e .to) o′ → o + e .gain ≤ o′ + e .loss
 offset-edge e m O O′ = omega (arith, O′ .bound _ _ (span-join (O .span) (walk-edge e m)), O .attained)
 
@@ -36,17 +36,18 @@ module _ {n : ℕ} {E : Graph} {d S : ℕ → ℕ} {off : ℕ → ℕ → ℕ} (
         rel .offsets (e .from) (e .to) (shape .to-below e m) i .bound (e .gain) (e .loss) (after (after-edge e m c h)),
       )
 
-  -- T2.
+  -- By the kind of the edge. An edge that is not counted: the anchor that attains its start is a member at its end too, and its offset grows by at least the gain less the loss.
+  -- A counted edge: its start is itself an anchor of its end.
   pub relative-keeps : Schedule E d S
   relative-keeps = record { starts = rel .starts; keeps = λ e m. by-count e m (bool-cases (e .counted)) }
     where
       at-source : (e : Edge) → E e → e .counted ≡ true → (e .from ≡ 0) ⊎ (e .from ≢ 0) → KeepsEdge d S e
-      at-source e m c (inl h) = omega (arith, keeps-uncounted e m, delay-counted (d (e .from)) c, ap d h, rel .no-wait)
-      at-source e m c (inr h) = omega (arith, keeps-counted e m c h, delay-counted (d (e .from)) c)
+      at-source e m c (inl h) = omega (arith, keeps-uncounted e m, cond-true (d (e .from)) 0 c, ap d h, rel .no-wait)
+      at-source e m c (inr h) = omega (arith, keeps-counted e m c h, cond-true (d (e .from)) 0 c)
 
       by-count : (e : Edge) → E e → (e .counted ≡ true) ⊎ (e .counted ≡ false) → KeepsEdge d S e
       by-count e m (inl c) = at-source e m c (same-or-not (e .from) 0)
-      by-count e m (inr c) = omega (arith, keeps-uncounted e m, delay-uncounted (d (e .from)) c)
+      by-count e m (inr c) = omega (arith, keeps-uncounted e m, cond-false (d (e .from)) 0 c)
 
 -- A member's term is at most any schedule's time, once the member itself starts no later there.
 pub offset-bound : {E : Graph} {d t : ℕ → ℕ} {a v o : ℕ} → d 0 ≡ 0 → Schedule E d t → Offset E a v o → t a + d a + o ≤ t v
@@ -69,3 +70,11 @@ module _ {n : ℕ} {E : Graph} {d S t : ℕ → ℕ} {off : ℕ → ℕ → ℕ}
   least-at v b ih =
       let A = rel .attained v b in
       least-from v b (A .anchor) (A .inside) (A .equals) ih
+
+-- A schedule depends on the delays of counted edges alone.
+pub schedule-same : {E : Graph} {d d′ t : ℕ → ℕ} → ((e : Edge) → E e → e .counted ≡ true → d (e .from) ≡ d′ (e .from)) → Schedule E d t → Schedule E d′ t
+schedule-same {E} {d} {d′} {t} h s = record { starts = s .starts; keeps = λ e m. go e m (bool-cases (e .counted)) }
+  where
+    go : (e : Edge) → E e → (e .counted ≡ true) ⊎ (e .counted ≡ false) → KeepsEdge d′ t e
+    go e m (inl c) = omega (arith, s .keeps e m, cond-true (d (e .from)) 0 c, cond-true (d′ (e .from)) 0 c, h e m c)
+    go e m (inr c) = omega (arith, s .keeps e m, cond-false (d (e .from)) 0 c, cond-false (d′ (e .from)) 0 c)

@@ -1,23 +1,26 @@
 -- Rounds over a list of edges find heaviest walks (Bellman and Ford). A row has a cell for each vertex: 0 for `no walk`, w + 1 for the weight w.
 use mathlib.Core.Path.{_∙_, _≡_, ap, ap₂, refl, subst, sym}
 use mathlib.Core.Bool.{true}
-use mathlib.Core.Logic.{_≢_, _⊎_, inl, inr}
+use mathlib.Core.Logic.{_↔_, _≢_, _⊎_, inl, inr}
 use mathlib.Core.List.{List, List·Memᴰ, List·Memᴰ·cases-cons, List·Memᴰ·head, List·Memᴰ·not-nil, List·Memᴰ·tail, [], _∷_}
 use Prim.Native.Nat.{_+_, _<_, _≤_, max, suc, zero, ℕ}
 use native.Mathlib.Omega.{arith}
 use native.Mathlib.Decide.{decLe}
+use lib.Dec.{leb}
 use lib.ListN.{length, length-set}
 use lib.Seq.{ext-getD, getD-set-other, getD-set-same}
+use borrow.Author.Tests.{le-leb, leb-true}
 use Rattle.definitions.specs.Anchors.{InAnchorSet, WellPosedFor, chain, is-source}
 use Rattle.definitions.specs.Links.{Edge, Forward, Graph, Joined, Walk, members, step, stop}
 use Rattle.definitions.specs.Plan.{Offset, Span, after, source}
-use Rattle.definitions.specs.Rounds.{cell, extend, offer, raise, relax, round, rounds}
+use Rattle.definitions.specs.Rounds.{cell, extend, offer, raise, relax, round, rounds, stable}
 use Rattle.laws.proofs.Bools.{same-or-not}
+use Rattle.laws.proofs.Tests.{all-by, all-each}
 use Rattle.theory.specs.Graphs.{NonPositive, Shape}
 use Rattle.theory.proofs.Pigeonhole.{Short, shorten}
 use Rattle.theory.proofs.Walks.{after-mono, forward-losses, member-span, span-join, walk-edge, walk-from, walk-mono}
 
--- One cell raised.
+-- One cell raised; the others stay.
 pub raise-length : (row : List ℕ) (v c : ℕ) → length (raise row v c) ≡ length row
 unfolding raise
 raise-length row v c = length-set row v (max (cell row v) c)
@@ -44,7 +47,7 @@ extend-mono zero s g l h = omega arith
 extend-mono (suc r) zero g l h = omega arith
 extend-mono (suc r) (suc s) g l h = omega arith
 
--- A round.
+-- A round keeps the length, lowers no cell, and hands on along every edge of the list.
 abbrev pub Fits : List Edge → List ℕ → Type 0
 Fits es row = (e : Edge) → List·Memᴰ e es → e .to < length row
 
@@ -143,7 +146,7 @@ walk-covered {es} {x} {y} {k} {p} {q} row h p₀ q₀ c (step {k = k₀} {p = p�
     (omega arith)
     (omega arith)
 
--- Some walk is as heavy as the cell says.
+-- Some walk is as heavy as the cell says. This holds of every row that rounds make.
 pub record Reach (E : Graph) (a v o : ℕ) : Type 0 where
   pub p : ℕ
   pub q : ℕ
@@ -194,7 +197,7 @@ module _ {n : ℕ} {E : Graph} {a : ℕ} (shape : Shape n E) (grounded : Grounde
       (λ e m. i e (List·Memᴰ·tail m))
       (raise-under row (x .to) (offer row x) (fits-head row h) (λ o. reach-hand (cell row (x .from)) o x (i x (List·Memᴰ·head refl)) (U (x .from))) U)
 
--- A walk ends no lower than the row says, and no higher: the cell is the offset.
+-- What a row must be for rounds to find the offsets of a from it: no cell says more than some walk weighs, and the cells where walks begin say enough.
 pub record Start (es : List Edge) (a : ℕ) (row : List ℕ) : Type 0 where
   pub fits : Fits es row
   pub under : Under (members es) a row
@@ -204,7 +207,14 @@ pub record Start (es : List Edge) (a : ℕ) (row : List ℕ) : Type 0 where
 abbrev pub Stable : List Edge → List ℕ → Type 0
 Stable es row = (e : Edge) → List·Memᴰ e es → offer row e ≤ cell row (e .to)
 
--- The first half: a fixpoint.
+-- The test of a stable row says so of each edge; and a row that a round leaves as it is is stable.
+pub stable-iff : (es : List Edge) (row : List ℕ) → (stable es row ≡ true) ↔ Stable es row
+unfolding stable
+stable-iff es row = (
+  λ h e m. leb-true (offer row e) (cell row (e .to)) (all-each (λ x. leb (offer row x) (cell row (x .to))) es h e m),
+  λ st. all-by (λ x. leb (offer row x) (cell row (x .to))) es (λ e m. le-leb (offer row e) (cell row (e .to)) (st e m)),
+)
+
 pub fixpoint-stable : (es : List Edge) (row : List ℕ) → Fits es row → round es row ≡ row → Stable es row
 fixpoint-stable es row h e x m = rw e at (round-hands es row h x m)
 
@@ -225,35 +235,14 @@ covers-offset : {E : Graph} {a v r o : ℕ} → r ≡ suc o → Reach E a v o �
 covers-offset h R C =
     record { p = R .p; q = R .q; span = R .span; attained = omega (arith, C (R .p) (R .q) (R .span) .enough, R .under); bound = λ p q s. omega (arith, C p q s .enough) }
 
-module _ {es : List Edge} {a : ℕ} {row : List ℕ} (S : Start es a row) (st : Stable es row) where
-  pub stable-span : {v p q : ℕ} → Span (members es) a v p q → Covers (cell row v) p q
-  stable-span {v} {p} {q} (source h w) = covers-eq {p′ = p} {q′ = q} (stable-walk row st 0 0 (S .covers-source h) w) refl (omega arith) (omega arith)
-  stable-span (after w) =
-      covers-eq
-      (stable-walk row st (w .edge .gain) (w .edge .loss) (S .covers-after (w .not-source) (w .edge) (w .mem) (w .leaves) (w .counts)) (w .rest))
-      refl
-      (w .gains)
-      (w .losses)
-
-  -- In a stable row each cell that is not 0 is the offset, and no walk comes to a cell that is 0.
-  pub stable-offset : (v o : ℕ) → cell row v ≡ suc o → Offset (members es) a v o
-  stable-offset v o h = covers-offset h (S .under v o h) (λ p q s. stable-span s)
-
-  pub stable-none : (v p q : ℕ) → cell row v ≡ 0 → ¬ Span (members es) a v p q
-  stable-none v p q h s = omega (arith, stable-span s .some)
-
--- What a start row has, every later row has: so code may stop at the first stable one.
+-- What a start row says from below, every later row says.
 module _ {n : ℕ} {es : List Edge} {a : ℕ} {row : List ℕ} (shape : Shape n (members es)) (grounded : Grounded n (members es) a) (S : Start es a row) where
   pub rounds-under : (k : ℕ) → Under (members es) a (rounds es k row)
   unfolding rounds
   rounds-under zero = S .under
   rounds-under (suc k) = round-under shape grounded es (rounds es k row) (fits-rounds k row (S .fits)) (λ e m. m) (rounds-under k)
 
-  pub rounds-start : (k : ℕ) → Start es a (rounds es k row)
-  rounds-start k =
-      record { fits = fits-rounds k row (S .fits); under = rounds-under k; covers-source = λ h. covers-up (S .covers-source h) (rounds-rise-start es k row (S .fits) a); covers-after = λ h e m f c. covers-up (S .covers-after h e m f c) (rounds-rise-start es k row (S .fits) (e .to)) }
-
--- n rounds.
+-- n rounds cover every walk, since a walk of fewer than n edges is as heavy; so a cell that is not empty is the offset.
 module _ {n : ℕ} {es : List Edge} {a : ℕ} {row : List ℕ} (shape : Shape n (members es)) (inside : a < n) (grounded : Grounded n (members es) a) (never : NonPositive (members es)) (S : Start es a row) where
   short-covered : {x v p q : ℕ} (p₀ q₀ : ℕ) → Covers (cell row x) p₀ q₀ → Short n (members es) x v p q → Covers (cell (rounds es n row) v) (p₀ + p) (q₀ + q)
   short-covered {v = v} p₀ q₀ c s =
@@ -277,10 +266,7 @@ module _ {n : ℕ} {es : List Edge} {a : ℕ} {row : List ℕ} (shape : Shape n 
   pub rounds-offset : (v o : ℕ) → cell (rounds es n row) v ≡ suc o → Offset (members es) a v o
   rounds-offset v o h = covers-offset h (rounds-under shape grounded S n v o h) (λ p q s. rounds-span s)
 
-  pub rounds-none : (v p q : ℕ) → cell (rounds es n row) v ≡ 0 → ¬ Span (members es) a v p q
-  rounds-none v p q h s = omega (arith, rounds-span s .some)
-
-  -- One round more changes nothing.
+  -- One round more changes nothing: what it might raise, some walk weighs, and that is covered.
   no-more : (v r : ℕ) → cell (rounds es (suc n) row) v ≡ r → r ≤ cell (rounds es n row) v
   no-more v zero h = omega arith
   no-more v (suc o) h = let R = rounds-under shape grounded S (suc n) v o h in omega (arith, R .under, rounds-span (R .span) .enough)

@@ -6,11 +6,12 @@ use Prim.Native.Nat.{_+_, _<_, _≤_, ℕ}
 use native.Mathlib.Omega.{arith}
 use Rattle.definitions.specs.Anchors.{InAnchorSet, WellPosed, chain, is-source}
 use Rattle.definitions.specs.Links.{After, AfterWalk, Edge, Forward, Graph, Joined, Walk, _⊑_, step, stop}
-use Rattle.definitions.specs.Waits.{Wait, WaitPair, wait-edge}
-use Rattle.laws.proofs.Bools.{both-ways}
+use Rattle.definitions.specs.Waits.{Wait, wait-edge}
+use Rattle.laws.proofs.Bools.{both-ways, cond-true}
 use Rattle.theory.specs.Graphs.{Acyclic, ForwardAcyclic, Gains, KeepsEdge, NonPositive, Rooted, Schedule, Shape, WaitEdge, Waited, Well}
-use Rattle.theory.proofs.Walks.{after-bound, after-edge, after-from, after-join, after-joined, after-mono, after-start-below, after-to, delay-counted, forward-losses, join, joined-mono, member-after, member-mono, member-to, some-after, source-first, walk-bound, walk-edge, walk-from, walk-mono, walk-none, walk-to}
+use Rattle.theory.proofs.Walks.{after-bound, after-edge, after-from, after-join, after-joined, after-mono, after-start-below, after-to, forward-losses, join, joined-mono, member-after, member-mono, member-to, some-after, source-first, walk-bound, walk-edge, walk-from, walk-mono, walk-none, walk-to}
 
+-- A wait a → i stands for a walk of E: to the return, and over it.
 pub wait-after : {E : Graph} {a i : ℕ} → Wait E a i → After E a i
 wait-after w = some-after (after-to (w .enters) (after-join (w .reaches .walk) (walk-edge (w .edge) (w .mem))))
 
@@ -137,7 +138,7 @@ module _ {n : ℕ} {E E′ F : Graph} {d t : ℕ → ℕ} (W : Waited E E′) (a
     where
       go : (e : Edge) → E e ⊎ WaitEdge E e → KeepsEdge d t e
       go e (inl h) = s .keeps e (above e h)
-      go e (inr h) = omega (arith, rival-waits (h .wait), h .gainless, h .lossless, delay-counted (d (e .from)) (h .counts))
+      go e (inr h) = omega (arith, rival-waits (h .wait), h .gainless, h .lossless, cond-true (d (e .from)) 0 (h .counts))
 
 -- What E′ takes over from E.
 module _ {n : ℕ} {E E′ : Graph} (W : Waited E E′) (shape : Shape n E) where
@@ -164,6 +165,7 @@ module _ {n : ℕ} {E E′ : Graph} (W : Waited E E′) (shape : Shape n E) wher
 pub schedule-nonpositive : {E : Graph} {d t : ℕ → ℕ} → Schedule E d t → NonPositive E
 schedule-nonpositive s = record { closed = λ w. omega (arith, walk-bound s w) }
 
+-- Serialization edges gain nothing.
 pub waited-gains : {E E′ : Graph} {g : ℕ} → Waited E E′ → Gains E g → Gains E′ g
 waited-gains {E} {g = g} W G e m = go (W .only e m)
   where
@@ -171,6 +173,7 @@ waited-gains {E} {g = g} W G e m = go (W .only e m)
     go (inl h) = G e h
     go (inr h) = omega (arith, h .gainless)
 
+-- E′ can be scheduled where E can.
 pub waited-well : {n : ℕ} {E E′ : Graph} → Waited E E′ → Well n E → Well n E′
 waited-well W w =
     record { some = w .some; shape = waited-shape W (w .shape); rooted = λ v b. joined-mono (λ e m. (W .keeps-all e (m .0), m .1)) (w .rooted v b); acyclic = waited-acyclic W (w .acyclic); never = waited-nonpositive W (w .acyclic) (w .never) }

@@ -14,7 +14,7 @@ use Rattle.definitions.specs.Links.{After, Edge, Forward, Graph, members, usabl
 use Rattle.definitions.specs.Plan.{Offset, Span, after, offset, source, start-from, start-times, start-turns}
 use Rattle.definitions.specs.Rounds.{cell}
 use Rattle.laws.proofs.Bools.{same-or-not}
-use Rattle.laws.proofs.Tests.{largest-above, largest-attained, largest-same, tabulate-at, tabulate-length, tabulate-past}
+use Rattle.laws.proofs.Tests.{largest-above, largest-attained, largest-same, tabulate-at, tabulate-length, tabulate-past, tabulate-same}
 use Rattle.theory.specs.Graphs.{Acyclic, Attained, NonPositive, Relative, RelativeOn, Shape, Well}
 use Rattle.theory.proofs.AnchorOrder.{Behind, behind-more, behind-new}
 use Rattle.theory.proofs.FirstRows.{zeros-at, zeros-length}
@@ -24,6 +24,7 @@ use Rattle.theory.proofs.Reachability.{in-anchor-set-iff}
 use Rattle.theory.proofs.WaitLists.{usable-all}
 use Rattle.theory.proofs.Walks.{after-start-below, after-trans, chain-after, member-below, source-first}
 
+-- A start time for each step.
 pub start-turns-length : (n : ℕ) (es : List Edge) (d : ℕ → ℕ) (k : ℕ) → length (start-turns n es d k) ≡ n
 unfolding start-turns
 start-turns-length n es d zero = zeros-length n
@@ -32,6 +33,32 @@ start-turns-length n es d (suc k) = tabulate-length (start-from n es d (start-tu
 pub start-times-length : (n : ℕ) (es : List Edge) (d : ℕ → ℕ) → length (start-times n es d) ≡ n
 unfolding start-times
 start-times-length n es d = start-turns-length n es d n
+
+-- Start times depend on the delays below n alone.
+start-from-same : (n : ℕ) (es : List Edge) (d d′ : ℕ → ℕ) (row : List ℕ) → ((a : ℕ) → a < n → d a ≡ d′ a) → (v : ℕ) → start-from n es d row v ≡ start-from n es d′ row v
+unfolding start-from
+start-from-same n es d d′ row h zero = refl
+start-from-same n es d d′ row h (suc v) =
+    largest-same
+    (λ a. in-anchor-set n es a (suc v))
+    (λ a. cell row a + d a + offset n es a (suc v))
+    (λ a. cell row a + d′ a + offset n es a (suc v))
+    n
+    (λ a b i. omega (arith, h a b))
+
+start-turns-same : (n : ℕ) (es : List Edge) (d d′ : ℕ → ℕ) → ((a : ℕ) → a < n → d a ≡ d′ a) → (k : ℕ) → start-turns n es d k ≡ start-turns n es d′ k
+unfolding start-turns
+start-turns-same n es d d′ h zero = refl
+start-turns-same n es d d′ h (suc k) =
+    tabulate-same
+    (start-from n es d (start-turns n es d k))
+    (start-from n es d′ (start-turns n es d′ k))
+    n
+    (λ v b. start-from-same n es d d′ (start-turns n es d k) h v ∙ ap (λ (row : List ℕ). start-from n es d′ row v) (start-turns-same n es d d′ h k))
+
+pub start-times-same : (n : ℕ) (es : List Edge) (d d′ : ℕ → ℕ) → ((a : ℕ) → a < n → d a ≡ d′ a) → start-times n es d ≡ start-times n es d′
+unfolding start-times
+start-times-same n es d d′ h = start-turns-same n es d d′ h n
 
 -- What each turn does.
 module _ {n : ℕ} {es : List Edge} (shape : Shape n (members es)) (d : ℕ → ℕ) where
@@ -70,11 +97,11 @@ module _ {n : ℕ} {es : List Edge} (shape : Shape n (members es)) (d : ℕ → 
     settled (suc k) (suc j) l (suc v) b hk hj h =
         turn-largest k v b
         ∙ largest-same
-            (λ a. in-anchor-set n es a (suc v))
-            (term k (suc v))
-            (term j (suc v))
-            n
-            (λ a c i. go a (in-anchor-set-iff shape a (suc v) .0 i) (λ w. settled k j (suc v ∷ l) a c (omega (arith, fewer)) (omega (arith, fewer)) (behind-more (After (Forward (members es))) (λ x y z. after-trans) l (suc v) a h w)))
+        (λ a. in-anchor-set n es a (suc v))
+        (term k (suc v))
+        (term j (suc v))
+        n
+        (λ a c i. go a (in-anchor-set-iff shape a (suc v) .0 i) (λ w. settled k j (suc v ∷ l) a c (omega (arith, fewer)) (omega (arith, fewer)) (behind-more (After (Forward (members es))) (λ x y z. after-trans) l (suc v) a h w)))
         ∙ sym (turn-largest j v b)
       where
         fewer : suc (free n (suc v ∷ l)) ≡ free n l
@@ -109,13 +136,13 @@ module _ {n : ℕ} {es : List Edge} (shape : Shape n (members es)) (d : ℕ → 
             ap (λ (k : ℕ). turn k (suc u)) e
             ∙ turn-largest m u b
             ∙ largest-same
-                (λ a. in-anchor-set n es a (suc u))
-                (term m (suc u))
-                (term n (suc u))
-                n
-                (λ a c i. omega (arith, before-same m (suc u) a e b c (in-anchor-set-iff shape a (suc u) .0 i)))
+            (λ a. in-anchor-set n es a (suc u))
+            (term m (suc u))
+            (term n (suc u))
+            n
+            (λ a c i. omega (arith, before-same m (suc u) a e b c (in-anchor-set-iff shape a (suc u) .0 i)))
 
--- The start times are the relative schedule.
+-- The start times are the relative schedule: the largest term bounds the terms and is one of them.
 module _ {n : ℕ} {es : List Edge} (well : Well n (members es)) (posed : WellPosed (members es)) (d : ℕ → ℕ) (no-wait : d 0 ≡ 0) where
   abbrev S : ℕ → ℕ
   S = cell (start-times n es d)

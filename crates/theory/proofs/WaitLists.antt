@@ -26,6 +26,7 @@ unfolding usable
 usable-all es a = refl
 
 module _ {n : ℕ} {es : List Edge} (shape : Shape n (members es)) where
+  -- Test by test, from the tests of walks and anchor sets.
   pub waits-for-iff : (a i : ℕ) → (waits-for n es a i ≡ true) ↔ Wait (members es) a i
   unfolding waits-for
   waits-for-iff a i = (found, test)

@@ -1,18 +1,16 @@
 -- Walks: joined, moved to equal ends, carried to a larger graph; what they say of start times; anchor sets are closed under the edges of a well-posed graph.
 use mathlib.Core.Path.{_∙_, _≡_, ap, refl, sym}
-use mathlib.Core.Bool.{Bool, cond, false, true}
+use mathlib.Core.Bool.{false, true}
 use mathlib.Core.Logic.{_≢_, _⊎_, inl, inr}
 use Prim.Native.Nat.{_+_, _<_, _≤_, suc, ℕ}
 use native.Mathlib.Omega.{arith}
 use Rattle.definitions.specs.Anchors.{InAnchorSet, WellPosedFor, chain, is-source}
 use Rattle.definitions.specs.Links.{After, AfterWalk, Edge, Forward, Graph, Joined, Walk, _⊑_, step, stop}
 use Rattle.definitions.specs.Plan.{Span, after, source}
-use Rattle.laws.proofs.Bools.{bool-cases, both-ways, same-or-not}
+use Rattle.laws.proofs.Bools.{bool-cases, both-ways, cond-true, same-or-not}
 use Rattle.theory.specs.Graphs.{Acyclic, Schedule, Shape}
 
-pub forward-⊑ : (E : Graph) → Forward E ⊑ E
-forward-⊑ E e m = m .0
-
+-- The ends and the sums of a walk, replaced by equal ones.
 pub walk-to : {E : Graph} {x y k p q y′ k′ p′ q′ : ℕ} → Walk E x y k p q → y ≡ y′ → k′ ≡ k → p′ ≡ p → q′ ≡ q → Walk E x y′ k′ p′ q′
 walk-to (stop e hk hp hq) ey ek ep eq = stop (e ∙ ey) (ek ∙ hk) (ep ∙ hp) (eq ∙ hq)
 walk-to (step w e m f o hk hp hq) ey ek ep eq = step w e m f (o ∙ ey) (ek ∙ hk) (ep ∙ hp) (eq ∙ hq)
@@ -21,10 +19,12 @@ pub walk-from : {E : Graph} {x y k p q x′ : ℕ} → x′ ≡ x → Walk E x y
 walk-from ex (stop e hk hp hq) = stop (ex ∙ e) hk hp hq
 walk-from ex (step w e m f o hk hp hq) = step (walk-from ex w) e m f o hk hp hq
 
+-- A walk of a smaller graph is one of a larger.
 pub walk-mono : {E F : Graph} {x y k p q : ℕ} → E ⊑ F → Walk E x y k p q → Walk F x y k p q
 walk-mono i (stop e hk hp hq) = stop e hk hp hq
 walk-mono i (step w e m f o hk hp hq) = step (walk-mono i w) e (i e m) f o hk hp hq
 
+-- No edge, one edge, and one walk after another.
 pub walk-none : {E : Graph} (x : ℕ) → Walk E x x 0 0 0
 walk-none x = stop refl refl refl refl
 
@@ -35,6 +35,7 @@ pub join : {E : Graph} {x y z k p q k′ p′ q′ : ℕ} → Walk E x y k p q �
 join {k = k} {p = p} {q = q} {k′ = k′} {p′ = p′} {q′ = q′} w (stop e hk hp hq) = walk-to {k′ = k + k′} {p′ = p + p′} {q′ = q + q′} w e (omega arith) (omega arith) (omega arith)
 join {k = k} {p = p} {q = q} {k′ = k′} {p′ = p′} {q′ = q′} w (step v e m f o hk hp hq) = step {k′ = k + k′} {p′ = p + p′} {q′ = q + q′} (join w v) e m f o (omega arith) (omega arith) (omega arith)
 
+-- The same for walks that begin with a counted edge out of a.
 pub after-join : {E : Graph} {a y z p q k′ p′ q′ : ℕ} → AfterWalk E a y p q → Walk E y z k′ p′ q′ → AfterWalk E a z (p + p′) (q + q′)
 after-join {k′ = k′} {p′ = p′} {q′ = q′} w v =
     record { not-source = w .not-source; edge = w .edge; mem = w .mem; leaves = w .leaves; counts = w .counts; k = w .k + k′; g = w .g + p′; l = w .l + q′; rest = join (w .rest) v; gains = omega (arith, w .gains); losses = omega (arith, w .losses) }
@@ -71,7 +72,7 @@ pub after-by : {E : Graph} {a v : ℕ} (e : Edge) → a ≢ 0 → E e → e .fro
 after-by e z m f c J =
     record { p = e .gain + J .p; q = e .loss + J .q; walk = record { not-source = z; edge = e; mem = m; leaves = f; counts = c; k = J .k; g = J .p; l = J .q; rest = J .walk; gains = refl; losses = refl } }
 
--- The anchor set.
+-- Membership in anchor sets: at equal steps, along a forward edge, in a larger graph.
 pub member-to : {E : Graph} {a v w : ℕ} → v ≡ w → InAnchorSet E a v → InAnchorSet E a w
 member-to h (is-source e) = is-source e
 member-to h (chain c) = chain (some-after (after-to h (c .walk)))
@@ -88,6 +89,7 @@ pub member-mono : {E F : Graph} {a v : ℕ} → E ⊑ F → InAnchorSet E a v �
 member-mono i (is-source e) = is-source e
 member-mono i (chain c) = chain (some-after (after-mono (λ e m. (i e (m .0), m .1)) (c .walk)))
 
+-- In a well-posed graph every edge carries a member on: a forward edge by its chain, a return by the rule. So a walk does.
 module _ {E : Graph} {a : ℕ} (posed : WellPosedFor E a) where
   pub member-edge : (e : Edge) → E e → InAnchorSet E a (e .from) → InAnchorSet E a (e .to)
   member-edge e m h = go (bool-cases (e .back))
@@ -100,7 +102,7 @@ module _ {E : Graph} {a : ℕ} (posed : WellPosedFor E a) where
   member-walk h (stop e hk hp hq) = member-to e h
   member-walk h (step w e m f o hk hp hq) = member-to o (member-edge e m (member-to (sym f) (member-walk h w)))
 
--- What a counted edge starts, and what an AfterWalk of a sound graph says.
+-- A counted edge is a forward one, and so its start is a member at its end; from there a walk carries it on.
 module _ {n : ℕ} {E : Graph} (shape : Shape n E) where
   pub counted-forward : (e : Edge) → E e → e .counted ≡ true → e .back ≡ false
   counted-forward e m c = go (bool-cases (e .back))
@@ -154,19 +156,13 @@ pub source-first : {n : ℕ} {E : Graph} {a : ℕ} → ((v : ℕ) → v < n → 
 source-first {a = a} rooted acyclic b w = acyclic a (some-after (after-join (w .walk) (rooted a b .walk)))
 
 -- A walk bounds start times from below: add up what its edges ask. Where it begins with a counted edge out of a, the delay of a counts too.
-pub delay-counted : {b : Bool} (x : ℕ) → b ≡ true → cond b x 0 ≡ x
-delay-counted x h = ap (λ b. cond b x 0) h
-
-pub delay-uncounted : {b : Bool} (x : ℕ) → b ≡ false → cond b x 0 ≡ 0
-delay-uncounted x h = ap (λ b. cond b x 0) h
-
 pub walk-bound : {E : Graph} {d t : ℕ → ℕ} {x y k p q : ℕ} → Schedule E d t → Walk E x y k p q → t x + p ≤ t y + q
 walk-bound {t = t} s (stop e hk hp hq) = omega (arith, ap t e)
 walk-bound {t = t} s (step w e m f o hk hp hq) = omega (arith, walk-bound s w, s .keeps e m, ap t f, ap t o)
 
 pub after-bound : {E : Graph} {d t : ℕ → ℕ} {a y p q : ℕ} → Schedule E d t → AfterWalk E a y p q → t a + d a + p ≤ t y + q
 after-bound {d = d} {t = t} s w =
-    omega (arith, walk-bound s (w .rest), s .keeps (w .edge) (w .mem), delay-counted (d (w .edge .from)) (w .counts), ap t (w .leaves), ap d (w .leaves))
+    omega (arith, walk-bound s (w .rest), s .keeps (w .edge) (w .mem), cond-true (d (w .edge .from)) 0 (w .counts), ap t (w .leaves), ap d (w .leaves))
 
 pub span-bound : {E : Graph} {d t : ℕ → ℕ} {a v p q : ℕ} → d 0 ≡ 0 → Schedule E d t → Span E a v p q → t a + d a + p ≤ t v + q
 span-bound {d = d} d0 s (source h w) = omega (arith, walk-bound s w, ap d h, d0)

@@ -98,11 +98,7 @@ pub record Decides (E : Graph) (off : ℕ → ℕ → ℕ) (a v : ℕ) : Type 0 
   pub inside : InAnchorSet E a v
   pub alone : (b : ℕ) → ¬ Overrides E off a v b
 
--- The delays in which a lasts x and every other step 0.
-unfoldable pub lasting : ℕ → ℕ → ℕ → ℕ
-lasting a x v = cond (eqb v a) x 0
-
--- The delays that show a: it lasts x, and every other step 0. The source lasts 0.
-unfoldable pub pulse : ℕ → ℕ → ℕ → ℕ
-pulse x zero v = 0
-pulse x (suc a) v = lasting (suc a) x v
+-- The delays in which a alone lasts, for x. The source lasts 0.
+unfoldable pub sole-delay : ℕ → ℕ → ℕ → ℕ
+sole-delay x zero v = 0
+sole-delay x (suc a) v = cond (eqb v (suc a)) x 0
