@@ -19,8 +19,8 @@ use Rattle.definitions.specs.declared.Delay.the-variants.{Open, Fixed}
 use Rattle.definitions.specs.declared.Operation.{Operation}
 use Rattle.laws.proofs.Bools.{bool-cases, and-split, and-join, both-ways, not-passing, same-or-not}
 use Rattle.laws.proofs.Tests.{any-below-none, none-any-below, tabulate-length, tabulate-at, tabulate-past}
-use Rattle.theory.specs.Graphs.{lasting, pulse}
-use Rattle.theory.proofs.DecidingSets.{pulse-source, pulse-none, pulse-limit}
+use Rattle.theory.specs.Graphs.{sole-delay}
+use Rattle.theory.proofs.SoleDelays.{sole-delay-source, sole-delay-other, sole-delay-limit}
 use Rattle.demands.specs.Demands.{IsDelayList}
 
 -- A list is not refused exactly if each of its first entries is within its step's limit; an entry that is not there is 0.
@@ -63,35 +63,29 @@ pub source-zero : (os : List Operation) (list : List ℕ) → 1 ≤ length os �
 source-zero os list some h = omega (arith, list-within os list h 0 some, limit-source (delay-at os 0))
 
 -- The list in which the open step a takes the longest time, and every other none; for a = 0, none takes any.
-abbrev pub pulse-list : ℕ → ℕ → List ℕ
-pulse-list n a = tabulate (pulse 16777215 a) n
+abbrev pub sole-list : ℕ → ℕ → List ℕ
+sole-list n a = tabulate (sole-delay 16777215 a) n
 
-pub pulse-delays : (n a : ℕ) → a < n → delays (pulse-list n a) ≡ pulse 16777215 a
-pulse-delays n a h = fun-ext (λ i. go i (decLt i n))
+pub sole-delays : (n a : ℕ) → a < n → delays (sole-list n a) ≡ sole-delay 16777215 a
+sole-delays n a h = fun-ext (λ i. go i (decLt i n))
   where
-    go : (i : ℕ) → Dec (i < n) → delays (pulse-list n a) i ≡ pulse 16777215 a i
-    go i (yes c) = tabulate-at (pulse 16777215 a) n i 0 c
-    go i (no c) = tabulate-past (pulse 16777215 a) n i 0 (omega arith) ∙ sym (pulse-none 16777215 a i (λ e. omega arith))
+    go : (i : ℕ) → Dec (i < n) → delays (sole-list n a) i ≡ sole-delay 16777215 a i
+    go i (yes c) = tabulate-at (sole-delay 16777215 a) n i 0 c
+    go i (no c) = tabulate-past (sole-delay 16777215 a) n i 0 (omega arith) ∙ sym (sole-delay-other 16777215 a i (λ e. omega arith))
 
-pub pulse-allowed : (q : Records) (a : ℕ) → a < count-of q → (a ≡ 0) ⊎ (delay-at (q .steps) a ≡ Open) → IsDelayList q (pulse-list (count-of q) a)
-pulse-allowed q a b lasts = record { size = tabulate-length (pulse 16777215 a) (count-of q); within = within-list (q .steps) (pulse-list (count-of q) a) (λ i c. go i (same-or-not i a) (same-or-not a 0) lasts) }
+pub sole-allowed : (q : Records) (a : ℕ) → a < count-of q → (a ≡ 0) ⊎ (delay-at (q .steps) a ≡ Open) → IsDelayList q (sole-list (count-of q) a)
+sole-allowed q a b lasts = record { size = tabulate-length (sole-delay 16777215 a) (count-of q); within = within-list (q .steps) (sole-list (count-of q) a) (λ i c. go i (same-or-not i a) (same-or-not a 0) lasts) }
   where
-    at : (i : ℕ) → delays (pulse-list (count-of q) a) i ≡ pulse 16777215 a i
-    at i = ap (λ (d : ℕ → ℕ). d i) (pulse-delays (count-of q) a b)
+    at : (i : ℕ) → delays (sole-list (count-of q) a) i ≡ sole-delay 16777215 a i
+    at i = ap (λ (d : ℕ → ℕ). d i) (sole-delays (count-of q) a b)
 
-    go : (i : ℕ) → (i ≡ a) ⊎ (i ≢ a) → (a ≡ 0) ⊎ (a ≢ 0) → (a ≡ 0) ⊎ (delay-at (q .steps) a ≡ Open) → delays (pulse-list (count-of q) a) i ≤ delay-limit i (delay-at (q .steps) i)
-    go i (inr e) z h = omega (arith, at i, pulse-none 16777215 a i e)
-    go i (inl e) (inl z) h = omega (arith, at i, ap (pulse 16777215 a) (e ∙ z), pulse-source 16777215 a)
+    go : (i : ℕ) → (i ≡ a) ⊎ (i ≢ a) → (a ≡ 0) ⊎ (a ≢ 0) → (a ≡ 0) ⊎ (delay-at (q .steps) a ≡ Open) → delays (sole-list (count-of q) a) i ≤ delay-limit i (delay-at (q .steps) i)
+    go i (inr e) z h = omega (arith, at i, sole-delay-other 16777215 a i e)
+    go i (inl e) (inl z) h = omega (arith, at i, ap (sole-delay 16777215 a) (e ∙ z), sole-delay-source 16777215 a)
     go i (inl e) (inr z) (inl h) = absurd (z h)
     go i (inl e) (inr z) (inr h) =
-        omega (arith, at i, pulse-limit 16777215 a i, limit-open i (delay-at (q .steps) i) (λ y. z (sym e ∙ y)) (ap (delay-at (q .steps)) e ∙ h))
+        omega (arith, at i, sole-delay-limit 16777215 a i, limit-open i (delay-at (q .steps) i) (λ y. z (sym e ∙ y)) (ap (delay-at (q .steps)) e ∙ h))
 
--- For an open step these are the delays in which it alone lasts.
-pub pulse-lasting : (x a : ℕ) → a ≢ 0 → pulse x a ≡ lasting a x
-unfolding pulse
-pulse-lasting x zero z = absurd (z refl)
-pulse-lasting x (suc a) z = refl
-
-pub pulse-zero : (x : ℕ) → pulse x 0 ≡ (λ a. 0)
-unfolding pulse
-pulse-zero x = refl
+pub sole-delay-zero : (x : ℕ) → sole-delay x 0 ≡ (λ a. 0)
+unfolding sole-delay
+sole-delay-zero x = refl

@@ -14,7 +14,7 @@ use Rattle.definitions.specs.Plan.{start-times, delays}
 use Rattle.definitions.specs.Answers.{infeasible, inconsistent, judged, judge-edges, count-of, edges-of, serialized-of}
 use Rattle.laws.proofs.Bools.{bool-cases, not-passing}
 use Rattle.laws.proofs.Outcomes.{refused-same}
-use Rattle.theory.specs.Graphs.{Schedule, Shape, Rooted, Well, pulse, lasting}
+use Rattle.theory.specs.Graphs.{Schedule, Shape, Rooted, Well, sole-delay}
 use Rattle.theory.proofs.Walks.{after-start-below}
 use Rattle.theory.proofs.Feasibility.{closed-after-64}
 use Rattle.theory.proofs.Plans.{plan-keeps}
@@ -23,7 +23,7 @@ use Rattle.demands.proofs.Reading.{Fits, read-fits}
 use Rattle.demands.proofs.Edges.{keeps-schedule, schedule-keeps, sheet-shape, sheet-losses}
 use Rattle.demands.proofs.Judging.{judge-10, judge-11, judged-edges}
 use Rattle.demands.proofs.Meaning.{after-open}
-use Rattle.demands.proofs.DelayLists.{source-zero, pulse-list, pulse-delays, pulse-allowed, pulse-lasting, pulse-zero}
+use Rattle.demands.proofs.DelayLists.{source-zero, sole-list, sole-delays, sole-allowed, sole-delay-zero}
 use Rattle.demands.proofs.Sheets.{not-9, is-10, is-11, not-10-11}
 
 -- Start times keep the links of a sheet exactly if they are a schedule of its edges.
@@ -77,13 +77,13 @@ module _ (s : List ℕ) (allow : Bool) (q : Records) (formed : WellFormed s q) w
   own-end : (a : ℕ) → After (members es) a a → SomeListLeavesNone q
   own-end a w =
       let inside : a < n = after-start-below shape w in
-      let same : delays (pulse-list n a) ≡ lasting a 16777215 = pulse-delays n a inside ∙ pulse-lasting 16777215 a (w .walk .not-source) in
-      record { list = pulse-list n a; allowed = pulse-allowed q a inside (inr (after-open fits w)); none = λ t k. closed-after-64 shape (fits .few) (sheet-losses fits) w (subst (λ (d : ℕ → ℕ). Schedule (members es) d t) same (keeps-sheet q (delays (pulse-list n a)) t .0 k)) }
+      let same : delays (sole-list n a) ≡ sole-delay 16777215 a = sole-delays n a inside in
+      record { list = sole-list n a; allowed = sole-allowed q a inside (inr (after-open fits w)); none = λ t k. closed-after-64 shape (fits .few) (sheet-losses fits) w (subst (λ (d : ℕ → ℕ). Schedule (members es) d t) same (keeps-sheet q (delays (sole-list n a)) t .0 k)) }
 
   no-time : NoStarts q (λ a. 0) → SomeListLeavesNone q
   no-time f =
-      let same : (λ (a : ℕ). 0) ≡ delays (pulse-list n 0) = sym (pulse-delays n 0 (fits .some) ∙ pulse-zero 16777215) in
-      record { list = pulse-list n 0; allowed = pulse-allowed q 0 (fits .some) (inl refl); none = subst (NoStarts q) same f }
+      let same : (λ (a : ℕ). 0) ≡ delays (sole-list n 0) = sym (sole-delays n 0 (fits .some) ∙ sole-delay-zero 16777215) in
+      record { list = sole-list n 0; allowed = sole-allowed q 0 (fits .some) (inl refl); none = subst (NoStarts q) same f }
 
   none-11 : infeasible n es ≡ false → SomeListLeavesNone q → judged s allow ≡ refused 11
   none-11 h L = go (bool-cases (inconsistent n es))

@@ -2,9 +2,9 @@ pub mod Reading
 pub mod Edges
 pub mod Judging
 pub mod Meaning
-pub mod Sums
 pub mod Listing
 pub mod DelayLists
 pub mod Calls
 pub mod Sheets
 pub mod Impossibility
+pub mod OurStarts

@@ -21,10 +21,10 @@ use Rattle.laws.proofs.Bools.{and-join, both-ways}
 use Rattle.laws.proofs.Tests.{tabulate-length, tabulate-past}
 use Rattle.theory.specs.Graphs.{Shape}
 use Rattle.theory.proofs.WaitLists.{wait-listed, listed-wait, wait-target-below, wait-map-bit, wait-map-iff, wait-map-small, wait-maps-at}
-use Rattle.demands.specs.Demands.{ListedFor, wait-pair, sheet-waits, sum-below, bits-standing}
+use Rattle.theory.proofs.WaitCounts.{wait-count-bits}
+use Rattle.demands.specs.Demands.{ListedFor, wait-pair, sheet-waits}
 use Rattle.demands.proofs.Reading.{Fits}
 use Rattle.demands.proofs.Edges.{sheet-shape}
-use Rattle.demands.proofs.Sums.{sum-same, sum-zero, sum-short, sum-swap, flatMap-length, select-length}
 
 -- No bit stands in 0.
 no-bits : (a : ℕ) → test-bit 0 a ≡ false
@@ -34,49 +34,6 @@ no-bits a = rw (zero-div (2 ^ a))
 maps-past : (n : ℕ) (es : List Edge) (i : ℕ) → 64 ≤ i → cell (wait-maps n es) i ≡ 0
 unfolding wait-maps
 maps-past n es i h = tabulate-past (wait-map n es) 64 i 0 h
-
--- The count is the sum over a, and over i, of the pairs that wait; the bits that stand are the same sum in the other order.
-module _ (n : ℕ) (es : List Edge) (few : n ≤ 64) where
-  abbrev one : ℕ → ℕ → ℕ
-  one a i = cond (waits-for n es a i) 1 0
-
-  abbrev bit : ℕ → ℕ → ℕ
-  bit i a = cond (test-bit (cell (wait-maps n es) i) a) 1 0
-
-  listed-count : wait-count n es ≡ sum-below (λ a. sum-below (one a) n) n
-  unfolding wait-count wait-list waits-of
-  listed-count =
-      flatMap-length (waits-of n es) (λ a. a) n ∙
-      sum-same (λ a. length (waits-of n es a)) (λ a. sum-below (one a) n) n (λ a b. length-map (select-below (waits-for n es a) n) (λ i. record { anchor = a; target = i }) ∙ select-length (waits-for n es a) n)
-
-  bit-at : (i a : ℕ) → i < 64 → bit i a ≡ cond (ltb a n && (ltb i n && waits-for n es a i)) 1 0
-  bit-at i a h = ap (λ (m : ℕ). cond (test-bit m a) 1 0) (wait-maps-at n es i h) ∙ ap (λ (b : Bool). cond b 1 0) (wait-map-bit n es i a)
-
-  bit-inside : (i a : ℕ) → i < n → a < n → bit i a ≡ one a i
-  bit-inside i a hi ha = bit-at i a (omega arith) ∙ rw (lt-ltb a n ha, lt-ltb i n hi)
-
-  bit-outside : (i a : ℕ) → n ≤ a → bit i a ≡ 0
-  bit-outside i a h = go (decLt i 64)
-    where
-      go : Dec (i < 64) → bit i a ≡ 0
-      go (yes c) = bit-at i a c ∙ rw (le-ltb a n h)
-      go (no c) = rw (maps-past n es i (omega arith), no-bits a)
-
-  bit-below : (i a : ℕ) → n ≤ i → bit i a ≡ 0
-  bit-below i a h = go (decLt i 64) (decLt a n)
-    where
-      go : Dec (i < 64) → Dec (a < n) → bit i a ≡ 0
-      go (yes c) (yes b) = bit-at i a c ∙ rw (lt-ltb a n b, le-ltb i n h)
-      go c (no b) = bit-outside i a (omega arith)
-      go (no c) (yes b) = rw (maps-past n es i (omega arith), no-bits a)
-
-  standing-count : bits-standing (wait-maps n es) ≡ sum-below (λ a. sum-below (one a) n) n
-  unfolding bits-standing
-  standing-count =
-      sum-same (λ i. sum-below (bit i) 64) (λ i. sum-below (bit i) n) 64 (λ i b. sum-short (bit i) n 64 few (bit-outside i)) ∙
-      sum-short (λ i. sum-below (bit i) n) n 64 few (λ i h. sum-same (bit i) (λ a. 0) n (λ a b. bit-below i a h) ∙ sum-zero n) ∙
-      sum-same (λ i. sum-below (bit i) n) (λ i. sum-below (λ a. one a i) n) n (λ i b. sum-same (bit i) (λ a. one a i) n (λ a c. bit-inside i a b c)) ∙
-      sum-swap (λ i a. one a i) n n
 
 -- The waits of a sheet.
 module _ {q : Records} (fits : Fits q) where
@@ -104,4 +61,4 @@ module _ {q : Records} (fits : Fits q) where
 
   pub listed-for : ListedFor q
   unfolding wait-maps wait-count
-  listed-for = record { listed = listed-iff; maps-size = tabulate-length (wait-map n es) 64; maps-small = λ i. maps-small i (decLt i 64); maps-bits = λ a i. maps-bits a i (decLt i 64); count-list = refl; count-maps = listed-count n es (fits .few) ∙ sym (standing-count n es (fits .few)) }
+  listed-for = record { listed = listed-iff; maps-size = tabulate-length (wait-map n es) 64; maps-small = λ i. maps-small i (decLt i 64); maps-bits = λ a i. maps-bits a i (decLt i 64); count-list = refl; count-maps = wait-count-bits n es (fits .few) }

@@ -24,6 +24,7 @@ use Rattle.definitions.specs.Rival.{Extension}
 use Rattle.definitions.specs.Answers.{closes-circle, unreached, count-of, edges-of, serialized-of, judged, waits-answer, planned, starts-answer}
 use Rattle.definitions.specs.Worked.{Worked, worked-sheets}
 use Rattle.definitions.specs.declared.Delay.the-variants.{Open}
+use Rattle.theory.specs.Counts.{standing-bits}
 
 -- ## The words
 
@@ -175,14 +176,6 @@ TestsMeant = (s : List ℕ) (q : Records) → IsSheet s q → MeantFor q
 
 -- ## Demand 2: waits
 
--- How many bits stand in 64 maps of 64 bits.
-unfoldable pub sum-below : (ℕ → ℕ) → ℕ → ℕ
-sum-below f zero = 0
-sum-below f (suc n) = sum-below f n + f n
-
-unfoldable pub bits-standing : List ℕ → ℕ
-bits-standing maps = sum-below (λ i. sum-below (λ a. cond (test-bit (cell maps i) a) 1 0) 64) 64
-
 -- What is listed are the waits of document 01, none of a step on itself or into step 0. "The library returns them as 64 maps of 64 bits, bit a of map i."
 pub record ListedFor (q : Records) : Type 0 where
   pub listed : (a i : ℕ) → List·Memᴰ (wait-pair a i) (sheet-waits q) ↔ Wait (members (edges-of q)) a i
@@ -190,7 +183,7 @@ pub record ListedFor (q : Records) : Type 0 where
   pub maps-small : (i : ℕ) → cell (wait-maps (count-of q) (edges-of q)) i < 2 ^ 64
   pub maps-bits : (a i : ℕ) → (test-bit (cell (wait-maps (count-of q) (edges-of q)) i) a ≡ true) ↔ List·Memᴰ (wait-pair a i) (sheet-waits q)
   pub count-list : wait-count (count-of q) (edges-of q) ≡ length (sheet-waits q)
-  pub count-maps : wait-count (count-of q) (edges-of q) ≡ bits-standing (wait-maps (count-of q) (edges-of q))
+  pub count-maps : wait-count (count-of q) (edges-of q) ≡ standing-bits (wait-maps (count-of q) (edges-of q))
 
 abbrev pub WaitsListed : Type 0
 WaitsListed = (s : List ℕ) (q : Records) → IsSheet s q → ListedFor q
