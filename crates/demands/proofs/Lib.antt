@@ -8,3 +8,4 @@ pub mod Calls
 pub mod Sheets
 pub mod Impossibility
 pub mod OurStarts
+pub mod Planning
