@@ -9,3 +9,5 @@ pub mod Sheets
 pub mod Impossibility
 pub mod OurStarts
 pub mod Planning
+pub mod Examples
+pub mod Demands

@@ -119,11 +119,11 @@ module _ {s : List ℕ} {allow : Bool} {q : Records} {v : ℕ} (accepted : Accep
       only c (inr m) = let r = Memᴰ·of-map wait-link (sheet-waits q) m in inr (subst (Further (count-of q)) (r .2) (further (r .0) (r .1)))
 
   -- Nobody is earlier. With verdict 0 the sheet is sound as sent; with waits every rival's sheet keeps them already.
-  pub nobody-earlier : v ≡ 0 → (d t : ℕ → ℕ) → d 0 ≡ 0 → KeepsLinks q d t → (i : ℕ) → i < count-of q → our-start q d i ≤ t i
+  pub earliest : v ≡ 0 → (d t : ℕ → ℕ) → d 0 ≡ 0 → KeepsLinks q d t → (i : ℕ) → i < count-of q → our-start q d i ≤ t i
   unfolding serialized-of
-  nobody-earlier h d t d0 k = plan-least-unwaited (accepted-well accepted) (verdict-zero (needs-waits (count-of q) (edges-of q)) .0 (accepted-verdict accepted ∙ h)) d0 (keeps-sheet q d t .0 k)
+  earliest h d t d0 k = plan-least-unwaited (accepted-well accepted) (verdict-zero (needs-waits (count-of q) (edges-of q)) .0 (accepted-verdict accepted ∙ h)) d0 (keeps-sheet q d t .0 k)
 
-  pub nobody-earlier-rival : (fs : List Constraint) → Extension (q .steps) (constraints (q .pairs)) fs → (d t : ℕ → ℕ) → d 0 ≡ 0 → KeepsAll (q .steps) fs d t → (i : ℕ) → i < count-of q → our-start q d i ≤ t i
+  pub earliest-of-rivals : (fs : List Constraint) → Extension (q .steps) (constraints (q .pairs)) fs → (d t : ℕ → ℕ) → d 0 ≡ 0 → KeepsAll (q .steps) fs d t → (i : ℕ) → i < count-of q → our-start q d i ≤ t i
   unfolding serialized-of
-  nobody-earlier-rival fs extension d t d0 k =
+  earliest-of-rivals fs extension d t d0 k =
       plan-least-rival (accepted-well accepted) (rival-above fits extension) (rival-shape fits extension) (extension .well-posed) d0 (keeps-schedule (q .steps) d t fs k)
