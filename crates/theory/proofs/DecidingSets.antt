@@ -1,5 +1,5 @@
 -- Deciding sets, on a well-posed list of edges: the executable tests are the relations, the start times are the largest terms of the deciding members, and none of these can be left out.
-use mathlib.Core.Path.{_∙_, _≡_, ap, subst}
+use mathlib.Core.Path.{_∙_, _≡_, ap, refl, subst}
 use mathlib.Core.Bool.{Bool, _&&_, not, true}
 use mathlib.Core.Logic.{_↔_, _≢_, _⊎_, inl, inr}
 use mathlib.Core.List.{List}
@@ -75,6 +75,12 @@ module _ {n : ℕ} {es : List Edge} (well : Well n (members es)) (posed : WellPo
 
       rel : RelativeOn n (members es) (λ a. members (usable es a)) d (cell (start-times n es d)) (offset n es)
       rel = start-times-relative well posed d d0
+
+  -- So some member decides.
+  pub deciding-some : (v : ℕ) → v < n → (a : ℕ) × (a < n) × (decides n es a v ≡ true)
+  deciding-some v b =
+      let r = deciding-attains (well .shape) forward-acyclic (well .rooted) (dec-member (well .shape)) (start-times-relative well posed (λ x. 0) refl) v b in
+      (r .0, member-below (well .shape) b (r .1 .inside), decides-iff (well .shape) (r .0) v b .1 (r .1))
 
 -- Needed: where a lasts x, more than twice what any offset is, its term alone is the largest.
 module _ {n : ℕ} {es : List Edge} (well : Well n (members es)) (posed : WellPosed (members es)) (limit : ℕ) (small : (a v : ℕ) → v < n → InAnchorSet (members es) a v → offset n es a v ≤ limit) (x : ℕ) (long : limit + limit < x) where

@@ -28,7 +28,7 @@ unfolding extend
 extend-keeps zero s g l h k = omega arith
 extend-keeps (suc w) s g l h k = omega arith
 
-pub stable-schedule : {n : ℕ} {es : List Edge} → Shape n (members es) → (row : List ℕ) → Stable es row → ((v : ℕ) → v < n → 1 ≤ cell row v) → cell row 0 ≡ 1 → Schedule (members es) (λ v. 0) (λ v. cell row v - 1)
+stable-schedule : {n : ℕ} {es : List Edge} → Shape n (members es) → (row : List ℕ) → Stable es row → ((v : ℕ) → v < n → 1 ≤ cell row v) → cell row 0 ≡ 1 → Schedule (members es) (λ v. 0) (λ v. cell row v - 1)
 stable-schedule {n} {es} shape row st full z = record { starts = omega arith; keeps = keeps-each }
   where
     none : (b : Bool) → cond {A = ℕ} b 0 0 ≡ 0
@@ -58,7 +58,7 @@ module _ {n : ℕ} {es : List Edge} (some : 0 < n) (shape : Shape n (members es)
   all-covered st v b = stable-walk settled st 0 0 source-covered (joined-mono (λ e m. m .0) (rooted v b) .walk) .some
 
   -- Where no closed walk is above 0, n rounds settle the row.
-  pub nonpositive-stable : NonPositive (members es) → Stable es settled
+  nonpositive-stable : NonPositive (members es) → Stable es (rounds es n (source-row n 0))
   nonpositive-stable never =
       fixpoint-stable es settled (λ e m. omega (arith, start .fits e m, rounds-length es n (source-row n 0))) (rounds-fixed shape some ground never start)
 
@@ -73,7 +73,7 @@ module _ {n : ℕ} {es : List Edge} (some : 0 < n) (shape : Shape n (members es)
       go zero h l = absurd (omega arith)
       go (suc o) h l = let O = rounds-offset shape some ground never start 0 o h in let z = by-span (O .attained) (O .span) in omega arith
 
-  pub zero-delay-schedule : NonPositive (members es) → Schedule (members es) (λ v. 0) (λ v. cell settled v - 1)
+  zero-delay-schedule : NonPositive (members es) → Schedule (members es) (λ v. 0) (λ v. cell (rounds es n (source-row n 0)) v - 1)
   zero-delay-schedule never =
       let st = nonpositive-stable never in
       stable-schedule shape settled st (all-covered st) (source-at-zero never)
@@ -89,17 +89,17 @@ module _ {n : ℕ} {es : List Edge} (some : 0 < n) (shape : Shape n (members es)
           omega (arith, stable-walk settled st r 0 (record { some = omega arith; enough = omega arith }) (step w e m f o hk hp hq) .enough, ap (cell settled) s)
 
   -- Refusal 10, and what it says.
-  pub stable-nonpositive-iff : (stable es settled ≡ true) ↔ NonPositive (members es)
+  pub stable-nonpositive-iff : (stable es (rounds es n (source-row n 0)) ≡ true) ↔ NonPositive (members es)
   stable-nonpositive-iff = (λ h. record { closed = λ w. closed-in (stable-iff es settled .0 h) w refl }, λ never. stable-iff es settled .1 (nonpositive-stable never))
 
-  pub stable-schedule-iff : (stable es settled ≡ true) ↔ ((t : ℕ → ℕ) × Schedule (members es) (λ v. 0) t)
+  pub stable-schedule-iff : (stable es (rounds es n (source-row n 0)) ≡ true) ↔ ((t : ℕ → ℕ) × Schedule (members es) (λ v. 0) t)
   stable-schedule-iff = (
     λ h. ((λ v. cell settled v - 1), zero-delay-schedule (stable-nonpositive-iff .0 h)),
     λ r. stable-nonpositive-iff .1 (schedule-nonpositive (r .1)),
   )
 
   -- A graph that passes the tests for 10 and 11 can be scheduled.
-  pub well-by : stable es settled ≡ true → ((a : ℕ) → a < n → after-reaches n es a a ≡ false) → Well n (members es)
+  pub well-by : stable es (rounds es n (source-row n 0)) ≡ true → ((a : ℕ) → a < n → after-reaches n es a a ≡ false) → Well n (members es)
   well-by st once =
       record { some = some; shape = shape; rooted = rooted; acyclic = λ a w. both-ways (after-reaches-iff shape a a .1 w) (once a (after-start-below shape w)); never = stable-nonpositive-iff .0 st }
 

@@ -16,3 +16,4 @@ pub mod DecidingSets
 pub mod Plans
 pub mod WaitCounts
 pub mod RowLaws
+pub mod PlanTables

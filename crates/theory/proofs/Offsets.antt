@@ -40,17 +40,17 @@ module _ {n : ℕ} {es : List Edge} (some : 0 < n) (shape : Shape n (members es)
   member-reached {v = v} b (is-source h) = let J = rooted h v b in (J .p, J .q, source h (walk-from h (walk-mono (λ e m. m .0) (J .walk))))
   member-reached b (chain c) = (c .p, c .q, after (after-mono (λ e m. m .0) (c .walk)))
 
-  pub row-member : (v : ℕ) → v < n → InAnchorSet (members es) a v → 1 ≤ cell row v
+  pub row-member : (v : ℕ) → v < n → InAnchorSet (members es) a v → 1 ≤ cell (rounds es n (first-row n es a)) v
   row-member v b i = let s = member-reached b i in rounds-span shape (member-below shape b i) ground never start (s .2) .some
 
-  pub row-reached : (v : ℕ) → 1 ≤ cell row v → InAnchorSet (members es) a v
+  pub row-reached : (v : ℕ) → 1 ≤ cell (rounds es n (first-row n es a)) v → InAnchorSet (members es) a v
   row-reached v h = go (cell row v) refl
     where
       go : (r : ℕ) → cell row v ≡ r → InAnchorSet (members es) a v
       go zero e = absurd (omega arith)
       go (suc o) e = member-span shape posed (rounds-under shape ground start n v o e .span)
 
-  pub row-offset : (v : ℕ) → v < n → InAnchorSet (members es) a v → Offset (members es) a v (cell row v - 1)
+  pub row-offset : (v : ℕ) → v < n → InAnchorSet (members es) a v → Offset (members es) a v (cell (rounds es n (first-row n es a)) v - 1)
   row-offset v b i = go (cell row v) refl (row-member v b i)
     where
       go : (r : ℕ) → cell row v ≡ r → 1 ≤ cell row v → Offset (members es) a v (cell row v - 1)

@@ -1,7 +1,7 @@
 -- The plan of a sheet with its waits in: what is proved of well-posed lists of edges, for `serialized n es`.
 use mathlib.Core.Path.{_≡_, subst, sym}
-use mathlib.Core.Bool.{Bool, false, true}
-use mathlib.Core.Logic.{_≢_}
+use mathlib.Core.Bool.{Bool, cond, false, true}
+use mathlib.Core.Logic.{_↔_, _≢_, _⊎_, inl, inr}
 use mathlib.Core.List.{List}
 use Prim.Native.Nat.{_*_, _+_, _<_, _≤_, ℕ}
 use native.Mathlib.Omega.{arith}
@@ -9,12 +9,13 @@ use native.Mathlib.Nat.{mul-le-mul-right}
 use Rattle.definitions.specs.Anchors.{InAnchorSet, WellPosed, in-anchor-set}
 use Rattle.definitions.specs.Basics.{any-below, largest}
 use Rattle.definitions.specs.Links.{Edge, Graph, _⊑_, members, usable}
-use Rattle.definitions.specs.Plan.{Offset, decides, offset, start-times}
+use Rattle.definitions.specs.Plan.{Offset, decides, offset, plan-entry, start-times, undecided}
 use Rattle.definitions.specs.Rounds.{cell}
 use Rattle.definitions.specs.Waits.{Wait, needs-waits, serialized}
+use Rattle.laws.proofs.Bools.{bool-cases, cond-false, cond-true}
 use Rattle.theory.specs.Graphs.{ForwardAcyclic, Gains, RelativeOn, Schedule, Shape, Well, sole-delay}
 use Rattle.theory.proofs.AnchorOrder.{least-acyclic}
-use Rattle.theory.proofs.DecidingSets.{deciding-enough, deciding-least, deciding-needed, deciding-strict}
+use Rattle.theory.proofs.DecidingSets.{decides-iff, deciding-enough, deciding-least, deciding-needed, deciding-some, deciding-strict}
 use Rattle.theory.proofs.Offsets.{offset-found, offset-limit}
 use Rattle.theory.proofs.RelativeSchedules.{relative-keeps}
 use Rattle.theory.proofs.Serialization.{rival-keeps, wait-not-source, wait-other, waited-forward-acyclic, waited-gains, waited-well}
@@ -71,10 +72,29 @@ module _ {n : ℕ} {es : List Edge} (well : Well n (members es)) where
   pub plan-enough : (d : ℕ → ℕ) → d 0 ≡ 0 → (v : ℕ) → v < n → cell (start-times n (serialized n es) d) v ≡ largest (λ a. decides n (serialized n es) a v) (λ a. cell (start-times n (serialized n es) d) a + d a + offset n (serialized n es) a v) n
   plan-enough = deciding-enough plan-well plan-posed
 
+  pub plan-some : (v : ℕ) → v < n → (a : ℕ) × (a < n) × (decides n (serialized n es) a v ≡ true)
+  plan-some = deciding-some plan-well plan-posed
+
   -- With the limits of a sheet.
   module _ (gains : Gains (members es) 65535) (few : n ≤ 64) where
     pub plan-offset-limit : (a v : ℕ) → v < n → InAnchorSet (members (serialized n es)) a v → offset n (serialized n es) a v ≤ 4128705
     plan-offset-limit = offset-limit plan-well plan-posed (waited-gains (serialized-waited (well .shape)) gains) few
+
+    -- An entry of the table is the mark of no decision exactly where there is none: no offset is as large.
+    pub plan-entry-iff : (v a : ℕ) → v < n → (plan-entry n (serialized n es) v a ≡ undecided) ↔ (decides n (serialized n es) a v ≡ false)
+    unfolding plan-entry
+    plan-entry-iff v a b = (λ h. go h (bool-cases (decides n (serialized n es) a v)), λ f. cond-false (offset n (serialized n es) a v) undecided f)
+      where
+        go : cond (decides n (serialized n es) a v) (offset n (serialized n es) a v) undecided ≡ undecided → (decides n (serialized n es) a v ≡ true) ⊎ (decides n (serialized n es) a v ≡ false) → decides n (serialized n es) a v ≡ false
+        go h (inr f) = f
+        go h (inl t) =
+            absurd
+            (omega (
+              arith,
+              h,
+              cond-true (offset n (serialized n es) a v) undecided t,
+              plan-offset-limit a v b (decides-iff (plan-well .shape) a v b .0 t .inside),
+            ))
 
     pub plan-start-limit : (d : ℕ → ℕ) → d 0 ≡ 0 → ((a : ℕ) → a < n → d a ≤ 16777215) → (v : ℕ) → v < n → cell (start-times n (serialized n es) d) v ≤ n * 20905920
     plan-start-limit d d0 short =

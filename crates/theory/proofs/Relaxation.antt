@@ -102,10 +102,6 @@ rounds-rise es j (suc k) row h b v = go (decLe j k) (λ c. rounds-rise es j k ro
     go (yes c) below = omega (arith, below c, rounds-up es k row h v)
     go (no c) below = let e : j ≡ suc k = omega arith in omega (arith, ap (λ (i : ℕ). cell (rounds es i row) v) e)
 
-pub rounds-rise-start : (es : List Edge) (k : ℕ) (row : List ℕ) → Fits es row → (v : ℕ) → cell row v ≤ cell (rounds es k row) v
-unfolding rounds
-rounds-rise-start es k row h v = rounds-rise es 0 k row h (omega arith) v
-
 -- A cell covers a walk's weight p - q: it is not empty, and holds no less.
 pub record Covers (r p q : ℕ) : Type 0 where
   pub some : 1 ≤ r
