@@ -19,19 +19,14 @@ use Rattle.definitions.specs.Answers.{count-of, edges-of, serialized-of, judge-
 use Rattle.definitions.specs.declared.Delay.{Delay}
 use Rattle.definitions.specs.declared.Delay.the-variants.{Open, Fixed}
 use Rattle.laws.proofs.Bools.{bool-cases, and-join, both-ways}
-use Rattle.laws.proofs.Outcomes.{given-not-refused, refused-same, refuse-given, refuse-passed, when-given-by, when-given-has}
+use Rattle.laws.proofs.Outcomes.{given-not-refused, refuse-given, refuse-never, when-given-by, when-given-has}
 use Rattle.laws.proofs.Tests.{last-or-below, tabulate-length, tabulate-at, any-below-none}
 use Rattle.demands.specs.Demands.{IsSheet, Accepted, SameRefusal, ReturnedFor, our-start}
 use Rattle.theory.proofs.StartTimes.{start-times-length}
 use Rattle.demands.proofs.Reading.{read-fits}
 use Rattle.demands.proofs.DelayLists.{source-zero}
 
--- A check that refuses with a later number only leaves the earlier refusals as they are.
-later : (b : Bool) (k l : ℕ) (rest : Outcome ℕ) → k < l → rest ≢ refused k → refuse-if b l rest ≢ refused k
-unfolding refuse-if
-later true k l rest h n e = let z : l ≡ k = refused-same e in omega arith
-later false k l rest h n e = n e
-
+-- A call that judges first and then refuses with other numbers only refuses with k exactly where judging does.
 first-check : (o : Outcome ℕ) (f : ℕ → Outcome ℕ) (k : ℕ) → ((v : ℕ) → f v ≢ refused k) → (when-given o f ≡ refused k) ↔ (o ≡ refused k)
 unfolding when-given
 first-check (given v) f k h = (λ e. absurd (h v e), λ e. absurd (given-not-refused e))
@@ -54,7 +49,7 @@ unfolding plan-read plan-verdict when-given
 plan-same allow table k h (refused l) = (λ e. e, λ e. e)
 plan-same allow table k h (given q) =
     first-check (judge-records q allow) (λ v. refuse-if (too-short table (count-of q * count-of q)) 14 (given v)) k
-    (λ v. later (too-short table (count-of q * count-of q)) k 14 (given v) (omega arith) (no-given v k))
+    (λ v. refuse-never (too-short table (count-of q * count-of q)) 14 (given v) (λ e. omega arith) (no-given v k))
 
 starts-same : (allow : Bool) (list out : List ℕ) (k : ℕ) → k ≤ 12 → (o : Outcome Records) → (starts-read o allow list out .verdict ≡ refused k) ↔ (when-given o (λ q. judge-records q allow) ≡ refused k)
 unfolding starts-read starts-verdict when-given
@@ -62,7 +57,7 @@ starts-same allow list out k h (refused l) = (λ e. e, λ e. e)
 starts-same allow list out k h (given q) =
     let short = too-short list (count-of q) || too-short out (count-of q) in
     first-check (judge-records q allow) (λ v. refuse-if (delays-wrong (q .steps) list) 13 (refuse-if short 14 (given v))) k
-    (λ v. later (delays-wrong (q .steps) list) k 13 (refuse-if short 14 (given v)) (omega arith) (later short k 14 (given v) (omega arith) (no-given v k)))
+    (λ v. refuse-never (delays-wrong (q .steps) list) 13 (refuse-if short 14 (given v)) (λ e. omega arith) (refuse-never short 14 (given v) (λ e. omega arith) (no-given v k)))
 
 pub same-refusal : (s : List ℕ) (allow : Bool) (k : ℕ) → k ≤ 12 → SameRefusal s allow k
 unfolding waits-answer planned starts-answer judged
@@ -80,8 +75,8 @@ returned-records s allow q v list out sheet h e =
     let times = start-times (count-of q) (serialized-of q) (delays list) in
     let short = too-short list (count-of q) || too-short out (count-of q) in
     let r = when-given-has (judge-records q allow) (λ v. refuse-if (delays-wrong (q .steps) list) 13 (refuse-if short 14 (given v))) h in
-    let r13 = refuse-given (delays-wrong (q .steps) list) 13 (refuse-if short 14 (given (r .0))) (r .2) in
-    let r14 = refuse-given short 14 (given (r .0)) (r13 .1) in
+    let r13 = refuse-given (delays-wrong (q .steps) list) 13 (refuse-if short 14 (given (r .0))) v .0 (r .2) in
+    let r14 = refuse-given short 14 (given (r .0)) v .0 (r13 .1) in
     record {
       accepted = record { sheet = sheet; accepts = when-given-by (λ q. judge-records q allow) (sheet .reads) ∙ r .1 ∙ r14 .1 };
       source = source-zero (q .steps) list (read-fits s q (sheet .bytes) (sheet .reads) .some) (r13 .0);
@@ -92,34 +87,3 @@ pub returned : (s : List ℕ) (allow : Bool) (q : Records) (v : ℕ) (list out :
 unfolding starts-answer starts-read
 returned s allow q v list out sheet h =
     returned-records s allow q v list out sheet (ap (λ (o : Outcome Records). starts-read o allow list out .verdict) (sym (sheet .reads)) ∙ h) (ap (λ (o : Outcome Records). starts-read o allow list out .numbers) (sheet .reads))
-
--- The plan's table is its rows, one behind the other.
-module _ (n : ℕ) (es : List Edge) where
-  row-length : (v : ℕ) → length (plan-row n es v) ≡ n
-  unfolding plan-row
-  row-length v = tabulate-length (plan-entry n es v) n
-
-  rows-length : (k : ℕ) → length (plan-rows n es k) ≡ k * n
-  unfolding plan-rows
-  rows-length zero = omega arith
-  rows-length (suc k) = omega (arith, length-append (plan-rows n es k) (plan-row n es k), rows-length k, row-length k, suc-mul k n)
-
-  rows-at : (k v a : ℕ) → v < k → a < n → getD (plan-rows n es k) (v * n + a) 0 ≡ plan-entry n es v a
-  unfolding plan-rows plan-row
-  rows-at zero v a h b = absurd (omega arith)
-  rows-at (suc k) v a h b = go (last-or-below k v h) (λ c. rows-at k v a c b)
-    where
-      go : (v ≡ k) ⊎ (v < k) → (v < k → getD (plan-rows n es k) (v * n + a) 0 ≡ plan-entry n es v a) → getD (plan-rows n es k ++ plan-row n es k) (v * n + a) 0 ≡ plan-entry n es v a
-      go (inl e) below =
-          ap (λ (i : ℕ). getD (plan-rows n es k ++ plan-row n es k) i 0) (let at : v * n + a ≡ length (plan-rows n es k) + a = omega (arith, rows-length k, ap (λ (i : ℕ). i * n) e) in at) ∙
-          getD-append-add (plan-rows n es k) (plan-row n es k) a 0 ∙ tabulate-at (plan-entry n es k) n a 0 b ∙ ap (λ (i : ℕ). plan-entry n es i a) (sym e)
-      go (inr c) below =
-          List·getD-append (plan-rows n es k) (plan-row n es k) 0 (v * n + a) (omega (arith, rows-length k, mul-le-mul-right n c, suc-mul v n)) ∙ below c
-
-  pub table-length : length (plan-table n es) ≡ n * n
-  unfolding plan-table
-  table-length = rows-length n
-
-  pub table-at : (v a : ℕ) → v < n → a < n → getD (plan-table n es) (v * n + a) 0 ≡ plan-entry n es v a
-  unfolding plan-table
-  table-at v a h b = rows-at n v a h b

@@ -37,7 +37,7 @@ module _ {s : List ℕ} {allow : Bool} {q : Records} {v : ℕ} (accepted : Accep
   accepted-fits = read-fits s q (accepted .sheet .bytes) (accepted .sheet .reads)
 
   accepted-judged : Passes (count-of q) (edges-of q) × ((needs-waits (count-of q) (edges-of q) && not allow) ≡ false) × (cond (needs-waits (count-of q) (edges-of q)) 1 0 ≡ v)
-  accepted-judged = judge-given (count-of q) (edges-of q) allow (sym (judged-edges s (accepted .sheet .reads) allow) ∙ accepted .accepts)
+  accepted-judged = judge-given (count-of q) (edges-of q) allow v .0 (sym (judged-edges s (accepted .sheet .reads) allow) ∙ accepted .accepts)
 
   pub accepted-passes : Passes (count-of q) (edges-of q)
   accepted-passes = accepted-judged .0

@@ -26,16 +26,15 @@ use Rattle.theory.proofs.Reachability.{in-anchor-set-iff, dec-member}
 use Rattle.theory.proofs.WaitLists.{needs-waits-iff}
 use Rattle.theory.proofs.SoleDelays.{sole-delay-source}
 use Rattle.theory.proofs.StartTimes.{relative-all, start-times-length, start-times-source, start-times-rule}
-use Rattle.theory.proofs.Irredundance.{deciding-attains}
 use Rattle.theory.proofs.DecidingSets.{overrides-iff, decides-iff}
-use Rattle.theory.proofs.Plans.{plan-well, plan-posed, plan-forward-acyclic, plan-wait-other, plan-wait-not-source, plan-relative, plan-enough, plan-offset-limit, plan-start-limit-64, plan-strict, plan-deciding-least}
+use Rattle.theory.proofs.PlanTables.{plan-table-length, plan-table-at, plan-table-row}
+use Rattle.theory.proofs.Plans.{plan-some, plan-well, plan-posed, plan-forward-acyclic, plan-wait-other, plan-wait-not-source, plan-relative, plan-enough, plan-offset-limit, plan-start-limit-64, plan-strict, plan-deciding-least}
 use Rattle.demands.specs.Demands.{Accepted, IsDelayList, in-start-set, sheet-offset, sheet-decides, our-start, term, sheet-waits, wait-pair, WaitsFor, OffsetFor, StartRuleFor, GivesStart, Needed, LeftOut, DecidingFor, PlanFor}
 use Rattle.demands.proofs.Reading.{Fits}
 use Rattle.demands.proofs.Edges.{sheet-shape, sheet-gains}
 use Rattle.demands.proofs.Meaning.{waits-shape, meant-for}
 use Rattle.demands.proofs.Listing.{listed-iff}
 use Rattle.demands.proofs.DelayLists.{list-within, limit-most, source-zero, sole-list, sole-delays, sole-allowed}
-use Rattle.demands.proofs.Calls.{table-length, table-at}
 use Rattle.demands.proofs.Sheets.{not-8}
 use Rattle.demands.proofs.OurStarts.{accepted-fits, accepted-passes, accepted-verdict, accepted-well, verdict-zero}
 
@@ -129,9 +128,7 @@ module _ {s : List ℕ} {allow : Bool} {q : Records} {v : ℕ} (accepted : Accep
 
     some : (a : ℕ) × (sheet-decides q a i ≡ true)
     unfolding serialized-of
-    some =
-        let r = deciding-attains shape acyclic (plan-well well .rooted) (dec-member shape) (relative (λ x. 0) refl) i inside in
-        (r .0, decided (r .0) .1 (r .1))
+    some = let r = plan-some well i inside in (r .0, r .2)
 
     deciding-part : GivesStart q i (λ a. sheet-decides q a i)
     deciding-part = record { some = some; within = decided-member; same = λ list L. enough (delays list) (source-zero (q .steps) list (fits .some) (L .within)) }
@@ -193,4 +190,4 @@ module _ {s : List ℕ} {allow : Bool} {q : Records} {v : ℕ} (accepted : Accep
     deciding-for = record { enough = enough; part = deciding-part; smallest = smallest; needed = λ a m. (needed-by a, needed-decides a m); left-out = λ a m. (left-out-by a m, λ r. out-left a (r .0) (r .1)) }
 
   pub plan-for : PlanFor q
-  plan-for = record { size = table-length n (serialized-of q); entry = λ i a b c. unfold plan-entry in table-at n (serialized-of q) i a b c; apart = λ i a b h. omega (arith, offset-most a i b (decided-member i b a h)) }
+  plan-for = record { size = plan-table-length n (serialized-of q); entry = λ i a b c. unfold plan-entry in plan-table-at n (serialized-of q) i a 0 b c; row = λ i b rest. plan-table-row n (serialized-of q) i b rest; apart = λ i a b h. omega (arith, offset-most a i b (decided-member i b a h)) }

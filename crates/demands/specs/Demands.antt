@@ -19,7 +19,7 @@ use Rattle.definitions.specs.Links.{Constraint, sequencing, constraints, delay-
 use Rattle.definitions.specs.Rounds.{cell, reaches, after-reaches}
 use Rattle.definitions.specs.Anchors.{InAnchorSet, in-anchor-set, WellPosed, well-posed}
 use Rattle.definitions.specs.Waits.{Wait, WaitPair, wait-list, wait-maps, wait-count}
-use Rattle.definitions.specs.Plan.{Offset, offset, start-times, decides, plan-table, undecided, delays-wrong, delays}
+use Rattle.definitions.specs.Plan.{Offset, offset, start-times, decides, plan-row, plan-table, row-part, undecided, delays-wrong, delays}
 use Rattle.definitions.specs.Rival.{Extension}
 use Rattle.definitions.specs.Answers.{closes-circle, unreached, count-of, edges-of, serialized-of, judged, waits-answer, planned, starts-answer}
 use Rattle.definitions.specs.Worked.{Worked, worked-sheets}
@@ -256,10 +256,12 @@ abbrev pub DecidingSets : Type 0
 DecidingSets = (s : List ℕ) (allow : Bool) (q : Records) (v : ℕ) → Accepted s allow q v → (i : ℕ) → i < count-of q → DecidingFor q i
 
 -- "A plan is a table of N by N numbers of 32 bits .. The number at v × N + a is the offset, or 4,294,967,295 where a does not decide v." No offset is that number.
+-- "Row v can be asked for: that part of the caller's table is handed back, N numbers." The table may be longer than the plan.
 pub record PlanFor (q : Records) : Type 0 where
   pub size : length (plan-table (count-of q) (serialized-of q)) ≡ count-of q * count-of q
   pub entry : (v a : ℕ) → v < count-of q → a < count-of q → getD (plan-table (count-of q) (serialized-of q)) (v * count-of q + a) 0 ≡ cond (sheet-decides q a v) (sheet-offset q a v) undecided
   pub apart : (v a : ℕ) → v < count-of q → sheet-decides q a v ≡ true → sheet-offset q a v < undecided
+  pub row : (v : ℕ) → v < count-of q → (rest : List ℕ) → row-part (plan-table (count-of q) (serialized-of q) ++ rest) (count-of q) v ≡ plan-row (count-of q) (serialized-of q) v
 
 abbrev pub PlanTable : Type 0
 PlanTable = (s : List ℕ) (allow : Bool) (q : Records) (v : ℕ) → Accepted s allow q v → PlanFor q
