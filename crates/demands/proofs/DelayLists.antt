@@ -1,7 +1,7 @@
 -- Lists of durations: what refusal 13 leaves, and lists made of given delays.
 use mathlib.Core.Path.{_≡_, refl, sym, ap, fun-ext, _∙_}
 use mathlib.Core.Bool.{Bool, true, false, _&&_}
-use mathlib.Core.Logic.{_⊎_, inl, inr, _≢_}
+use mathlib.Core.Logic.{_⊎_, inl, inr, _≢_, _↔_}
 use mathlib.Core.List.{List, [], _∷_}
 use Prim.Native.Nat.{ℕ, zero, suc, _+_, _≤_, _<_}
 use native.Mathlib.Omega.{arith}
@@ -21,7 +21,7 @@ use Rattle.laws.proofs.Bools.{bool-cases, and-split, and-join, both-ways, not-p
 use Rattle.laws.proofs.Tests.{any-below-none, none-any-below, tabulate-length, tabulate-at, tabulate-past}
 use Rattle.theory.specs.Graphs.{sole-delay}
 use Rattle.theory.proofs.SoleDelays.{sole-delay-source, sole-delay-other, sole-delay-limit}
-use Rattle.demands.specs.Demands.{IsDelayList}
+use Rattle.demands.specs.Demands.{IsDelayList, WithinLimits}
 
 -- A list is not refused exactly if each of its first entries is within its step's limit; an entry that is not there is 0.
 pub list-within : (os : List Operation) (list : List ℕ) → delays-wrong os list ≡ false → (i : ℕ) → i < length os → delays list i ≤ delay-limit i (delay-at os i)
@@ -52,6 +52,11 @@ unfolding delay-limit
 limit-most zero Open = omega arith
 limit-most (suc i) Open = omega arith
 limit-most i (Fixed t) = omega arith
+
+limit-fixed : (i ticks : ℕ) → delay-limit i (Fixed ticks) ≡ 0
+unfolding delay-limit
+limit-fixed zero ticks = refl
+limit-fixed (suc i) ticks = refl
 
 pub limit-open : (i : ℕ) (x : Delay) → i ≢ 0 → x ≡ Open → delay-limit i x ≡ 16777215
 unfolding delay-limit
@@ -89,3 +94,19 @@ sole-allowed q a b lasts = record { size = tabulate-length (sole-delay 16777215 
 pub sole-delay-zero : (x : ℕ) → sole-delay x 0 ≡ (λ a. 0)
 unfolding sole-delay
 sole-delay-zero x = refl
+
+-- Within the limits in document 01's words: by the step's number and its delay.
+pub limits-meant : (q : Records) → 1 ≤ count-of q → (list : List ℕ) → (delays-wrong (q .steps) list ≡ false) ↔ WithinLimits q list
+limits-meant q some list = (said, λ W. within-list (q .steps) list (λ i b. meant W i b (delay-at (q .steps) i) refl))
+  where
+    said : delays-wrong (q .steps) list ≡ false → WithinLimits q list
+    said h = record {
+      most = λ i b. omega (arith, list-within (q .steps) list h i b, limit-most i (delay-at (q .steps) i));
+      source = source-zero (q .steps) list some h;
+      fixed = λ i ticks b e. omega (arith, list-within (q .steps) list h i b, ap (delay-limit i) e, limit-fixed i ticks);
+    }
+
+    meant : WithinLimits q list → (i : ℕ) → i < count-of q → (x : Delay) → delay-at (q .steps) i ≡ x → delays list i ≤ delay-limit i (delay-at (q .steps) i)
+    meant W i b (Fixed ticks) e = omega (arith, W .fixed i ticks b e)
+    meant W zero b Open e = omega (arith, W .source)
+    meant W (suc i) b Open e = omega (arith, W .most (suc i) b, limit-open (suc i) (delay-at (q .steps) (suc i)) (λ z. omega arith) e)

@@ -1,18 +1,27 @@
 -- The theorems: one for each statement of specs/Demands.antt, in its order.
 use mathlib.Core.Path.{refl}
-use Rattle.demands.specs.Demands.{ImpossibleExactly, EachCallRefuses, StartsReturned, StartsKept, NobodyEarlier, NobodyEarlierWithWaits, OursAmongRivals, TestsMeant, WaitsListed, WaitsSound, OffsetsRight, StartRule, DecidingSets, PlanTable, HypothesesMet}
+use Rattle.demands.specs.Demands.{ListsMeant, ImpossibleExactly, JudgedExactly, EachCallRefuses, StartsReturned, StartsKept, NobodyEarlier, NobodyEarlierWithWaits, OursAmongRivals, TestsMeant, WaitsListed, WaitsSound, OffsetsRight, StartRule, DecidingSets, PlanTable, HypothesesMet}
 use Rattle.demands.proofs.Reading.{read-fits}
 use Rattle.demands.proofs.Meaning.{meant-for}
 use Rattle.demands.proofs.Listing.{listed-for}
 use Rattle.demands.proofs.Calls.{same-refusal, returned}
 use Rattle.demands.proofs.Impossibility.{impossible-for}
+use Rattle.demands.proofs.DelayLists.{limits-meant}
+use Rattle.demands.proofs.Verdicts.{judged-for}
 use Rattle.demands.proofs.OurStarts.{kept-for, ours-among, earliest, earliest-of-rivals}
 use Rattle.demands.proofs.Planning.{waits-for-sheet, offset-for, start-rule-for, deciding-for, plan-for}
 use Rattle.demands.proofs.Examples.{examples}
 
+-- The words.
+pub lists-meant : ListsMeant
+lists-meant s q sheet = limits-meant q (read-fits s q (sheet .bytes) (sheet .reads) .some)
+
 -- Demand 3.
 pub impossible-exactly : ImpossibleExactly
 impossible-exactly = impossible-for
+
+pub judged-exactly : JudgedExactly
+judged-exactly = judged-for
 
 pub each-call-refuses : EachCallRefuses
 each-call-refuses = same-refusal

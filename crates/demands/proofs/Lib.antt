@@ -7,6 +7,7 @@ pub mod DelayLists
 pub mod Calls
 pub mod Sheets
 pub mod Impossibility
+pub mod Verdicts
 pub mod OurStarts
 pub mod Planning
 pub mod Examples

@@ -23,7 +23,7 @@ use Rattle.definitions.specs.Plan.{Offset, offset, start-times, decides, plan-r
 use Rattle.definitions.specs.Rival.{Extension}
 use Rattle.definitions.specs.Answers.{closes-circle, unreached, count-of, edges-of, serialized-of, judged, waits-answer, planned, starts-answer}
 use Rattle.definitions.specs.Worked.{Worked, worked-sheets}
-use Rattle.definitions.specs.declared.Delay.the-variants.{Open}
+use Rattle.definitions.specs.declared.Delay.the-variants.{Open, Fixed}
 use Rattle.theory.specs.Counts.{standing-bits}
 
 -- ## The words
@@ -61,6 +61,15 @@ NoStarts q d = (t : ℕ → ℕ) → ¬ KeepsLinks q d t
 pub record IsDelayList (q : Records) (list : List ℕ) : Type 0 where
   pub size : length list ≡ count-of q
   pub within : delays-wrong (q .steps) list ≡ false
+
+-- What the test for refusal 13 says of a list of N numbers: document 01's words.
+pub record WithinLimits (q : Records) (list : List ℕ) : Type 0 where
+  pub most : (i : ℕ) → i < count-of q → delays list i ≤ 16777215
+  pub source : delays list 0 ≡ 0
+  pub fixed : (i ticks : ℕ) → i < count-of q → delay-at (q .steps) i ≡ Fixed ticks → delays list i ≡ 0
+
+abbrev pub ListsMeant : Type 0
+ListsMeant = (s : List ℕ) (q : Records) → IsSheet s q → (list : List ℕ) → (delays-wrong (q .steps) list ≡ false) ↔ WithinLimits q list
 
 -- Some list of durations leaves none.
 pub record SomeListLeavesNone (q : Records) : Type 0 where
@@ -107,6 +116,28 @@ pub record ImpossibleFor (s : List ℕ) (allow : Bool) (q : Records) : Type 0 wh
 
 abbrev pub ImpossibleExactly : Type 0
 ImpossibleExactly = (s : List ℕ) (allow : Bool) (q : Records) → WellFormed s q → ImpossibleFor s allow q
+
+-- "8. Forward links close a circle. 9. A step has no forward chain from step 0." "12. Waits are needed and the caller did not allow them." "Verdict 0 is sound, 1 sound with waits."
+-- "Each refusal is given when its condition holds and no earlier one does, and only then."
+abbrev pub Circle : Records → Type 0
+Circle q = (x : ℕ) × (k : ℕ) × (g : ℕ) × (l : ℕ) × Walk (Forward (members (edges-of q))) x x (suc k) g l
+
+abbrev pub SomeStepUnreached : Records → Type 0
+SomeStepUnreached q = (v : ℕ) × (v < count-of q) × (¬ Joined (Forward (members (edges-of q))) 0 v)
+
+abbrev pub Sound : Records → Type 0
+Sound q = WellPosed (members (edges-of q))
+
+pub record JudgedFor (s : List ℕ) (allow : Bool) (q : Records) : Type 0 where
+  pub refused-8 : (judged s allow ≡ refused 8) ↔ Circle q
+  pub refused-9 : (judged s allow ≡ refused 9) ↔ ((¬ Circle q) × SomeStepUnreached q)
+  pub well-formed : WellFormed s q ↔ ((¬ Circle q) × (¬ SomeStepUnreached q))
+  pub refused-12 : (judged s allow ≡ refused 12) ↔ (WellFormed s q × (¬ SomeListLeavesNone q) × (¬ Sound q) × (allow ≡ false))
+  pub verdict-0 : (judged s allow ≡ given 0) ↔ (WellFormed s q × (¬ SomeListLeavesNone q) × Sound q)
+  pub verdict-1 : (judged s allow ≡ given 1) ↔ (WellFormed s q × (¬ SomeListLeavesNone q) × (¬ Sound q) × (allow ≡ true))
+
+abbrev pub JudgedExactly : Type 0
+JudgedExactly = (s : List ℕ) (allow : Bool) (q : Records) → IsSheet s q → JudgedFor s allow q
 
 -- "From each call that judges, lists waits, plans or works out starts": the refusals 1 to 12 are the same in each. Whoever lists waits allows them.
 pub record SameRefusal (s : List ℕ) (allow : Bool) (k : ℕ) : Type 0 where
