@@ -1,9 +1,9 @@
 -- The theorems: one for each statement of specs/Demands.antt, in its order.
 use mathlib.Core.Path.{refl}
-use Rattle.demands.specs.Demands.{ListsMeant, ImpossibleExactly, JudgedExactly, EachCallRefuses, StartsReturned, StartsKept, NobodyEarlier, NobodyEarlierWithWaits, OursAmongRivals, TestsMeant, WaitsListed, WaitsSound, OffsetsRight, StartRule, DecidingSets, PlanTable, HypothesesMet}
+use Rattle.demands.specs.Demands.{ListsMeant, ImpossibleExactly, JudgedExactly, EachCallRefuses, StartsReturned, StartsKept, NobodyEarlier, NobodyEarlierWithWaits, OursAmongRivals, TestsMeant, WaitsListed, WaitsSound, OffsetsRight, StartRule, DecidingSets, PlanTable, LinesListed, HypothesesMet}
 use Rattle.demands.proofs.Reading.{read-fits}
 use Rattle.demands.proofs.Meaning.{meant-for}
-use Rattle.demands.proofs.Listing.{listed-for}
+use Rattle.demands.proofs.Listing.{listed-for, lines-for}
 use Rattle.demands.proofs.Calls.{same-refusal, returned}
 use Rattle.demands.proofs.Impossibility.{impossible-for}
 use Rattle.demands.proofs.DelayLists.{limits-meant}
@@ -62,6 +62,9 @@ deciding-sets s allow q v accepted = deciding-for accepted
 
 pub plan-table : PlanTable
 plan-table s allow q v accepted = plan-for accepted
+
+pub lines-listed : LinesListed
+lines-listed s allow q v accepted = lines-for (read-fits s q (accepted .sheet .bytes) (accepted .sheet .reads)) accepted
 
 -- The theorems speak of something.
 pub hypotheses-met : HypothesesMet

@@ -3,6 +3,7 @@ pub mod Edges
 pub mod Judging
 pub mod Meaning
 pub mod Listing
+pub mod Orders
 pub mod DelayLists
 pub mod Calls
 pub mod Sheets

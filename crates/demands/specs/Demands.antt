@@ -22,6 +22,7 @@ use Rattle.definitions.specs.Waits.{Wait, WaitPair, wait-list, wait-maps, wait-
 use Rattle.definitions.specs.Plan.{Offset, offset, start-times, decides, plan-row, plan-table, row-part, undecided, delays-wrong, delays}
 use Rattle.definitions.specs.Rival.{Extension}
 use Rattle.definitions.specs.Answers.{closes-circle, unreached, count-of, edges-of, serialized-of, judged, waits-answer, planned, starts-answer}
+use Rattle.definitions.specs.Output.{StartLine, Listing, start-lines, listed}
 use Rattle.definitions.specs.Worked.{Worked, worked-sheets}
 use Rattle.definitions.specs.declared.Delay.the-variants.{Open, Fixed}
 use Rattle.theory.specs.Counts.{standing-bits}
@@ -207,9 +208,19 @@ TestsMeant = (s : List ℕ) (q : Records) → IsSheet s q → MeantFor q
 
 -- ## Demand 2: waits
 
+-- A list in rising order: each member stands before all that follow it, so that none is there twice.
+abbrev pub Rising : {A : Type 0} → (A → A → Type 0) → List A → Type 0
+Rising before [] = Unit {0}
+Rising {A} before (x ∷ l) = ((y : A) → List·Memᴰ y l → before x y) × Rising before l
+
+-- "They are listed by a, then by i."
+abbrev pub WaitBefore : WaitPair → WaitPair → Type 0
+WaitBefore w u = (w .anchor < u .anchor) ⊎ ((w .anchor ≡ u .anchor) × (w .target < u .target))
+
 -- What is listed are the waits of document 01, none of a step on itself or into step 0. "The library returns them as 64 maps of 64 bits, bit a of map i."
 pub record ListedFor (q : Records) : Type 0 where
   pub listed : (a i : ℕ) → List·Memᴰ (wait-pair a i) (sheet-waits q) ↔ Wait (members (edges-of q)) a i
+  pub order : Rising WaitBefore (sheet-waits q)
   pub maps-size : length (wait-maps (count-of q) (edges-of q)) ≡ 64
   pub maps-small : (i : ℕ) → cell (wait-maps (count-of q) (edges-of q)) i < 2 ^ 64
   pub maps-bits : (a i : ℕ) → (test-bit (cell (wait-maps (count-of q) (edges-of q)) i) a ≡ true) ↔ List·Memᴰ (wait-pair a i) (sheet-waits q)
@@ -296,6 +307,21 @@ pub record PlanFor (q : Records) : Type 0 where
 
 abbrev pub PlanTable : Type 0
 PlanTable = (s : List ℕ) (allow : Bool) (q : Records) (v : ℕ) → Accepted s allow q v → PlanFor q
+
+-- "A start line is step, deciding step, offset, in rising order of the first two." What is listed of an accepted sheet is its verdict, its waits and these lines.
+abbrev pub sheet-lines : Records → List StartLine
+sheet-lines q = start-lines (count-of q) (serialized-of q)
+
+abbrev pub LineBefore : StartLine → StartLine → Type 0
+LineBefore k l = (k .step < l .step) ⊎ ((k .step ≡ l .step) × (k .decider < l .decider))
+
+pub record LinesFor (s : List ℕ) (allow : Bool) (q : Records) (v : ℕ) : Type 0 where
+  pub listing : listed s allow ≡ given (record { verdict = v; waits = sheet-waits q; starts = sheet-lines q })
+  pub lines : (i a ticks : ℕ) → List·Memᴰ (record { step = i; decider = a; ticks = ticks }) (sheet-lines q) ↔ ((i < count-of q) × (sheet-decides q a i ≡ true) × (ticks ≡ sheet-offset q a i))
+  pub order : Rising LineBefore (sheet-lines q)
+
+abbrev pub LinesListed : Type 0
+LinesListed = (s : List ℕ) (allow : Bool) (q : Records) (v : ℕ) → Accepted s allow q v → LinesFor s allow q v
 
 -- ## The hypotheses are met
 
