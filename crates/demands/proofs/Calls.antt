@@ -1,27 +1,18 @@
 -- What the calls return: each judges the sheet first, and refuses with 1 to 12 exactly where judging does; starts and plan entries stand where document 01 says.
-use mathlib.Core.Path.{_≡_, refl, sym, ap, _∙_}
-use mathlib.Core.Bool.{Bool, true, false, cond, not, _&&_, _||_}
-use mathlib.Core.Logic.{_⊎_, inl, inr, _≢_, _↔_}
-use mathlib.Core.List.{List, [], _∷_, _++_}
-use Prim.Native.Nat.{ℕ, zero, suc, _+_, _*_, _≤_, _<_}
+use mathlib.Core.Path.{_≡_, sym, ap, _∙_}
+use mathlib.Core.Bool.{Bool, true, _||_}
+use mathlib.Core.Logic.{_≢_, _↔_}
+use mathlib.Core.List.{List, _++_}
+use Prim.Native.Nat.{ℕ, _*_, _≤_}
 use native.Mathlib.Omega.{arith}
-use native.Mathlib.Nat.{suc-mul, mul-le-mul-right}
-use lib.Dec.{ltb}
-use lib.ListN.{length, getD, length-append, length-replicate, List·getD-append, drop}
-use lib.Seq.{getD-append-add}
-use borrow.Author.Tests.{ltb-false, lt-ltb}
-use Rattle.definitions.specs.Basics.{tabulate, any-below, Outcome, given, refused, refuse-if, when-given}
+use lib.ListN.{length, List·getD-append, drop}
+use Rattle.definitions.specs.Basics.{Outcome, given, refused, refuse-if, when-given}
 use Rattle.definitions.specs.Bytes.{Records, read}
-use Rattle.definitions.specs.Links.{Edge, delay-at}
 use Rattle.definitions.specs.Rounds.{cell}
-use Rattle.definitions.specs.Plan.{start-from, start-turns, start-times, plan-entry, plan-row, plan-rows, plan-table, delay-limit, delay-wrong, delays-wrong, delays}
-use Rattle.definitions.specs.Answers.{count-of, edges-of, serialized-of, judge-records, judged, no-waits, waits-when, waits-read, waits-answer, too-short, written, plan-verdict, plan-read, planned, starts-verdict, starts-read, starts-answer}
-use Rattle.definitions.specs.declared.Delay.{Delay}
-use Rattle.definitions.specs.declared.Delay.the-variants.{Open, Fixed}
-use Rattle.laws.proofs.Bools.{bool-cases, and-join, both-ways}
+use Rattle.definitions.specs.Plan.{start-times, delays-wrong, delays}
+use Rattle.definitions.specs.Answers.{count-of, serialized-of, judge-records, judged, no-waits, waits-when, waits-read, waits-answer, too-short, written, plan-verdict, plan-read, planned, starts-verdict, starts-read, starts-answer}
 use Rattle.laws.proofs.Outcomes.{given-not-refused, refuse-given, refuse-never, when-given-by, when-given-has}
-use Rattle.laws.proofs.Tests.{last-or-below, tabulate-length, tabulate-at, any-below-none}
-use Rattle.demands.specs.Demands.{IsSheet, Accepted, SameRefusal, ReturnedFor, our-start}
+use Rattle.demands.specs.Demands.{IsSheet, SameRefusal, ReturnedFor}
 use Rattle.theory.proofs.StartTimes.{start-times-length}
 use Rattle.demands.proofs.Reading.{read-fits}
 use Rattle.demands.proofs.DelayLists.{source-zero}

@@ -3,33 +3,28 @@ use mathlib.Core.Path.{_≡_, refl, sym, ap, subst, _∙_}
 use mathlib.Core.Bool.{Bool, true, false, cond, not, _&&_}
 use mathlib.Core.Logic.{_⊎_, inl, inr, _≢_, _↔_}
 use mathlib.Core.List.{List, [], _∷_, _++_, map, List·Memᴰ, List·Memᴰ·head, List·Memᴰ·tail, List·Memᴰ·append-cases, Memᴰ·append-left, Memᴰ·append-right, Memᴰ·map, Memᴰ·of-map, map-append, map-map}
-use Prim.Native.Nat.{ℕ, zero, suc, _+_, _≤_, _<_}
+use Prim.Native.Nat.{ℕ, zero, suc, _≤_, _<_}
 use native.Mathlib.Omega.{arith}
-use lib.Dec.{eqb}
 use borrow.Author.Tests.{ne-eqb}
-use Rattle.definitions.specs.Basics.{Outcome, given, refused}
-use Rattle.definitions.specs.Bytes.{Records, read}
-use Rattle.definitions.specs.Links.{Edge, members, Constraint, sequencing, constraints, delay-at, duration-with, duration, Keeps, KeepsAll, sequencing-edge, edge-of, edges, After}
-use Rattle.definitions.specs.Waits.{Wait, WaitPair, wait-list, needs-waits, wait-edge, serialized}
+use Rattle.definitions.specs.Bytes.{Records}
+use Rattle.definitions.specs.Links.{Edge, members, Constraint, constraints, delay-at, duration-with, KeepsAll, sequencing-edge, edge-of, edges}
+use Rattle.definitions.specs.Waits.{WaitPair, needs-waits, wait-edge, serialized}
 use Rattle.definitions.specs.Anchors.{WellPosed}
 use Rattle.definitions.specs.Rival.{Further, Extension}
-use Rattle.definitions.specs.Answers.{judged, count-of, edges-of, serialized-of}
+use Rattle.definitions.specs.Answers.{count-of, edges-of, serialized-of}
 use Rattle.definitions.specs.declared.Delay.{Delay}
 use Rattle.definitions.specs.declared.Delay.the-variants.{Open, Fixed}
-use Rattle.definitions.specs.declared.Operation.{Operation}
-use Rattle.laws.proofs.Bools.{bool-cases}
-use Rattle.theory.specs.Graphs.{Schedule, Shape, Well}
-use Rattle.theory.proofs.Walks.{after-start-below}
+use Rattle.theory.specs.Graphs.{Schedule, Well}
 use Rattle.theory.proofs.Serialization.{wait-after}
 use Rattle.theory.proofs.WaitLists.{listed-wait, wait-list-only}
 use Rattle.theory.proofs.Plans.{plan-posed, plan-keeps-waits, plan-least-unwaited, plan-least-rival}
-use Rattle.demands.specs.Demands.{IsSheet, Accepted, KeepsLinks, KeptFor, OursAmong, our-start, sheet-waits, wait-link}
+use Rattle.demands.specs.Demands.{Accepted, KeepsLinks, KeptFor, OursAmong, our-start, sheet-waits, wait-link}
 use Rattle.demands.proofs.Reading.{Fits, read-fits}
 use Rattle.demands.proofs.Edges.{keeps-schedule, schedule-keeps, sheet-shape, rival-shape, rival-above}
 use Rattle.demands.proofs.Judging.{Passes, judge-given, judged-edges}
 use Rattle.demands.proofs.Meaning.{after-open}
 use Rattle.demands.proofs.Sheets.{passes-well}
-use Rattle.demands.proofs.Impossibility.{keeps-sheet, our-starts-keep}
+use Rattle.demands.proofs.Impossibility.{keeps-sheet}
 
 -- What acceptance says.
 module _ {s : List ℕ} {allow : Bool} {q : Records} {v : ℕ} (accepted : Accepted s allow q v) where

@@ -3,12 +3,12 @@ use mathlib.Core.Path.{_≡_, refl, sym, ap, _∙_}
 use mathlib.Core.Bool.{Bool, true, false, cond, not, _&&_, true≢false, false≢true}
 use mathlib.Core.Logic.{_⊎_, inl, inr, _≢_, _↔_}
 use mathlib.Core.List.{List}
-use Prim.Native.Nat.{ℕ, _+_, _≤_, _<_}
+use Prim.Native.Nat.{ℕ}
 use native.Mathlib.Omega.{arith}
-use borrow.Author.Tests.{not-true, not-false}
-use Rattle.definitions.specs.Basics.{Outcome, given, refused}
+use borrow.Author.Tests.{not-true}
+use Rattle.definitions.specs.Basics.{refused}
 use Rattle.definitions.specs.Bytes.{Records}
-use Rattle.definitions.specs.Links.{Edge, members}
+use Rattle.definitions.specs.Links.{Edge}
 use Rattle.definitions.specs.Waits.{needs-waits}
 use Rattle.definitions.specs.Answers.{closes-circle, unreached, infeasible, inconsistent, judged, judge-edges, count-of, edges-of}
 use Rattle.laws.proofs.Bools.{and-split, and-join, not-passing, both-ways}

@@ -8,21 +8,21 @@
 -- Words that are not defined here are those of the crate definitions, in the words of document 01: Bytes, Links, Anchors, Waits, Plan, Rival, Answers, to be read in this order.
 -- Start times and durations are functions from steps to whole numbers, with no largest one: a hand may take any time at all. Lists of durations are a case of them.
 use mathlib.Core.Path.{_≡_}
-use mathlib.Core.Bool.{Bool, true, false, cond, not, _&&_}
+use mathlib.Core.Bool.{Bool, true, false, cond}
 use mathlib.Core.Logic.{_⊎_, _≢_, _↔_}
 use mathlib.Core.List.{List, [], _∷_, _++_, map, List·Memᴰ}
-use Prim.Native.Nat.{ℕ, zero, suc, _+_, _*_, _^_, _≤_, _<_}
+use Prim.Native.Nat.{ℕ, suc, _+_, _*_, _^_, _≤_, _<_}
 use lib.ListN.{length, getD}
-use Rattle.definitions.specs.Basics.{largest, test-bit, Outcome, given, refused}
+use Rattle.definitions.specs.Basics.{largest, test-bit, given, refused}
 use Rattle.definitions.specs.Bytes.{Records, read}
-use Rattle.definitions.specs.Links.{Constraint, sequencing, constraints, delay-at, Keeps, KeepsAll, Edge, edges, Graph, members, Forward, Walk, Joined, After}
+use Rattle.definitions.specs.Links.{Constraint, sequencing, constraints, delay-at, Keeps, KeepsAll, Edge, members, Forward, Walk, Joined, After}
 use Rattle.definitions.specs.Rounds.{cell, reaches, after-reaches}
 use Rattle.definitions.specs.Anchors.{InAnchorSet, in-anchor-set, WellPosed, well-posed}
 use Rattle.definitions.specs.Waits.{Wait, WaitPair, wait-list, wait-maps, wait-count}
 use Rattle.definitions.specs.Plan.{Offset, offset, start-times, decides, plan-row, plan-table, row-part, undecided, delays-wrong, delays}
 use Rattle.definitions.specs.Rival.{Extension}
 use Rattle.definitions.specs.Answers.{closes-circle, unreached, count-of, edges-of, serialized-of, judged, waits-answer, planned, starts-answer}
-use Rattle.definitions.specs.Output.{StartLine, Listing, start-lines, listed}
+use Rattle.definitions.specs.Output.{StartLine, start-lines, listed}
 use Rattle.definitions.specs.Worked.{Worked, worked-sheets}
 use Rattle.definitions.specs.declared.Delay.the-variants.{Open, Fixed}
 use Rattle.theory.specs.Counts.{standing-bits}

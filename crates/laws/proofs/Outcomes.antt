@@ -1,5 +1,5 @@
 -- Laws of answers that may be refusals: an answer is no refusal, and what a chain of refusals says when it is passed, or stops.
-use mathlib.Core.Path.{_≡_, refl, sym, ap, _∙_}
+use mathlib.Core.Path.{_≡_, refl, sym}
 use mathlib.Core.Bool.{Bool, true, false, true≢false, false≢true}
 use mathlib.Core.Logic.{_≢_, _↔_}
 use Prim.Native.Nat.{ℕ}
