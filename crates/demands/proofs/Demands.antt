@@ -1,12 +1,13 @@
 -- The theorems: one for each statement of specs/Demands.antt, in its order.
 use mathlib.Core.Path.{refl}
-use Rattle.demands.specs.Demands.{ListsMeant, ImpossibleExactly, JudgedExactly, EachCallRefuses, StartsReturned, StartsKept, NobodyEarlier, NobodyEarlierWithWaits, OursAmongRivals, TestsMeant, WaitsListed, WaitsSound, OffsetsRight, StartRule, DecidingSets, PlanTable, LinesListed, HypothesesMet}
+use Rattle.demands.specs.Demands.{ListsMeant, ImpossibleExactly, ReadExactly, WellFormedExactly, JudgedExactly, EachCallRefuses, StartsReturned, StartsKept, NobodyEarlier, NobodyEarlierWithWaits, OursAmongRivals, TestsMeant, WaitsListed, WaitsSound, OffsetsRight, StartRule, DecidingSets, PlanTable, LinesListed, HypothesesMet}
 use Rattle.demands.proofs.Reading.{read-fits}
 use Rattle.demands.proofs.Meaning.{meant-for}
 use Rattle.demands.proofs.Listing.{listed-for, lines-for}
 use Rattle.demands.proofs.Calls.{same-refusal, returned}
 use Rattle.demands.proofs.Impossibility.{impossible-for}
 use Rattle.demands.proofs.DelayLists.{limits-meant}
+use Rattle.demands.proofs.Refusals as Refusals
 use Rattle.demands.proofs.Verdicts.{judged-for}
 use Rattle.demands.proofs.OurStarts.{kept-for, ours-among, earliest, earliest-of-rivals}
 use Rattle.demands.proofs.Planning.{waits-for-sheet, offset-for, start-rule-for, deciding-for, plan-for}
@@ -19,6 +20,12 @@ lists-meant s q sheet = limits-meant q (read-fits s q (sheet .bytes) (sheet .rea
 -- Demand 3.
 pub impossible-exactly : ImpossibleExactly
 impossible-exactly = impossible-for
+
+pub read-exactly : ReadExactly
+read-exactly = Refusals.read-exactly
+
+pub well-formed-exactly : WellFormedExactly
+well-formed-exactly = Refusals.well-formed-exactly
 
 pub judged-exactly : JudgedExactly
 judged-exactly = judged-for

@@ -51,6 +51,10 @@ module _ (n : ℕ) (es : List Edge) (allow : Bool) where
   never-9 : {k : ℕ} → k < 9 → from-9 ≢ refused k
   never-9 h = refuse-never (unreached n es) 9 from-10 (λ e. omega arith) (never-10 (omega arith))
 
+  pub judge-never : {k : ℕ} → k < 8 → judge-edges n es allow ≢ refused k
+  unfolding judge-edges
+  judge-never h = refuse-never (closes-circle n es) 8 from-9 (λ e. omega arith) (never-9 (omega arith))
+
   pub judge-8 : (judge-edges n es allow ≡ refused 8) ↔ (closes-circle n es ≡ true)
   unfolding judge-edges
   judge-8 = refuse-own (closes-circle n es) 8 from-9 (never-9 (omega arith))

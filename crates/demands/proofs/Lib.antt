@@ -1,6 +1,7 @@
 pub mod Reading
 pub mod Edges
 pub mod Judging
+pub mod Refusals
 pub mod Meaning
 pub mod Listing
 pub mod Orders

@@ -118,6 +118,13 @@ pub record ImpossibleFor (s : List ℕ) (allow : Bool) (q : Records) : Type 0 wh
 abbrev pub ImpossibleExactly : Type 0
 ImpossibleExactly = (s : List ℕ) (allow : Bool) (q : Records) → WellFormed s q → ImpossibleFor s allow q
 
+-- The refusals 1 to 7 are those of reading the bytes, and reading gives no others. So a sheet is well-formed exactly if no refusal from 1 to 9 is given.
+abbrev pub ReadExactly : Type 0
+ReadExactly = (s : List ℕ) (allow : Bool) (k : ℕ) → (read s ≡ refused k) ↔ ((judged s allow ≡ refused k) × (k ≤ 7))
+
+abbrev pub WellFormedExactly : Type 0
+WellFormedExactly = (s : List ℕ) → Bytes s → (allow : Bool) → ((q : Records) × WellFormed s q) ↔ ((k : ℕ) → k ≤ 9 → judged s allow ≢ refused k)
+
 -- "8. Forward links close a circle. 9. A step has no forward chain from step 0." "12. Waits are needed and the caller did not allow them." "Verdict 0 is sound, 1 sound with waits."
 -- "Each refusal is given when its condition holds and no earlier one does, and only then."
 abbrev pub Circle : Records → Type 0
