@@ -110,8 +110,7 @@ module _ (n : ℕ) (es : List Edge) (allow : Bool) where
       let r9 = refuse-given (unreached n es) 9 from-10 v in
       let r10 = refuse-given (infeasible n es) 10 from-11 v in
       let r11 = refuse-given (inconsistent n es) 11 from-12 v in
-      let r12 = refuse-given waits-refused 12 last v in
-      (
+      let r12 = refuse-given waits-refused 12 last v in (
         λ h. let a = r8 .0 h in let b = r9 .0 (a .1) in let c = r10 .0 (b .1) in let d = r11 .0 (c .1) in let e = r12 .0 (d .1) in (record { no-circle = a .0; all-reached = b .0; feasible = c .0; consistent = d .0 }, e .0, given-same (e .1)),
         λ h. r8 .1 (h .0 .no-circle, r9 .1 (h .0 .all-reached, r10 .1 (h .0 .feasible, r11 .1 (h .0 .consistent, r12 .1 (h .1, ap given (h .2)))))),
       )

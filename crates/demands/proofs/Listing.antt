@@ -60,9 +60,10 @@ module _ {q : Records} (fits : Fits q) where
       let r = wait-map-iff (sheet-shape fits) i a in
       let l = listed-iff a i in
       (λ h. l .1 (r .0 (ap (λ (m : ℕ). test-bit m a) (sym (wait-maps-at n es i c)) ∙ h)), λ m. ap (λ (x : ℕ). test-bit x a) (wait-maps-at n es i c) ∙ r .1 (l .0 m))
-  maps-bits a i (no c) =
-      (λ h. absurd (both-ways h (ap (λ (m : ℕ). test-bit m a) (maps-past n es i (omega arith)) ∙ no-bits a)),
-       λ m. absurd (omega (arith, wait-target-below (sheet-shape fits) (listed-iff a i .0 m), fits .few)))
+  maps-bits a i (no c) = (
+    λ h. absurd (both-ways h (ap (λ (m : ℕ). test-bit m a) (maps-past n es i (omega arith)) ∙ no-bits a)),
+    λ m. absurd (omega (arith, wait-target-below (sheet-shape fits) (listed-iff a i .0 m), fits .few)),
+  )
 
   maps-small : (i : ℕ) → Dec (i < 64) → cell (wait-maps n es) i < 2 ^ 64
   maps-small i (yes c) = omega (arith, wait-maps-at n es i c, wait-map-small n es i, pow-mono (fits .few))

@@ -89,9 +89,9 @@ module _ (s : List ℕ) (allow : Bool) (q : Records) (sheet : IsSheet s q) where
   twelve : (judge-edges n es allow ≡ refused 12) ↔ (Passes n es × (needs-waits n es ≡ true) × (allow ≡ false))
   twelve = (
     λ h. let f = twelve-formed h in
-    let r = judge-12 n es allow (f .0) (f .1) .0 h in
-    let w = and-split (needs-waits n es) (not allow) (r .2) in
-    (record { no-circle = f .0; all-reached = f .1; feasible = r .0; consistent = r .1 }, w .0, not-true allow (w .1)),
+        let r = judge-12 n es allow (f .0) (f .1) .0 h in
+        let w = and-split (needs-waits n es) (not allow) (r .2) in
+        (record { no-circle = f .0; all-reached = f .1; feasible = r .0; consistent = r .1 }, w .0, not-true allow (w .1)),
     λ r. judge-12 n es allow (r .0 .no-circle) (r .0 .all-reached) .1 (r .0 .feasible, r .0 .consistent, and-join (r .1) (ap not (r .2))),
   )
 
