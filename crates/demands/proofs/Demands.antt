@@ -1,11 +1,11 @@
 -- The theorems: one for each statement of specs/Demands.antt, in its order.
 use mathlib.Core.Path.{refl}
-use Rattle.demands.specs.Demands.{ListsMeant, ImpossibleExactly, ReadExactly, WellFormedExactly, JudgedExactly, EachCallRefuses, StartsReturned, StartsKept, NobodyEarlier, NobodyEarlierWithWaits, OursAmongRivals, TestsMeant, WaitsListed, WaitsSound, OffsetsRight, StartRule, DecidingSets, PlanTable, LinesListed, HypothesesMet}
+use Rattle.demands.specs.Demands.{EdgesMeant, ListsMeant, ImpossibleExactly, ReadExactly, WellFormedExactly, JudgedExactly, EachCallRefuses, StartsReturned, StartsKept, NobodyEarlier, NobodyEarlierWithWaits, OursAmongRivals, TestsMeant, WaitsListed, WaitsSound, OffsetsRight, StartRule, DecidingSets, PlanTable, LinesListed, HypothesesMet}
 use Rattle.demands.proofs.Reading.{read-fits}
 use Rattle.demands.proofs.Meaning.{meant-for}
 use Rattle.demands.proofs.Listing.{listed-for, lines-for}
 use Rattle.demands.proofs.Calls.{same-refusal, returned}
-use Rattle.demands.proofs.Impossibility.{impossible-for}
+use Rattle.demands.proofs.Impossibility.{keeps-sheet, impossible-for}
 use Rattle.demands.proofs.DelayLists.{limits-meant}
 use Rattle.demands.proofs.Refusals as Refusals
 use Rattle.demands.proofs.Verdicts.{judged-for}
@@ -14,6 +14,9 @@ use Rattle.demands.proofs.Planning.{waits-for-sheet, offset-for, start-
 use Rattle.demands.proofs.Examples.{examples}
 
 -- The words.
+pub edges-meant : EdgesMeant
+edges-meant = keeps-sheet
+
 pub lists-meant : ListsMeant
 lists-meant s q sheet = limits-meant q (read-fits s q (sheet .bytes) (sheet .reads) .some)
 

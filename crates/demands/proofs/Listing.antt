@@ -19,7 +19,7 @@ use Rattle.definitions.specs.Output.{StartLine, lines-of, start-lines, list-rec
 use Rattle.laws.proofs.Outcomes.{when-given-by}
 use Rattle.theory.proofs.Walks.{member-below}
 use Rattle.theory.proofs.DecidingSets.{decides-iff}
-use Rattle.demands.proofs.Meaning.{waits-shape}
+use Rattle.demands.proofs.Meaning.{waits-shape, wait-of}
 use Rattle.laws.proofs.Bools.{both-ways}
 use Rattle.laws.proofs.Tests.{tabulate-length, tabulate-past}
 use Rattle.theory.specs.Graphs.{Shape}
@@ -71,7 +71,7 @@ module _ {q : Records} (fits : Fits q) where
 
   pub listed-for : ListedFor q
   unfolding wait-maps wait-count
-  listed-for = record { listed = listed-iff; order = waits-rising n es; maps-size = tabulate-length (wait-map n es) 64; maps-small = λ i. maps-small i (decLt i 64); maps-bits = λ a i. maps-bits a i (decLt i 64); count-list = refl; count-maps = wait-count-bits n es (fits .few) }
+  listed-for = record { listed = listed-iff; each = wait-of fits; order = waits-rising n es; maps-size = tabulate-length (wait-map n es) 64; maps-small = λ i. maps-small i (decLt i 64); maps-bits = λ a i. maps-bits a i (decLt i 64); count-list = refl; count-maps = wait-count-bits n es (fits .few) }
 
 -- Start lines are the pairs of a step and one that decides it, in rising order. One that decides is a member of a start set, and so a step.
 line-of : (n : ℕ) (es : List Edge) (i a : ℕ) → StartLine

@@ -2,7 +2,7 @@
 use mathlib.Core.Path.{_≡_, refl, sym, ap, subst, _∙_}
 use mathlib.Core.Bool.{true, not}
 use mathlib.Core.Logic.{_⊎_, inl, inr, _↔_}
-use mathlib.Core.List.{List}
+use mathlib.Core.List.{List, List·Memᴰ}
 use Prim.Native.Nat.{ℕ, suc, _+_, _<_}
 use native.Mathlib.Omega.{arith}
 use borrow.Author.Tests.{not-true}
@@ -17,9 +17,10 @@ use Rattle.laws.proofs.Tests.{any-has, any-by, any-below-has, any-below-by}
 use Rattle.theory.specs.Graphs.{Shape}
 use Rattle.theory.proofs.Walks.{walk-to, joined-mono, chain-after}
 use Rattle.theory.proofs.Reachability.{forwards-mem, mem-forwards, forwards-shape, reaches-iff, after-reaches-iff, in-anchor-set-iff, well-posed-iff}
-use Rattle.theory.proofs.Serialization.{after-back}
-use Rattle.theory.proofs.WaitLists.{serialized-waited, serialized-shape}
-use Rattle.demands.specs.Demands.{Meant, MeantFor}
+use Rattle.theory.proofs.Serialization.{after-back, wait-after}
+use Rattle.theory.proofs.WaitLists.{serialized-waited, serialized-shape, listed-wait, wait-list-only}
+use Rattle.definitions.specs.Waits.{WaitPair}
+use Rattle.demands.specs.Demands.{Meant, MeantFor, WaitOf, sheet-waits}
 use Rattle.demands.proofs.Reading.{Fits}
 use Rattle.demands.proofs.Edges.{sheet-shape, sheet-fits}
 
@@ -68,6 +69,13 @@ pub after-open : {q : Records} {a v : ℕ} → Fits q → After (members (edges-
 after-open {q} fits w =
     let e = w .walk .edge in
     subst (λ (i : ℕ). delay-at (q .steps) i ≡ Open) (w .walk .leaves) (sheet-fits fits e (w .walk .mem) .counted-open (w .walk .counts))
+
+-- A listed wait is of an open step other than 0, for another step.
+pub wait-of : {q : Records} → Fits q → (w : WaitPair) → List·Memᴰ w (sheet-waits q) → WaitOf q w
+wait-of {q} fits w m =
+    let below = wait-list-only (count-of q) (edges-of q) m in
+    let a = wait-after (listed-wait (sheet-shape fits) m) in
+    record { anchor-below = below .0; target-below = below .1; not-source = a .walk .not-source; lasts = after-open fits a }
 
 -- The sheet with its waits in has the shape of a sheet.
 module _ {q : Records} (fits : Fits q) where

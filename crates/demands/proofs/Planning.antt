@@ -109,7 +109,7 @@ module _ {s : List ℕ} {allow : Bool} {q : Records} {v : ℕ} (accepted : Accep
       plan-start-limit-64 well (sheet-gains fits) (fits .few) (delays list) (source-zero (q .steps) list (fits .some) (L .within)) (λ a b. omega (arith, list-within (q .steps) list (L .within) a b, limit-most a (delay-at (q .steps) a))) i c
 
   pub start-rule-for : StartRuleFor q
-  start-rule-for = record { source = λ d. start-times-source shape d; rule = λ d i b. start-times-rule shape d acyclic (suc i) b (λ e. omega arith); small = λ list L i. starts-most list L i (decLt i n) }
+  start-rule-for = record { source = λ d. start-times-source shape d; rule = λ d i b. start-times-rule shape d acyclic (suc i) b (λ e. omega arith); small = λ list L i. starts-most list L i (decLt i n); narrow = λ list L i. omega (arith, starts-most list L i (decLt i n)) }
 
   module _ (i : ℕ) (inside : i < n) where
     decided : (a : ℕ) → (sheet-decides q a i ≡ true) ↔ Decides (members (serialized-of q)) (sheet-offset q) a i

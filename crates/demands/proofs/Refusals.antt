@@ -1,7 +1,7 @@
 -- Reading refuses with 1 to 7, and judging a sheet that has been read with none of these. As in Reading.antt, a fact about each parser is carried through those that are built from it.
 use mathlib.Core.Path.{_≡_, refl, sym, ap, _∙_}
 use mathlib.Core.Bool.{Bool, true, false, _&&_}
-use mathlib.Core.Logic.{_⊎_, inl, inr, _≢_, _↔_}
+use mathlib.Core.Logic.{_⊎_, inl, inr, _≢_}
 use mathlib.Core.List.{List, [], _∷_}
 use Prim.Native.Nat.{ℕ, zero, suc, _+_, _*_, _≤_, _<_}
 use native.Mathlib.Omega.{arith}
@@ -13,8 +13,8 @@ use Rattle.definitions.specs.Answers.{closes-circle, unreached, count-of, edges
 use Rattle.definitions.specs.declared.Previous.{Previous}
 use Rattle.definitions.specs.declared.Previous.the-variants.{Nothing}
 use Rattle.laws.proofs.Bools.{not-passing, both-ways, same-or-not}
-use Rattle.laws.proofs.Outcomes.{given-not-refused, refused-same, when-given-by}
-use Rattle.demands.specs.Demands.{Bytes, WellFormed, ReadExactly, WellFormedExactly}
+use Rattle.laws.proofs.Outcomes.{given-not-refused, refused-same}
+use Rattle.demands.specs.Demands.{WellFormed, ReadExactly, WellFormedExactly}
 use Rattle.demands.proofs.Judging.{judge-8, judge-9, judge-never, judged-edges}
 
 -- Whatever a parser refuses with is a number of at most 7.
