@@ -127,7 +127,7 @@ ImpossibleExactly = (s : List ℕ) (allow : Bool) (q : Records) → WellFormed s
 -- The refusals 1 to 7 are those of reading the bytes, and reading gives no others. So a sheet is well-formed exactly if no refusal from 1 to 9 is given. Proofs: read-exactly,
 -- well-formed-exactly.
 abbrev pub ReadExactly : Type 0
-ReadExactly = (s : List ℕ) (allow : Bool) (k : ℕ) → (read s ≡ refused k) ↔ ((judged s allow ≡ refused k) × (k ≤ 7))
+ReadExactly = (s : List ℕ) → Bytes s → (allow : Bool) (k : ℕ) → (read s ≡ refused k) ↔ ((judged s allow ≡ refused k) × (k ≤ 7))
 
 abbrev pub WellFormedExactly : Type 0
 WellFormedExactly = (s : List ℕ) → Bytes s → (allow : Bool) → ((q : Records) × WellFormed s q) ↔ ((k : ℕ) → k ≤ 9 → judged s allow ≢ refused k)
