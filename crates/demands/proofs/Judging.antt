@@ -51,6 +51,16 @@ module _ (n : ℕ) (es : List Edge) (allow : Bool) where
   never-9 : {k : ℕ} → k < 9 → from-9 ≢ refused k
   never-9 h = refuse-never (unreached n es) 9 from-10 (λ e. omega arith) (never-10 (omega arith))
 
+  -- Judging gives no number below 8, nor one above 12.
+  pub judge-never-past : {k : ℕ} → 12 < k → judge-edges n es allow ≢ refused k
+  unfolding judge-edges
+  judge-never-past h =
+      refuse-never (closes-circle n es) 8 from-9 (λ e. omega arith)
+      (refuse-never (unreached n es) 9 from-10 (λ e. omega arith)
+      (refuse-never (infeasible n es) 10 from-11 (λ e. omega arith)
+      (refuse-never (inconsistent n es) 11 from-12 (λ e. omega arith)
+      (refuse-never waits-refused 12 last (λ e. omega arith) (λ e. given-not-refused e)))))
+
   pub judge-never : {k : ℕ} → k < 8 → judge-edges n es allow ≢ refused k
   unfolding judge-edges
   judge-never h = refuse-never (closes-circle n es) 8 from-9 (λ e. omega arith) (never-9 (omega arith))

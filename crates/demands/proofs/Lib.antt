@@ -9,6 +9,7 @@ pub mod DelayLists
 pub mod Calls
 pub mod Sheets
 pub mod Impossibility
+pub mod Answering
 pub mod Verdicts
 pub mod OurStarts
 pub mod Planning

@@ -13,7 +13,7 @@ use mathlib.Core.Bool.{Bool, true, false, cond}
 use mathlib.Core.Logic.{_⊎_, _≢_, _↔_}
 use mathlib.Core.List.{List, [], _∷_, _++_, map, List·Memᴰ}
 use Prim.Native.Nat.{ℕ, suc, _+_, _*_, _^_, _≤_, _<_}
-use lib.ListN.{length, getD}
+use lib.ListN.{length, getD, drop, replicate}
 use Rattle.definitions.specs.Basics.{largest, test-bit, given, refused}
 use Rattle.definitions.specs.Bytes.{Records, read}
 use Rattle.definitions.specs.Links.{Constraint, sequencing, constraints, delay-at, Keeps, KeepsAll, Edge, members, Forward, Walk, Joined, After}
@@ -171,6 +171,39 @@ pub record ReturnedFor (s : List ℕ) (allow : Bool) (q : Records) (v : ℕ) (li
 
 abbrev pub StartsReturned : Type 0
 StartsReturned = (s : List ℕ) (allow : Bool) (q : Records) (v : ℕ) (list out : List ℕ) → IsSheet s q → starts-answer s allow list out .verdict ≡ given v → ReturnedFor s allow q v list out
+
+-- "13. The list of durations is not as above." "14. A lent table or list is too short (N × N or N numbers)." "14 comes after 1 to 13; 13 judges those of the first N entries that are there."
+-- "On acceptance lent numbers and bytes past the answer stay as lent." A refusal leaves lent memory untouched, and gives maps of 0. Proof: calls-exactly.
+abbrev pub IsAccepted : List ℕ → Bool → Type 0
+IsAccepted s allow = (v : ℕ) × (judged s allow ≡ given v)
+
+pub record WaitsCall (s : List ℕ) (q : Records) : Type 0 where
+  pub accepted : (v : ℕ) → (waits-answer s .verdict ≡ given v) ↔ (judged s true ≡ given v)
+  pub maps : (v : ℕ) → waits-answer s .verdict ≡ given v → waits-answer s .maps ≡ wait-maps (count-of q) (edges-of q)
+  pub count : (v : ℕ) → waits-answer s .verdict ≡ given v → waits-answer s .count ≡ wait-count (count-of q) (edges-of q)
+  pub no-maps : (k : ℕ) → waits-answer s .verdict ≡ refused k → waits-answer s .maps ≡ replicate 64 0
+  pub no-count : (k : ℕ) → waits-answer s .verdict ≡ refused k → waits-answer s .count ≡ 0
+
+pub record PlanCall (s : List ℕ) (allow : Bool) (q : Records) (table : List ℕ) : Type 0 where
+  pub refused-14 : (planned s allow table .verdict ≡ refused 14) ↔ (IsAccepted s allow × (length table < count-of q * count-of q))
+  pub accepted : (v : ℕ) → (planned s allow table .verdict ≡ given v) ↔ ((judged s allow ≡ given v) × (count-of q * count-of q ≤ length table))
+  pub numbers : (v : ℕ) → planned s allow table .verdict ≡ given v → planned s allow table .numbers ≡ plan-table (count-of q) (serialized-of q) ++ drop (count-of q * count-of q) table
+  pub untouched : (k : ℕ) → planned s allow table .verdict ≡ refused k → planned s allow table .numbers ≡ table
+
+pub record StartsCall (s : List ℕ) (allow : Bool) (q : Records) (list out : List ℕ) : Type 0 where
+  pub refused-13 : (starts-answer s allow list out .verdict ≡ refused 13) ↔ (IsAccepted s allow × (¬ WithinLimits q list))
+  pub refused-14 : (starts-answer s allow list out .verdict ≡ refused 14) ↔ (IsAccepted s allow × WithinLimits q list × ((length list < count-of q) ⊎ (length out < count-of q)))
+  pub accepted : (v : ℕ) → (starts-answer s allow list out .verdict ≡ given v) ↔ ((judged s allow ≡ given v) × WithinLimits q list × (count-of q ≤ length list) × (count-of q ≤ length out))
+  pub numbers : (v : ℕ) → starts-answer s allow list out .verdict ≡ given v → starts-answer s allow list out .numbers ≡ start-times (count-of q) (serialized-of q) (delays list) ++ drop (count-of q) out
+  pub untouched : (k : ℕ) → starts-answer s allow list out .verdict ≡ refused k → starts-answer s allow list out .numbers ≡ out
+
+pub record CallsFor (s : List ℕ) (allow : Bool) (q : Records) : Type 0 where
+  pub waits : WaitsCall s q
+  pub plan : (table : List ℕ) → PlanCall s allow q table
+  pub starts : (list out : List ℕ) → StartsCall s allow q list out
+
+abbrev pub CallsExactly : Type 0
+CallsExactly = (s : List ℕ) (allow : Bool) (q : Records) → IsSheet s q → CallsFor s allow q
 
 -- "For every accepted sheet and every list our starts keep every link and wait." Proof: starts-kept.
 pub record KeptFor (q : Records) (d : ℕ → ℕ) : Type 0 where
