@@ -1,5 +1,8 @@
-pub mod Bools
-pub mod Tests
-pub mod Maps
 pub mod Arrays
+pub mod Bools
+pub mod Lists
+pub mod Maps
+pub mod Negations
+pub mod Outcomes
 pub mod Parsers
+pub mod Tests

@@ -1,0 +1,17 @@
+pub mod Reading
+pub mod Edges
+pub mod Judging
+pub mod Refusals
+pub mod Meaning
+pub mod Listing
+pub mod Orders
+pub mod DelayLists
+pub mod Calls
+pub mod Sheets
+pub mod Impossibility
+pub mod Answering
+pub mod Verdicts
+pub mod OurStarts
+pub mod Planning
+pub mod Examples
+pub mod Demands
