@@ -82,6 +82,17 @@ unfoldable pub finish : State → ℕ → List ℕ → Outcome Progress
 finish st s table =
     refuse-if (not-running st) 15 (refuse-if (too-short table (st .n * st .n)) 14 (refuse-if (cannot-finish st s) 17 (given (sweep (ended st s) table))))
 
+-- A call, by its arguments.
+pub data Call : Type 0 where
+  beginning : ℕ → ℕ → Call
+  ticking : Call
+  finishing : ℕ → Call
+
+unfoldable pub called : State → List ℕ → Call → Outcome Progress
+called st table (beginning n unbounded) = begin st n unbounded table
+called st table ticking = tick st table
+called st table (finishing s) = finish st s table
+
 -- What a call returns: on a refusal map 0 and the state as given.
 unfoldable pub state-after : State → Outcome Progress → State
 state-after st (given g) = g .state

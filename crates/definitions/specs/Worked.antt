@@ -13,7 +13,7 @@ use Rattle.definitions.specs.Anchors.{in-anchor-set}
 use Rattle.definitions.specs.Waits.{WaitPair, waits-for, waits-of, wait-list, wait-count, needs-waits, serialized}
 use Rattle.definitions.specs.Plan.{first-row, offset-row, offset, start-from, start-turns, start-times, overrides, decides, plan-entry, plan-row, plan-rows, plan-table, delay-limit, delay-wrong, delays-wrong}
 use Rattle.definitions.specs.Answers.{closes-circle, unreached, infeasible, inconsistent, judge-edges, edges-of, serialized-of, judge-records, Written, written, too-short, starts-verdict, starts-read, starts-answer, plan-verdict, plan-read, planned, bad-count}
-use Rattle.definitions.specs.Dispatcher.{entry, names, due, ready, starting, start-ticks, Progress, sweep, begun, not-running, fresh, with-source, begin, ticked, tick, cannot-finish, ended, finish, state-after}
+use Rattle.definitions.specs.Dispatcher.{entry, names, due, ready, starting, start-ticks, Progress, sweep, begun, not-running, fresh, with-source, begin, ticked, tick, cannot-finish, ended, finish, state-after, Call, beginning, ticking, finishing, called}
 use Rattle.definitions.specs.declared.State.{State}
 use Rattle.definitions.specs.Output.{StartLine, Listing, lines-of, start-lines, list-records, listed, digits, decimal, field, wait-text, start-text, listing-text, standplan}
 
@@ -154,16 +154,6 @@ unfolding every-definition
 stand-printed = refl
 
 -- The run of the stand sheet: Begin gives 7; Finish 2 gives 0; ticks give 8, 0, 16. A second Finish 2 is refused 17.
-pub data Call : Type 0 where
-  beginning : ℕ → ℕ → Call
-  ticking : Call
-  finishing : ℕ → Call
-
-unfoldable pub called : State → List ℕ → Call → Outcome Progress
-called st table (beginning n unbounded) = begin st n unbounded table
-called st table ticking = tick st table
-called st table (finishing s) = finish st s table
-
 unfoldable pub map-or-refusal : Outcome Progress → Outcome ℕ
 map-or-refusal o = when-given o (λ g. given (g .map))
 
