@@ -36,6 +36,17 @@ ltb-by a b false h = lt-ltb a b (leb-false b a h)
 pub ltb-not : (a b : ℕ) → ltb a b ≡ not (leb b a)
 ltb-not a b = ltb-by a b (leb b a) refl
 
+pub not-not : (t : Bool) → not (not t) ≡ t
+not-not true = refl
+not-not false = refl
+
+pub was-stable : (r t : Bool) → r ≡ not t → r ≡ false → t ≡ true
+was-stable r true h q = refl
+was-stable r false h q = absurd (differ (sym h ∙ q))
+  where
+    differ : true ≡ false → ⊥
+    differ e = let z : _≡_ {A = ℕ} 0 1 = cc in omega arith
+
 -- One word: the cell is written where the offer is larger, and stays else.
 pub offered : (row : List ℕ) (e : Edge) (f g l c : ℕ) → f ≡ e .from → g ≡ e .gain → l ≡ e .loss → c ≡ extend (cell row f) g l → c ≡ offer row e
 offered row e f g l c p r s h = h ∙ rw (p, r, s)
