@@ -1,3 +1,5 @@
 pub mod Rows
 pub mod Cut
 pub mod Passing
+pub mod Columns
+pub mod Seeding

@@ -5,7 +5,7 @@ use mathlib.Core.List.{List, [], _∷_, List·Memᴰ, map}
 use Prim.Native.Nat.{ℕ, zero, suc, _≤_, _<_, max}
 use lib.ListN.{length, getD}
 use Rattle.definitions.specs.Links.{Edge}
-use Rattle.definitions.specs.Rounds.{cell, extend, offer, raise, relax, round, stable, seed}
+use Rattle.definitions.specs.Rounds.{cell, extend, offer, raise, relax, round, rounds, stable, seed}
 
 -- Every edge has both ends below n.
 abbrev pub Inside : ℕ → List Edge → Type 0
@@ -55,3 +55,8 @@ leads a (e ∷ es) row = leads a es (raise row (e .to) (lead a e))
 pub record Seeded (es : List Edge) (d d′ : List (List ℕ)) : Type 0 where
   pub square : Square d′
   pub same : (a : ℕ) → column d′ a ≡ leads a es (column d a)
+
+-- Each of the columns below n after k rounds.
+pub record Settled (n : ℕ) (es : List Edge) (k : ℕ) (d d′ : List (List ℕ)) : Type 0 where
+  pub square : Square d′
+  pub same : (a : ℕ) → a < n → column d′ a ≡ rounds es k (column d a)
