@@ -1,6 +1,11 @@
 -- `heaviest::relax_word` meets its contract.
 use native.Mathlib.Omega.{arith}
 use borrow.Author.Needs.{needs}
+use mathlib.Core.Path.{sym, _∙_}
+use mathlib.Core.List.{[]}
+use Prim.Native.Nat.{ℕ}
+use Rattle.edges.specs.Words.{unpack}
+use Rattle.heaviest.proofs.Columns.{column-cell, table-relaxed}
 use Rattle.heaviest.proofs.relax_word.Statement.{statement}
 use Rattle.heaviest.proofs.relax_word.Tie as tie
 use Rattle.heaviest.proofs.relax_word.Reads as reads
@@ -36,10 +41,35 @@ index-1-relax-row : tie.Need-index-1-relax-row
 index-1-relax-row c = search needs
 
 relax-row-requires : tie.Need-relax-row-requires
-relax-row-requires c κs = search needs
+relax-row-requires c κs =
+    let s = c .before .before .before .before .before .before .before in
+    let f = c .before .before .before .before .before .before .edge-from .result in (
+      s .pre .0,
+      s .pre .1 .cells _ (c .before .before .before .before .before .edge-to .ensures .1),
+      c .before .before .before .before .edge-gain .ensures .1,
+      λ a h. omega (arith, s .pre .2 a h f, column-cell (s .args .d .now) f a),
+    )
 
 returns : tie.Need-returns
-returns c = search needs
+returns c =
+    let s = c .before .before .before .before .before .before .before .before in
+    table-relaxed
+    _
+    (unpack (s .args .w))
+    _
+    _
+    _
+    _
+    _
+    _
+    _
+    (s .pre .1)
+    (c .before .before .before .before .before .before .edge-to .ensures .1)
+    (c .before .before .before .before .before .before .before .edge-from .ensures .0)
+    (c .before .before .before .before .before .before .edge-to .ensures .0)
+    (c .before .before .before .before .before .edge-gain .ensures .0)
+    (c .before .before .before .before .edge-loss .ensures .0)
+    (c .relax-row .ensures)
 
 pub relax-word-spec : {M : Type 1} → statement M
 relax-word-spec =
