@@ -11,7 +11,7 @@ ghost use Rattle.definitions.specs.Rounds.{cell, extend, offer, relax, round, r
 ghost use Rattle.edges.specs.Words.{unpack, graph};
 ghost use Rattle.definitions.specs.Plan.{offset-row};
 ghost use Rattle.edges.specs.Serial.{wait-edges};
-ghost use Rattle.heaviest.specs.Tables.{Inside, Small, AllSmall, Square, RowRelaxed, Passed, Seeded, Settled, entry};
+ghost use Rattle.heaviest.specs.Tables.{Inside, Small, AllSmall, Square, RowRelaxed, Passed, Seeded, Settled, First, entry};
 
 // A walk made longer by an edge.
 fn extended(w: u64, gain: u64, loss: u64) -> u64
@@ -191,6 +191,15 @@ fn seed_words(es: &[u64], d: &mut [[u64; 64]; 64])
     }
 }
 
+// The empty walk at the source.
+fn first_table() -> [[u64; 64]; 64]
+    ensures { λ d. ⌜ First d ⌝ }
+{
+    let mut d = [[0u64; 64]; 64];
+    d[0][0] = 1;
+    d
+}
+
 // Heaviest walks for every anchor at once: at [v][a] the cell of step v for anchor a, over the edges and the waits that maps hold.
 pub fn walks(es: &[u64], maps: &[u64; 64], n: usize) -> [[u64; 64]; 64]
     requires { do ⌜ (1 ≤ n) × (n ≤ 64) × ((← ⟦es.len()⟧) ≤ 8192) ⌝ }
@@ -200,8 +209,7 @@ pub fn walks(es: &[u64], maps: &[u64; 64], n: usize) -> [[u64; 64]; 64]
     let count = waits.count;
     let words = waits.words;
     let ws = &words[..count];
-    let mut d = [[0u64; 64]; 64];
-    d[0][0] = 1;
+    let mut d = first_table();
     seed_words(es, &mut d);
     seed_words(ws, &mut d);
     settle(es, ws, &mut d, n);
