@@ -3,3 +3,4 @@ pub mod Cut
 pub mod Passing
 pub mod Columns
 pub mod Seeding
+pub mod Walking

@@ -39,7 +39,7 @@ unfolding lead seed
 lead-own zero e c f h = absurd (h refl)
 lead-own (suc a) e c f h = ap₂ (λ (x y : Bool). cond (x && y) (suc (e .gain - e .loss)) 0) c (eq-eqb (e .from) (suc a) f)
 
-lead-small : (a : ℕ) (e : Edge) → e .gain < 16777216 → lead a e ≤ 16777216
+pub lead-small : (a : ℕ) (e : Edge) → e .gain < 16777216 → lead a e ≤ 16777216
 unfolding lead seed
 lead-small zero e h = omega arith
 lead-small (suc a) e h = by (e .counted && eqb (e .from) (suc a))
