@@ -1,3 +1,4 @@
 pub mod Bools
 pub mod Maps
+pub mod Searches
 pub mod Tests
