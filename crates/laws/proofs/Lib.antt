@@ -1,8 +1,10 @@
 pub mod Arrays
 pub mod Bools
+pub mod Counts
 pub mod Lists
 pub mod Maps
 pub mod Negations
 pub mod Outcomes
 pub mod Parsers
+pub mod Searches
 pub mod Tests
