@@ -2,13 +2,14 @@
 use mathlib.Core.Path.{_≡_, refl, sym, ap, ap₂, _∙_}
 use mathlib.Core.Bool.{Bool, true, false, cond, _&&_, _||_}
 use mathlib.Core.List.{List, [], _∷_, _++_, append-assoc}
-use Prim.Native.Nat.{ℕ, suc, _+_, _<_, _≤_, max}
+use Prim.Native.Nat.{ℕ, zero, suc, _+_, _<_, _≤_, _-_, max}
 use native.Mathlib.Omega.{arith}
 use native.Mathlib.Numerals.{add-one}
 use lib.ListN.{length, getD, set, drop, length-append, length-drop, List·getD-append}
-use lib.Seq.{drop-cons, set-at, ext-getD}
+use lib.Seq.{drop-cons, set-at, ext-getD, getD-append-add, getD-drop}
 use Rattle.definitions.specs.Basics.{any-below, all-below, largest, tabulate}
-use Rattle.laws.proofs.Tests.{tabulate-at, tabulate-length}
+use Rattle.laws.proofs.Bools.{both-ways, not-passing}
+use Rattle.laws.proofs.Tests.{all-below-each, tabulate-at, tabulate-length}
 
 module _ (test : ℕ → Bool) where
   pub any-below-none-yet : any-below test 0 ≡ false
@@ -26,6 +27,9 @@ module _ (test : ℕ → Bool) where
   pub all-below-more : (i : ℕ) → all-below test i ≡ true → test i ≡ true → all-below test (i + 1) ≡ true
   unfolding all-below
   all-below-more i h t = rw (add-one i, h) t
+
+  pub all-below-fails : (n i : ℕ) → i < n → test i ≡ false → all-below test n ≡ false
+  all-below-fails n i b h = not-passing (all-below test n) (λ t. both-ways (all-below-each test n t i b) h)
 
   pub largest-none-yet : (f : ℕ → ℕ) → largest test f 0 ≡ 0
   unfolding largest
@@ -58,6 +62,29 @@ module _ {A : Type 0} (f : ℕ → A) where
 
   pub laid-at : (k : ℕ) (l : List A) (i : ℕ) (z : A) → i < k → getD (laid f k l) i z ≡ f i
   laid-at k l i z h = List·getD-append (tabulate f k) (drop k l) z i (rw tabulate-length h) ∙ tabulate-at f k i z h
+
+  pub laid-past : (k : ℕ) (l : List A) (i : ℕ) (z : A) → k ≤ i → getD (laid f k l) i z ≡ getD l i z
+  laid-past k l i z h =
+      let e : i ≡ length (tabulate f k) + (i - k) = omega (arith, tabulate-length f k) in
+      ap (λ (x : ℕ). getD (laid f k l) x z) e
+      ∙ getD-append-add (tabulate f k) (drop k l) (i - k) z
+      ∙ getD-drop k l (i - k) z
+      ∙ ap (λ (x : ℕ). getD l x z) (let e : k + (i - k) ≡ i = omega arith in e)
+
+-- Tests that agree below n.
+pub any-below-same : (t u : ℕ → Bool) (n : ℕ) → ((k : ℕ) → k < n → t k ≡ u k) → any-below t n ≡ any-below u n
+unfolding any-below
+any-below-same t u zero h = refl
+any-below-same t u (suc n) h = ap₂ _||_ (any-below-same t u n (λ k b. h k (omega arith))) (h n (omega arith))
+
+-- What stands behind a test that fails does not matter.
+pub and-guard : (x l m : Bool) → (x ≡ true → l ≡ m) → (x && l) ≡ (x && m)
+and-guard true l m h = h refl
+and-guard false l m h = refl
+
+pub cond-guard : {A : Type 0} (x : Bool) (p q z : A) → (x ≡ true → p ≡ q) → cond x p z ≡ cond x q z
+cond-guard true p q z h = h refl
+cond-guard false p q z h = refl
 
 -- A list is the table of its elements.
 pub tabulate-list : {A : Type 0} (l : List A) (f : ℕ → A) (n : ℕ) (z : A) → length l ≡ n → ((i : ℕ) → i < n → f i ≡ getD l i z) → tabulate f n ≡ l
