@@ -1,13 +1,16 @@
 -- The rules read off the working tables: their branches, and that on the tables of an edge list they are the definitions. Assumes nothing.
 use mathlib.Core.Path.{_≡_, refl, sym, ap, ap₂, _∙_}
 use mathlib.Core.Bool.{Bool, true, false, cond, not, _&&_, _||_, and-false}
-use mathlib.Core.List.{List, [], _∷_, _++_}
+use mathlib.Core.List.{List, [], _∷_, _++_, append-assoc}
 use Prim.Native.Nat.{ℕ, zero, suc, _+_, _-_, _*_, _<_, _≤_, min, max}
 use native.Mathlib.Omega.{arith}
 use native.Mathlib.Decide.{decLt}
+use native.Mathlib.Nat.{suc-mul, zero-mul}
 use native.Mathlib.Numerals.{add-one}
 use lib.Dec.{eqb, leb, ltb}
-use lib.ListN.{length, getD, drop, replicate}
+use lib.ListN.{length, getD, take, drop, replicate, length-append}
+use lib.Seq.{drop-drop}
+use borrow.Rule.Slice.PartMut.{putMid}
 use borrow.Author.Tests.{lt-ltb, le-ltb, eq-eqb, ne-eqb, eqb-true}
 use Rattle.definitions.specs.Basics.{all-below, any-below, largest, tabulate, test-bit}
 use Rattle.definitions.specs.Anchors.{in-anchor-set}
@@ -15,10 +18,10 @@ use Rattle.definitions.specs.Links.{Edge}
 use Rattle.definitions.specs.Plan.{undecided, offset, overrides, decides, plan-entry, plan-row, plan-rows, plan-table, delays, start-from, start-turns, start-times}
 use Rattle.definitions.specs.Rounds.{cell}
 use Rattle.laws.proofs.Bools.{and-split}
-use Rattle.laws.proofs.Tests.{all-below-each, largest-below, largest-same, largest-same-test, tabulate-at, tabulate-same}
+use Rattle.laws.proofs.Tests.{all-below-each, largest-below, largest-same, largest-same-test, tabulate-at, tabulate-length, tabulate-same}
 use Rattle.theory.proofs.FirstRows.{zeros-at}
 use Rattle.theory.proofs.StartTimes.{start-times-length}
-use Rattle.schedule.proofs.Loops.{laid, laid-at, laid-past, any-below-same, and-guard, cond-guard, tabulate-list}
+use Rattle.schedule.proofs.Loops.{put-rest, laid, laid-at, laid-past, any-below-same, and-guard, cond-guard, tabulate-list}
 use Rattle.schedule.specs.Working.{Holds, weight, member, leaves-out, stays, entry-at, first-rows, term, start-at, next-row, row-after, Fits, cut-start}
 
 -- ---- by the branches of the code
@@ -70,6 +73,29 @@ module _ (d : List (List ℕ)) (sets : List ℕ) (n : ℕ) (list row : List ℕ)
   unfolding start-at
   start-at-later zero h = absurd (h refl)
   start-at-later (suc v) h = refl
+
+-- ---- the table, a row at a time
+
+module _ (d : List (List ℕ)) (sets : List ℕ) (n : ℕ) where
+  first-rows-length : (k : ℕ) → length (first-rows d sets n k) ≡ k * n
+  unfolding first-rows
+  first-rows-length zero = omega arith
+  first-rows-length (suc k) =
+      omega (arith, length-append (first-rows d sets n k) (tabulate (entry-at d sets n k) n), first-rows-length k, tabulate-length (entry-at d sets n k) n, suc-mul k n)
+
+  pub first-rows-none : (l : List ℕ) → l ≡ first-rows d sets n 0 ++ drop (0 * n) l
+  unfolding first-rows
+  first-rows-none l = ap (λ (x : ℕ). drop x l) (sym (zero-mul n))
+
+  -- The row is written where the rows before it end.
+  pub first-rows-more : (v : ℕ) (l t new : List ℕ) → t ≡ first-rows d sets n v ++ drop (v * n) l
+      → new ≡ tabulate (entry-at d sets n v) n ++ drop n (take (length t - v * n) (drop (v * n) t))
+      → putMid (v * n) (length t - v * n) t new ≡ first-rows d sets n (v + 1) ++ drop ((v + 1) * n) l
+  unfolding first-rows
+  first-rows-more v l t new e f =
+      put-rest (first-rows d sets n v) (drop (v * n) l) t (tabulate (entry-at d sets n v) n) new (v * n) n (first-rows-length v) e f
+      ∙ sym (append-assoc (first-rows d sets n v) (tabulate (entry-at d sets n v) n) (drop n (drop (v * n) l)))
+      ∙ rw (add-one v) (ap (λ (x : List ℕ). first-rows d sets n v ++ tabulate (entry-at d sets n v) n ++ x) (drop-drop n (v * n) l ∙ ap (λ (x : ℕ). drop x l) (let g : v * n + n ≡ suc v * n = omega (arith, suc-mul v n) in g)))
 
 -- ---- sums stay small, whatever the tables hold
 

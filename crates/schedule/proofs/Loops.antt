@@ -1,15 +1,26 @@
 -- Tests, largest values and lists as loops make them, one number more at a time. Nothing here is about the planner. Assumes nothing.
 use mathlib.Core.Path.{_≡_, refl, sym, ap, ap₂, _∙_}
 use mathlib.Core.Bool.{Bool, true, false, cond, _&&_, _||_}
-use mathlib.Core.List.{List, [], _∷_, _++_, append-assoc}
-use Prim.Native.Nat.{ℕ, zero, suc, _+_, _<_, _≤_, _-_, max}
+use mathlib.Core.Logic.{_⊎_, inl, inr}
+use mathlib.Core.List.{List, [], _∷_, _++_, append-assoc, append-nil}
+use Prim.Native.Nat.{ℕ, zero, suc, _+_, _<_, _≤_, _-_, _*_, max}
 use native.Mathlib.Omega.{arith}
+use native.Mathlib.Decide.{decLt}
+use native.Mathlib.Nat.{suc-mul, mul-le-mul, le-refl}
 use native.Mathlib.Numerals.{add-one}
-use lib.ListN.{length, getD, set, drop, length-append, length-drop, List·getD-append}
-use lib.Seq.{drop-cons, set-at, ext-getD, getD-append-add, getD-drop}
+use borrow.Rule.Slice.PartMut.{putMid}
+use lib.ListN.{length, getD, set, take, drop, length-append, length-drop, List·getD-append}
+use lib.Seq.{drop-cons, set-at, ext-getD, getD-append-add, getD-drop, take-at, drop-at, take-length, drop-length}
 use Rattle.definitions.specs.Basics.{any-below, all-below, largest, tabulate}
 use Rattle.laws.proofs.Bools.{both-ways, not-passing}
 use Rattle.laws.proofs.Tests.{all-below-each, tabulate-at, tabulate-length}
+
+pub below-or-not : (k n : ℕ) → (k < n) ⊎ (n ≤ k)
+below-or-not k n = go (decLt k n)
+  where
+    go : Dec (k < n) → (k < n) ⊎ (n ≤ k)
+    go (yes b) = inl b
+    go (no b) = inr (omega arith)
 
 module _ (test : ℕ → Bool) where
   pub any-below-none-yet : any-below test 0 ≡ false
@@ -70,6 +81,29 @@ module _ {A : Type 0} (f : ℕ → A) where
       ∙ getD-append-add (tabulate f k) (drop k l) (i - k) z
       ∙ getD-drop k l (i - k) z
       ∙ ap (λ (x : ℕ). getD l x z) (let e : k + (i - k) ≡ i = omega arith in e)
+
+-- An element that is there does not depend on what is given past the end.
+pub getD-there : {A : Type 0} (l : List A) (i : ℕ) (y z : A) → i < length l → getD l i y ≡ getD l i z
+getD-there [] i y z h = absurd (omega arith)
+getD-there (x ∷ l) zero y z h = refl
+getD-there (x ∷ l) (suc i) y z h = getD-there l i y z (omega arith)
+
+-- Row v of n rows of n is within the table, whose size is small.
+pub row-place : (v n : ℕ) → v < n → v * n + n ≤ n * n
+row-place v n h = let g : suc v * n ≤ n * n = mul-le-mul h (le-refl n) in omega (arith, suc-mul v n)
+
+pub table-size : (n : ℕ) → n ≤ 64 → n * n ≤ 4096
+table-size n h = mul-le-mul h h
+
+-- The rest of a list, from a on, lent and given back with y at its front.
+pub put-rest : {A : Type 0} (p l t y new : List A) (a n : ℕ) → length p ≡ a → t ≡ p ++ l → new ≡ y ++ drop n (take (length t - a) (drop a t)) → putMid a (length t - a) t new ≡ p ++ (y ++ drop n l)
+put-rest {A} p l t y new a n e f g =
+    let rest : drop a t ≡ l = ap (drop a) f ∙ drop-at p l a e in
+    let front : take a t ≡ p = ap (take a) f ∙ take-at p l a e in
+    let long : length t - a ≡ length l = omega (arith, ap length f, length-append p l) in
+    let mid : take (length t - a) (drop a t) ≡ l = ap₂ take long rest ∙ take-length l in
+    let none : drop (length t - a) (drop a t) ≡ [] = ap₂ drop long rest ∙ drop-length l in
+    ap₂ (λ (x z : List A). x ++ z) front (ap₂ (λ (x z : List A). x ++ z) (g ∙ ap (λ (x : List A). y ++ drop n x) mid) none ∙ append-nil (y ++ drop n l))
 
 -- Tests that agree below n.
 pub any-below-same : (t u : ℕ → Bool) (n : ℕ) → ((k : ℕ) → k < n → t k ≡ u k) → any-below t n ≡ any-below u n
