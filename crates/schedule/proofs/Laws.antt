@@ -119,8 +119,8 @@ module _ (d : List (List ℕ)) (sets : List ℕ) (n : ℕ) (list : List ℕ) (sh
   row-after-small zero v = omega (arith, zeros-at 64 v)
   row-after-small (suc k) v = omega (arith, next-row-small (row-after d sets n list k) (k * 8589934590) (row-after-small k) v)
 
-  pub row-after-fits : (k : ℕ) → k ≤ 64 → Fits (row-after d sets n list k)
-  row-after-fits k h v = omega (arith, row-after-small k v)
+  pub row-fits : (k : ℕ) (row : List ℕ) → k ≤ 64 → row ≡ row-after d sets n list k → Fits row
+  row-fits k row h e v = omega (arith, row-after-small k v, ap (λ (l : List ℕ). cell l v) e)
 
 -- ---- turns that change nothing
 
