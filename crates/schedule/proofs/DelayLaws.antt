@@ -1,7 +1,6 @@
 -- Maps of the open operations, and lists of delays judged by such a map. Assumes nothing.
-use mathlib.Core.Path.{_≡_, refl, sym, ap, ap₂, _∙_}
+use mathlib.Core.Path.{_≡_, refl, sym, ap, _∙_}
 use mathlib.Core.Bool.{Bool, true, false, cond, not, _&&_, _||_, and-false, or-false}
-use mathlib.Core.Logic.{_⊎_, inl, inr}
 use mathlib.Core.List.{List}
 use Prim.Native.Nat.{ℕ, zero, suc, _+_, _<_, _≤_, max}
 use native.Mathlib.Omega.{arith}
@@ -9,7 +8,7 @@ use native.Mathlib.Decide.{decLt}
 use lib.Dec.{eqb, ltb}
 use lib.ListN.{length, getD, take, length-take, List·getD-eq-default}
 use lib.Seq.{getD-take}
-use borrow.Author.Tests.{lt-ltb, le-ltb, eq-eqb, ne-eqb, eqb-true, eqb-false}
+use borrow.Author.Tests.{lt-ltb, le-ltb, ne-eqb, eqb-true, eqb-false}
 use Rattle.definitions.specs.Basics.{any-below, test-bit}
 use Rattle.definitions.specs.Bytes.{blank-operation}
 use Rattle.definitions.specs.Links.{delay-at}
@@ -18,7 +17,7 @@ use Rattle.definitions.specs.declared.Delay.{Delay}
 use Rattle.definitions.specs.declared.Delay.the-variants.{Open, Fixed}
 use Rattle.definitions.specs.declared.Operation.{Operation}
 use Rattle.laws.proofs.Maps.{test-zero}
-use Rattle.schedule.specs.Delays.{is-open, unbounded-at, above-limit}
+use Rattle.schedule.specs.Delays.{Judged, is-open, unbounded-at, above-limit}
 use Rattle.schedule.proofs.Loops.{any-below-same, getD-there}
 
 -- ---- lists
@@ -30,13 +29,16 @@ limit-by zero Open = refl
 limit-by (suc i) Open = rw (ne-eqb (suc i) 0 (λ e. absurd (omega arith))) refl
 
 -- Entry by entry the limits are the same.
-pub above-limits : (unbounded n : ℕ) (list : List ℕ) (os : List Operation) → length os ≡ n → ((i : ℕ) → i < n → test-bit unbounded i ≡ unbounded-at os i)
+above-limits : (unbounded n : ℕ) (list : List ℕ) (os : List Operation) → length os ≡ n → ((i : ℕ) → i < n → test-bit unbounded i ≡ unbounded-at os i)
     → any-below (above-limit unbounded list) n ≡ delays-wrong os list
 unfolding above-limit unbounded-at delays-wrong delay-wrong
 above-limits unbounded n list os e h =
     any-below-same (above-limit unbounded list) (λ i. ltb i (length list) && delay-wrong os list i) n
     (λ i b. ap (λ (x : ℕ). ltb i (length list) && ltb x (getD list i 0)) (ap (λ (t : Bool). cond t 16777215 0) (h i b) ∙ limit-by i (delay-at os i)))
     ∙ ap (any-below (λ i. ltb i (length list) && delay-wrong os list i)) (sym e)
+
+pub judged : {list : List ℕ} {unbounded n : ℕ} {bad : Bool} → bad ≡ any-below (above-limit unbounded list) n → Judged list unbounded n bad
+judged {list} {unbounded} {n} e = record { read = e; wrong = λ os l h. e ∙ above-limits unbounded n list os l h }
 
 module _ (unbounded : ℕ) (list : List ℕ) where
   pub above-limit-past : (i : ℕ) → length list ≤ i → above-limit unbounded list i ≡ false

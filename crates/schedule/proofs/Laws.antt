@@ -1,18 +1,18 @@
 -- The rules read off the working tables: their branches, and that on the tables of an edge list they are the definitions. Assumes nothing.
 use mathlib.Core.Path.{_≡_, refl, sym, ap, ap₂, _∙_}
-use mathlib.Core.Bool.{Bool, true, false, cond, not, _&&_, _||_, and-false}
-use mathlib.Core.List.{List, [], _∷_, _++_, append-assoc}
-use Prim.Native.Nat.{ℕ, zero, suc, _+_, _-_, _*_, _<_, _≤_, min, max}
+use mathlib.Core.Bool.{Bool, true, false, cond, not, _&&_, and-false}
+use mathlib.Core.List.{List, _++_, append-assoc}
+use Prim.Native.Nat.{ℕ, zero, suc, _+_, _-_, _*_, _<_, _≤_}
 use native.Mathlib.Omega.{arith}
 use native.Mathlib.Decide.{decLt}
 use native.Mathlib.Nat.{suc-mul, zero-mul}
 use native.Mathlib.Numerals.{add-one}
-use lib.Dec.{eqb, leb, ltb}
+use lib.Dec.{eqb, leb}
 use lib.ListN.{length, getD, take, drop, replicate, length-append}
 use lib.Seq.{drop-drop}
 use borrow.Rule.Slice.PartMut.{putMid}
-use borrow.Author.Tests.{lt-ltb, le-ltb, eq-eqb, ne-eqb, eqb-true}
-use Rattle.definitions.specs.Basics.{all-below, any-below, largest, tabulate, test-bit}
+use borrow.Author.Tests.{lt-ltb, eq-eqb, ne-eqb, eqb-true}
+use Rattle.definitions.specs.Basics.{all-below, any-below, largest, tabulate}
 use Rattle.definitions.specs.Anchors.{in-anchor-set}
 use Rattle.definitions.specs.Links.{Edge}
 use Rattle.definitions.specs.Plan.{undecided, offset, overrides, decides, plan-entry, plan-row, plan-rows, plan-table, delays, start-from, start-turns, start-times}
@@ -22,47 +22,47 @@ use Rattle.laws.proofs.Tests.{all-below-each, largest-below, largest-same, larg
 use Rattle.theory.proofs.FirstRows.{zeros-at}
 use Rattle.theory.proofs.StartTimes.{start-times-length}
 use Rattle.schedule.proofs.Loops.{put-rest, laid, laid-at, laid-past, any-below-same, and-guard, cond-guard, tabulate-list}
-use Rattle.schedule.specs.Working.{Holds, weight, member, leaves-out, stays, entry-at, first-rows, term, start-at, next-row, row-after, Fits, cut-start}
+use Rattle.schedule.specs.Working.{Holds, Planned, Started, weight, member, overriding, deciding, entry-at, first-rows, term, start-at, next-row, row-after, Fits, cut-start}
 
 -- ---- by the branches of the code
 
 module _ (d : List (List ℕ)) (sets : List ℕ) (v a b : ℕ) where
-  pub not-member : member sets v b ≡ false → leaves-out d sets v a b ≡ false
-  unfolding leaves-out
+  pub not-member : member sets v b ≡ false → overriding d sets v a b ≡ false
+  unfolding overriding
   not-member h = rw (h, and-false (not (eqb b a))) refl
 
-  pub itself : b ≡ a → leaves-out d sets v a b ≡ false
-  unfolding leaves-out
+  pub itself : b ≡ a → overriding d sets v a b ≡ false
+  unfolding overriding
   itself h = rw (eq-eqb b a h) refl
 
-  pub not-behind : member sets b a ≡ false → leaves-out d sets v a b ≡ false
-  unfolding leaves-out
+  pub not-behind : member sets b a ≡ false → overriding d sets v a b ≡ false
+  unfolding overriding
   not-behind h = rw (h, and-false (not (eqb b a) && member sets v b)) refl
 
-  pub compared : (b ≡ a → ⊥) → member sets v b ≡ true → member sets b a ≡ true → leaves-out d sets v a b ≡ leb (weight d v a) (weight d b a + weight d v b)
-  unfolding leaves-out
+  pub compared : (b ≡ a → ⊥) → member sets v b ≡ true → member sets b a ≡ true → overriding d sets v a b ≡ leb (weight d v a) (weight d b a + weight d v b)
+  unfolding overriding
   compared p h k = rw (ne-eqb b a p, h, k) refl
 
 module _ (d : List (List ℕ)) (sets : List ℕ) (n v a : ℕ) where
-  pub stays-not : member sets v a ≡ false → stays d sets n v a ≡ false
-  unfolding stays
-  stays-not h = rw h refl
+  pub deciding-absent : member sets v a ≡ false → deciding d sets n v a ≡ false
+  unfolding deciding
+  deciding-absent h = rw h refl
 
-  pub stays-left-out : any-below (leaves-out d sets v a) n ≡ true → stays d sets n v a ≡ false
-  unfolding stays
-  stays-left-out h = rw (h, and-false (member sets v a)) refl
+  pub deciding-overridden : any-below (overriding d sets v a) n ≡ true → deciding d sets n v a ≡ false
+  unfolding deciding
+  deciding-overridden h = rw (h, and-false (member sets v a)) refl
 
-  pub stays-alone : member sets v a ≡ true → any-below (leaves-out d sets v a) n ≡ false → stays d sets n v a ≡ true
-  unfolding stays
-  stays-alone m h = rw (m, h) refl
+  pub deciding-alone : member sets v a ≡ true → any-below (overriding d sets v a) n ≡ false → deciding d sets n v a ≡ true
+  unfolding deciding
+  deciding-alone m h = rw (m, h) refl
 
-  pub entry-stays : stays d sets n v a ≡ true → entry-at d sets n v a ≡ weight d v a
+  pub entry-deciding : deciding d sets n v a ≡ true → entry-at d sets n v a ≡ weight d v a
   unfolding entry-at
-  entry-stays h = rw h refl
+  entry-deciding h = rw h refl
 
-  pub entry-left-out : stays d sets n v a ≡ false → entry-at d sets n v a ≡ undecided
+  pub entry-undecided : deciding d sets n v a ≡ false → entry-at d sets n v a ≡ undecided
   unfolding entry-at
-  entry-left-out h = rw h refl
+  entry-undecided h = rw h refl
 
 module _ (d : List (List ℕ)) (sets : List ℕ) (n : ℕ) (list row : List ℕ) where
   pub start-at-source : (v : ℕ) → v ≡ 0 → start-at d sets n list row v ≡ 0
@@ -172,21 +172,21 @@ module _ {n : ℕ} {es : List Edge} {d : List (List ℕ)} {sets : List ℕ} (h :
   unfolding offset
   weight-offset a v p q m = omega (arith, h .cells a v p q, h .small a v p q m)
 
-  leaves-out-overrides : (a v b : ℕ) → a < n → v < n → b < n → in-anchor-set n es a v ≡ true → leaves-out d sets v a b ≡ overrides n es a v b
-  unfolding leaves-out overrides
-  leaves-out-overrides a v b p q r m =
+  overriding-same : (a v b : ℕ) → a < n → v < n → b < n → in-anchor-set n es a v ≡ true → overriding d sets v a b ≡ overrides n es a v b
+  unfolding overriding overrides
+  overriding-same a v b p q r m =
       ap₂ (λ (s t : Bool). not (eqb b a) && s && t && leb (weight d v a) (weight d b a + weight d v b)) (member-anchor b v r q) (member-anchor a b p r)
       ∙ and-guard (not (eqb b a) && in-anchor-set n es b v && in-anchor-set n es a b) (leb (weight d v a) (weight d b a + weight d v b)) (leb (offset n es a v) (offset n es a b + offset n es b v))
       (λ t. let s = and-split (not (eqb b a) && in-anchor-set n es b v) (in-anchor-set n es a b) t in
-        let u = and-split (not (eqb b a)) (in-anchor-set n es b v) (s .0) in
-        ap₂ leb (weight-offset a v p q m) (ap₂ _+_ (weight-offset a b p r (s .1)) (weight-offset b v r q (u .1))))
+      let u = and-split (not (eqb b a)) (in-anchor-set n es b v) (s .0) in
+      ap₂ leb (weight-offset a v p q m) (ap₂ _+_ (weight-offset a b p r (s .1)) (weight-offset b v r q (u .1))))
 
-  stays-decides : (a v : ℕ) → a < n → v < n → stays d sets n v a ≡ decides n es a v
-  unfolding stays decides
-  stays-decides a v p q =
-      ap (λ (t : Bool). t && not (any-below (leaves-out d sets v a) n)) (member-anchor a v p q)
-      ∙ and-guard (in-anchor-set n es a v) (not (any-below (leaves-out d sets v a) n)) (not (any-below (overrides n es a v) n))
-      (λ m. ap not (any-below-same (leaves-out d sets v a) (overrides n es a v) n (λ b r. leaves-out-overrides a v b p q r m)))
+  deciding-same : (a v : ℕ) → a < n → v < n → deciding d sets n v a ≡ decides n es a v
+  unfolding deciding decides
+  deciding-same a v p q =
+      ap (λ (t : Bool). t && not (any-below (overriding d sets v a) n)) (member-anchor a v p q)
+      ∙ and-guard (in-anchor-set n es a v) (not (any-below (overriding d sets v a) n)) (not (any-below (overrides n es a v) n))
+      (λ m. ap not (any-below-same (overriding d sets v a) (overrides n es a v) n (λ b r. overriding-same a v b p q r m)))
 
   decides-member : (a v : ℕ) → decides n es a v ≡ true → in-anchor-set n es a v ≡ true
   unfolding decides
@@ -195,7 +195,7 @@ module _ {n : ℕ} {es : List Edge} {d : List (List ℕ)} {sets : List ℕ} (h :
   entry-plan : (a v : ℕ) → a < n → v < n → entry-at d sets n v a ≡ plan-entry n es v a
   unfolding entry-at plan-entry
   entry-plan a v p q =
-      ap (λ (t : Bool). cond t (weight d v a) undecided) (stays-decides a v p q)
+      ap (λ (t : Bool). cond t (weight d v a) undecided) (deciding-same a v p q)
       ∙ cond-guard (decides n es a v) (weight d v a) (offset n es a v) undecided (λ m. weight-offset a v p q (decides-member a v m))
 
   rows-plan : (k : ℕ) → k ≤ n → first-rows d sets n k ≡ plan-rows n es k
@@ -203,7 +203,7 @@ module _ {n : ℕ} {es : List Edge} {d : List (List ℕ)} {sets : List ℕ} (h :
   rows-plan zero b = refl
   rows-plan (suc k) b = ap₂ _++_ (rows-plan k (omega arith)) (tabulate-same (entry-at d sets n k) (plan-entry n es k) n (λ a c. entry-plan a k c (omega arith)))
 
-  pub table-plan : first-rows d sets n n ≡ plan-table n es
+  table-plan : first-rows d sets n n ≡ plan-table n es
   unfolding plan-table
   table-plan = rows-plan n (omega arith)
 
@@ -225,8 +225,15 @@ module _ {n : ℕ} {es : List Edge} {d : List (List ℕ)} {sets : List ℕ} (h :
       ∙ sym (tabulate-at (start-from n es (delays list) (start-turns n es (delays list) k)) n v 0 b)
 
   -- Starts below 2 ^ 32 are not cut.
-  pub starts-times : (list : List ℕ) → ((v : ℕ) → v < n → cell (start-times n es (delays list)) v < 4294967296) → tabulate (cut-start (row-after d sets n list n)) n ≡ start-times n es (delays list)
+  starts-times : (list : List ℕ) → ((v : ℕ) → v < n → cell (start-times n es (delays list)) v < 4294967296) → tabulate (cut-start (row-after d sets n list n)) n ≡ start-times n es (delays list)
   unfolding start-times
   starts-times list s =
       tabulate-list (start-times n es (delays list)) (cut-start (row-after d sets n list n)) n 0 (start-times-length n es (delays list))
       (λ v b. omega (arith, s v b, row-after-turns list n v b))
+
+-- So what is read off the tables is the definition's.
+pub planned : {n : ℕ} {d : List (List ℕ)} {sets lent after : List ℕ} → after ≡ first-rows d sets n n ++ drop (n * n) lent → Planned n d sets lent after
+planned {n} {lent = lent} e = record { read = e; plan = λ es h. e ∙ ap (λ (l : List ℕ). l ++ drop (n * n) lent) (table-plan h) }
+
+pub started : {n : ℕ} {d : List (List ℕ)} {sets list lent after : List ℕ} → after ≡ tabulate (cut-start (row-after d sets n list n)) n ++ drop n lent → Started n d sets list lent after
+started {n} {list = list} {lent = lent} e = record { read = e; times = λ es h s. e ∙ ap (λ (l : List ℕ). l ++ drop n lent) (starts-times h list s) }

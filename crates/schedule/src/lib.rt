@@ -3,23 +3,22 @@
 // Every function is safe for any tables; on those of an edge list its answer is the definition's.
 ghost use mathlib.Core.Path.{_≡_};
 ghost use mathlib.Core.Bool.{cond, _||_, _&&_};
-ghost use mathlib.Core.List.{List, _++_};
-ghost use Prim.Native.Nat.{ℕ, _+_, _-_, _*_, _<_, _≤_, min, max};
-ghost use lib.Dec.{eqb, ltb, leb};
-ghost use lib.ListN.{length, getD, take, drop};
-ghost use Rattle.definitions.specs.Basics.{all-below, any-below, tabulate, test-bit};
-ghost use Rattle.definitions.specs.Links.{Edge};
+ghost use mathlib.Core.List.{_++_};
+ghost use Prim.Native.Nat.{ℕ, _-_, _*_, _<_, _≤_, min, max};
+ghost use lib.Dec.{eqb, ltb};
+ghost use lib.ListN.{length, take, drop};
+ghost use Rattle.definitions.specs.Basics.{all-below, tabulate, test-bit};
 ghost use Rattle.definitions.specs.Rounds.{cell};
-ghost use Rattle.definitions.specs.Plan.{undecided, plan-table, start-times, delays, delays-wrong};
-ghost use Rattle.definitions.specs.declared.Operation.{Operation};
-ghost use Rattle.schedule.specs.Working.{Holds, weight, member, leaves-out, stays, entry-at, first-rows, term, start-at, next-row, row-after, Fits};
-ghost use Rattle.schedule.specs.Delays.{is-open, unbounded-at, above-limit};
+ghost use Rattle.definitions.specs.Plan.{undecided};
+ghost use Rattle.schedule.specs.Working.{Planned, Started, Fits, weight, overriding, deciding, entry-at, term, start-at, next-row, row-after};
+ghost use Rattle.schedule.specs.Delays.{Judged, is-open, unbounded-at};
 use definitions::Delay;
 use definitions::Operation;
 
 // ---- the plan
 
-fn narrow(c: u64) -> u64
+// The weight that a cell holds, cut at 4,294,967,295: the offsets of a sheet are far below.
+fn weight_of(c: u64) -> u64
     ensures { λ r. ⌜ r ≡ min (c - 1) undecided ⌝ }
 {
     if c <= 1 {
@@ -36,13 +35,13 @@ fn offset_at(d: &[[u64; 64]; 64], v: usize, a: usize) -> u64
     requires { ⌜ (v < 64) × (a < 64) ⌝ }
     ensures { λ r. ⌜ r ≡ weight (now (d .entry)) v a ⌝ }
 {
-    narrow(d[v][a])
+    weight_of(d[v][a])
 }
 
 // Whether b leaves a out of the deciding set of v.
 fn overrides(d: &[[u64; 64]; 64], sets: &[u64; 64], v: usize, a: usize, b: usize) -> bool
     requires { ⌜ (v < 64) × (a < 64) × (b < 64) ⌝ }
-    ensures { λ r. ⌜ r ≡ leaves-out (now (d .entry)) (now (sets .entry)) v a b ⌝ }
+    ensures { λ r. ⌜ r ≡ overriding (now (d .entry)) (now (sets .entry)) v a b ⌝ }
 {
     if !bitmaps::has(sets[v], b) {
         return false;
@@ -59,7 +58,7 @@ fn overrides(d: &[[u64; 64]; 64], sets: &[u64; 64], v: usize, a: usize, b: usize
 // Whether a is in the deciding set of v.
 fn decides(d: &[[u64; 64]; 64], sets: &[u64; 64], n: usize, v: usize, a: usize) -> bool
     requires { ⌜ (n ≤ 64) × (v < 64) × (a < 64) ⌝ }
-    ensures { λ r. ⌜ r ≡ stays (now (d .entry)) (now (sets .entry)) n v a ⌝ }
+    ensures { λ r. ⌜ r ≡ deciding (now (d .entry)) (now (sets .entry)) n v a ⌝ }
 {
     if !bitmaps::has(sets[v], a) {
         return false;
@@ -98,10 +97,10 @@ fn fill_row(d: &[[u64; 64]; 64], sets: &[u64; 64], n: usize, v: usize, row: &mut
     }
 }
 
-// The plan's table, at the front of the lent numbers.
+// The plan's table, at the front of the lent numbers: a row at a time, each in the part of the table where it belongs.
 pub fn fill_plan(d: &[[u64; 64]; 64], sets: &[u64; 64], n: usize, table: &mut [u32])
     requires { ⌜ (n ≤ 64) × (n * n ≤ length (now table)) ⌝ }
-    ensures { λ r. ⌜ ((es : List Edge) → Holds n es (now (d .entry)) (now (sets .entry)) → now (table .exit) ≡ plan-table n es ++ drop (n * n) (now (table .entry))) ⌝ }
+    ensures { λ r. ⌜ Planned n (now (d .entry)) (now (sets .entry)) (now (table .entry)) (now (table .exit)) ⌝ }
 {
     let mut v = 0;
     while v < n {
@@ -120,7 +119,14 @@ fn larger(a: u64, b: u64) -> u64
 }
 
 // What a adds to the choice for v: 0 where it is not a member.
-fn term_of(d: &[[u64; 64]; 64], members: u64, list: &[u32], old: &[u64; 64], v: usize, a: usize) -> u64
+fn term_of(
+    d: &[[u64; 64]; 64],
+    members: u64,
+    list: &[u32],
+    old: &[u64; 64],
+    v: usize,
+    a: usize,
+) -> u64
     requires { ⌜ (v < 64) × (a < 64) × (a < length (now list)) × (cell (now old) a ≤ 1099511627776) ⌝ }
     ensures { λ r. ⌜ r ≡ cond (test-bit members a) (term (now (d .entry)) (now (list .entry)) (now (old .entry)) v a) 0 ⌝ }
 {
@@ -131,7 +137,14 @@ fn term_of(d: &[[u64; 64]; 64], members: u64, list: &[u32], old: &[u64; 64], v: 
 }
 
 // The start of v by the starts of a row.
-fn start_of(d: &[[u64; 64]; 64], sets: &[u64; 64], n: usize, list: &[u32], old: &[u64; 64], v: usize) -> u64
+fn start_of(
+    d: &[[u64; 64]; 64],
+    sets: &[u64; 64],
+    n: usize,
+    list: &[u32],
+    old: &[u64; 64],
+    v: usize,
+) -> u64
     requires { ⌜ (n ≤ 64) × (v < 64) × (n ≤ length (now list)) × Fits (now old) ⌝ }
     ensures { λ r. ⌜ r ≡ start-at (now (d .entry)) (now (sets .entry)) n (now (list .entry)) (now (old .entry)) v ⌝ }
 {
@@ -197,7 +210,8 @@ fn turns(d: &[[u64; 64]; 64], sets: &[u64; 64], n: usize, list: &[u32]) -> [u64;
     row
 }
 
-fn short(x: u64) -> u32
+// Cut at 4,294,967,295: the starts of a sheet are far below.
+fn narrow(x: u64) -> u32
     ensures { λ r. ⌜ r ≡ min x undecided ⌝ }
 {
     if 4294967295 < x {
@@ -209,12 +223,12 @@ fn short(x: u64) -> u32
 // Start times for a list of delays, at the front of the lent numbers.
 pub fn fill_starts(d: &[[u64; 64]; 64], sets: &[u64; 64], n: usize, list: &[u32], out: &mut [u32])
     requires { ⌜ (n ≤ 64) × (n ≤ length (now list)) × (n ≤ length (now out)) ⌝ }
-    ensures { λ r. ⌜ ((es : List Edge) → Holds n es (now (d .entry)) (now (sets .entry)) → ((v : ℕ) → v < n → cell (start-times n es (delays (now (list .entry)))) v < 4294967296) → now (out .exit) ≡ start-times n es (delays (now (list .entry))) ++ drop n (now (out .entry))) ⌝ }
+    ensures { λ r. ⌜ Started n (now (d .entry)) (now (sets .entry)) (now (list .entry)) (now (out .entry)) (now (out .exit)) ⌝ }
 {
     let row = turns(d, sets, n, list);
     let mut v = 0;
     while v < n {
-        let x = short(row[v]);
+        let x = narrow(row[v]);
         out[v] = x;
         v += 1;
     }
@@ -231,6 +245,7 @@ fn open(delay: Delay) -> bool
     }
 }
 
+// The map with operation i in it, where it is open.
 fn with_operation(map: u64, operation: Operation, i: usize) -> u64
     requires { ⌜ i < 64 ⌝ }
     ensures { λ r. ⌜ ((j : ℕ) → test-bit r j ≡ (test-bit map j || eqb j i && is-open (operation .delay))) ⌝ }
@@ -257,6 +272,7 @@ pub fn unbounded_map(operations: [Operation; 64], n: usize) -> u64
     map
 }
 
+// Whether x is above the limit of entry i: 16,777,215 for an open step other than 0, else 0.
 fn delay_bad(x: u32, unbounded: u64, i: usize) -> bool
     requires { ⌜ i < 64 ⌝ }
     ensures { λ r. ⌜ r ≡ ltb (cond (test-bit unbounded i) 16777215 0) x ⌝ }
@@ -267,10 +283,10 @@ fn delay_bad(x: u32, unbounded: u64, i: usize) -> bool
     0 < x
 }
 
-// Whether an entry of a list, of the first n those that are there, is above its limit.
+// Whether an entry of a list, of the first n those that are there, is above its limit (refusal 13).
 pub fn delays_bad(list: &[u32], unbounded: u64, n: usize) -> bool
     requires { ⌜ n ≤ 64 ⌝ }
-    ensures { λ r. ⌜ ((os : List Operation) → length os ≡ n → ((i : ℕ) → i < n → test-bit unbounded i ≡ unbounded-at os i) → r ≡ delays-wrong os (now (list .entry))) ⌝ }
+    ensures { λ r. ⌜ Judged (now (list .entry)) unbounded n r ⌝ }
 {
     let mut i = 0;
     while i < n {

@@ -1,23 +1,20 @@
-use mathlib.Core.Path.{_≡_, sym, ap, _∙_}
-use mathlib.Core.Bool.{true, false}
-use Prim.Native.Nat.{ℕ, _-_, _≤_}
+-- The invariant: none of the b passed leaves a out. The measure is the number of steps that are left. Assumes nothing.
+use mathlib.Core.Path.{_≡_, sym, _∙_}
+use mathlib.Core.Bool.{false}
+use Prim.Native.Nat.{_-_, _≤_}
 use borrow.Author.Needs.{needs}
 use borrow.Author.Tests.{not-true, not-false}
 use Rattle.definitions.specs.Basics.{any-below}
 use Rattle.laws.proofs.Tests.{any-below-by}
-use Rattle.schedule.specs.Working.{leaves-out, stays}
+use Rattle.schedule.specs.Working.{overriding}
 use Rattle.schedule.proofs.Loops.{any-below-none-yet, any-below-more}
-use Rattle.schedule.proofs.Laws.{stays-not, stays-left-out, stays-alone}
+use Rattle.schedule.proofs.Laws.{deciding-absent, deciding-overridden, deciding-alone}
 use native.Mathlib.Omega.{arith}
 use Rattle.schedule.proofs.decides.Statement.{statement}
 use Rattle.schedule.proofs.decides.Tie as tie
-use Rattle.schedule.proofs.decides.Reads as reads
-use Rattle.schedule.proofs.decides.Lts as lts
-use Rattle.bitmaps.proofs.has.Reads as has-reads
-use Rattle.schedule.proofs.overrides.Reads as overrides-reads
 
 abbrev Inv-loop : tie.InvT-loop
-Inv-loop d sets n v a b₀ b = (b ≤ n) × (any-below (leaves-out d sets v a) b ≡ false)
+Inv-loop d sets n v a b₀ b = (b ≤ n) × (any-below (overriding d sets v a) b ≡ false)
 
 abbrev μ-loop : tie.MeasureT-loop
 μ-loop d sets n v a b₀ b = n - b
@@ -32,7 +29,7 @@ has-requires : tie.Need-has-requires Inv-loop μ-loop
 has-requires c κs = search needs
 
 returns : tie.Need-returns Inv-loop μ-loop
-returns c = sym (stays-not _ _ _ _ _ (sym (c .before .has .ensures) ∙ not-true _ (c .if1 .taken)))
+returns c = sym (deciding-absent _ _ _ _ _ (sym (c .before .has .ensures) ∙ not-true _ (c .if1 .taken)))
 
 loop-holds : tie.Need-loop-holds Inv-loop μ-loop
 loop-holds c = (omega arith, any-below-none-yet _)
@@ -43,7 +40,7 @@ overrides-requires c κs = search needs
 returns-2 : tie.Need-returns-2 Inv-loop μ-loop
 returns-2 c =
     sym
-    (stays-left-out _ _ _ _ _
+    (deciding-overridden _ _ _ _ _
     (any-below-by _ _ {k = c .before .before .before .loop .b} (omega arith) (sym (c .before .overrides .ensures) ∙ c .if2 .taken)))
 
 add-b : tie.Need-add-b Inv-loop μ-loop
@@ -62,7 +59,7 @@ returns-3 c =
     let args = start .before .before .before .args in
     let e : c .before .loop .b ≡ args .n = omega arith in
     sym
-    (stays-alone _ _ _ _ _ (sym (start .before .has .ensures) ∙ not-false _ (start .if1 .left))
+    (deciding-alone _ _ _ _ _ (sym (start .before .has .ensures) ∙ not-false _ (start .if1 .left))
     (rw e at (c .before .loop .inv .1)))
 
 pub decides-spec : {M : Type 1} → statement M

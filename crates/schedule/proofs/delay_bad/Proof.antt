@@ -1,13 +1,10 @@
-use mathlib.Core.Path.{_≡_, sym, ap, _∙_}
+-- By the test: the limit of an open operation, or 0. Assumes nothing.
+use mathlib.Core.Path.{sym, ap, _∙_}
 use mathlib.Core.Bool.{Bool, cond}
 use lib.Dec.{ltb}
 use borrow.Author.Needs.{needs}
-use native.Mathlib.Omega.{arith}
 use Rattle.schedule.proofs.delay_bad.Statement.{statement}
 use Rattle.schedule.proofs.delay_bad.Tie as tie
-use Rattle.schedule.proofs.delay_bad.Reads as reads
-use Rattle.schedule.proofs.delay_bad.Lts as lts
-use Rattle.bitmaps.proofs.has.Reads as has-reads
 
 has-requires : tie.Need-has-requires
 has-requires c κs = search needs

@@ -1,13 +1,9 @@
-use mathlib.Core.Path.{_≡_, sym, _∙_}
+-- By the test: the offset where a decides v, the mark where it does not. Assumes nothing.
+use mathlib.Core.Path.{sym, _∙_}
 use borrow.Author.Needs.{needs}
-use Rattle.schedule.proofs.Laws.{entry-stays, entry-left-out}
-use native.Mathlib.Omega.{arith}
+use Rattle.schedule.proofs.Laws.{entry-deciding, entry-undecided}
 use Rattle.schedule.proofs.entry.Statement.{statement}
 use Rattle.schedule.proofs.entry.Tie as tie
-use Rattle.schedule.proofs.entry.Reads as reads
-use Rattle.schedule.proofs.entry.Lts as lts
-use Rattle.schedule.proofs.decides.Reads as decides-reads
-use Rattle.schedule.proofs.offset_at.Reads as offset-at-reads
 
 decides-requires : tie.Need-decides-requires
 decides-requires c κs = search needs
@@ -19,10 +15,10 @@ cast-result : tie.Need-cast-result
 cast-result c = search needs
 
 returns : tie.Need-returns
-returns c = c .offset-at .ensures ∙ sym (entry-stays _ _ _ _ _ (sym (c .before .before .decides .ensures) ∙ c .before .if1 .taken))
+returns c = c .offset-at .ensures ∙ sym (entry-deciding _ _ _ _ _ (sym (c .before .before .decides .ensures) ∙ c .before .if1 .taken))
 
 returns-2 : tie.Need-returns-2
-returns-2 c = sym (entry-left-out _ _ _ _ _ (sym (c .before .decides .ensures) ∙ c .if1 .left))
+returns-2 c = sym (entry-undecided _ _ _ _ _ (sym (c .before .decides .ensures) ∙ c .if1 .left))
 
 pub entry-spec : {M : Type 1} → statement M
 entry-spec = tie.close (tie.spec decides-requires offset-at-requires cast-result returns returns-2)

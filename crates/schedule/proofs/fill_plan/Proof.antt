@@ -1,17 +1,15 @@
-use mathlib.Core.Path.{_≡_, refl, sym, ap, _∙_}
-use mathlib.Core.List.{List, _++_}
-use Prim.Native.Nat.{ℕ, _+_, _*_, _-_, _≤_}
+-- The invariant: the first v rows stand at the front, and behind them what was lent. The measure is the number of rows that are left. Assumes nothing.
+use mathlib.Core.Path.{_≡_, refl}
+use mathlib.Core.List.{_++_}
+use Prim.Native.Nat.{_+_, _*_, _-_, _≤_}
 use lib.ListN.{length, drop, length-take, length-drop}
 use Rattle.schedule.specs.Working.{first-rows}
-use Rattle.schedule.proofs.Laws.{first-rows-none, first-rows-more, table-plan}
+use Rattle.schedule.proofs.Laws.{first-rows-none, first-rows-more, planned}
 use Rattle.schedule.proofs.Loops.{row-place, table-size}
 use borrow.Author.Needs.{needs}
 use native.Mathlib.Omega.{arith}
 use Rattle.schedule.proofs.fill_plan.Statement.{statement}
 use Rattle.schedule.proofs.fill_plan.Tie as tie
-use Rattle.schedule.proofs.fill_plan.Reads as reads
-use Rattle.schedule.proofs.fill_plan.Lts as lts
-use Rattle.schedule.proofs.fill_row.Reads as fill-row-reads
 
 abbrev Inv-loop : tie.InvT-loop
 Inv-loop d sets n table₀ v₀ table v = (v ≤ n) × (length table ≡ length table₀) × (table ≡ first-rows d sets n v ++ drop (v * n) table₀)
@@ -58,10 +56,9 @@ same-length : tie.Need-same-length Inv-loop μ-loop
 same-length c = search needs
 
 returns : tie.Need-returns Inv-loop μ-loop
-returns c es h =
-    let args = c .before .before .before .args in
-    let e : c .before .loop .v ≡ args .n = omega arith in
-    (rw e at (c .before .loop .inv .2)) ∙ ap (λ (l : List ℕ). l ++ drop (args .n * args .n) (args .table .now)) (table-plan h)
+returns c =
+    let e : c .before .loop .v ≡ c .before .before .before .args .n = omega arith in
+    planned (rw e at (c .before .loop .inv .2))
 
 pub fill-plan-spec : {M : Type 1} → statement M
 fill-plan-spec =

@@ -1,4 +1,5 @@
-use mathlib.Core.Path.{_≡_, sym, _∙_}
+-- The invariant: the first a numbers are the row's, the others as lent. The measure is the number of entries that are left. Assumes nothing.
+use mathlib.Core.Path.{_≡_}
 use Prim.Native.Nat.{_-_, _≤_}
 use lib.ListN.{length, length-set}
 use Rattle.schedule.specs.Working.{entry-at}
@@ -7,9 +8,6 @@ use borrow.Author.Needs.{needs}
 use native.Mathlib.Omega.{arith}
 use Rattle.schedule.proofs.fill_row.Statement.{statement}
 use Rattle.schedule.proofs.fill_row.Tie as tie
-use Rattle.schedule.proofs.fill_row.Reads as reads
-use Rattle.schedule.proofs.fill_row.Lts as lts
-use Rattle.schedule.proofs.entry.Reads as entry-reads
 
 abbrev Inv-loop : tie.InvT-loop
 Inv-loop d sets n v row₀ a₀ row a = (a ≤ n) × (length row ≡ length row₀) × (row ≡ laid (entry-at d sets n v) a row₀)

@@ -1,16 +1,12 @@
-use native.Mathlib.Omega.{arith}
-use mathlib.Core.Path.{_≡_, sym, ap₂, _∙_}
+-- By the tests in their order: each that fails shows that b leaves nothing out; after the last the sums are compared. Assumes nothing.
 use Prim.Native.Nat.{_+_}
+use mathlib.Core.Path.{sym, ap₂, _∙_}
 use lib.Dec.{leb}
 use borrow.Author.Needs.{needs}
 use borrow.Author.Tests.{not-true, not-false}
 use Rattle.schedule.proofs.Laws.{not-member, itself, not-behind, compared}
 use Rattle.schedule.proofs.overrides.Statement.{statement}
 use Rattle.schedule.proofs.overrides.Tie as tie
-use Rattle.schedule.proofs.overrides.Reads as reads
-use Rattle.schedule.proofs.overrides.Lts as lts
-use Rattle.bitmaps.proofs.has.Reads as has-reads
-use Rattle.schedule.proofs.offset_at.Reads as offset-at-reads
 
 mul-has : tie.Need-mul-has
 mul-has c = search needs

@@ -1,5 +1,6 @@
-use mathlib.Core.Path.{_≡_, sym, _∙_}
-use mathlib.Core.Bool.{true, false}
+-- The invariant: the first v numbers are the same. The measure is the number of those that are left. Assumes nothing.
+use mathlib.Core.Path.{_≡_, sym}
+use mathlib.Core.Bool.{true}
 use Prim.Native.Nat.{ℕ, _-_, _≤_}
 use lib.Dec.{eqb}
 use borrow.Author.Tests.{eq-eqb, ne-eqb}
@@ -10,8 +11,6 @@ use borrow.Author.Needs.{needs}
 use native.Mathlib.Omega.{arith}
 use Rattle.schedule.proofs.same.Statement.{statement}
 use Rattle.schedule.proofs.same.Tie as tie
-use Rattle.schedule.proofs.same.Reads as reads
-use Rattle.schedule.proofs.same.Lts as lts
 
 abbrev Inv-loop : tie.InvT-loop
 Inv-loop a b n v₀ v = (v ≤ n) × (all-below (λ (k : ℕ). eqb (cell a k) (cell b k)) v ≡ true)

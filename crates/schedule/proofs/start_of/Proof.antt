@@ -1,17 +1,14 @@
+-- The invariant: the largest term of the members below a. The measure is the number of steps that are left. Assumes nothing.
 use mathlib.Core.Path.{_≡_, sym, ap, _∙_}
-use Prim.Native.Nat.{ℕ, _-_, _≤_, max}
+use Prim.Native.Nat.{_-_, _≤_, max}
 use Rattle.definitions.specs.Basics.{largest, test-bit}
-use Rattle.schedule.specs.Working.{member, term, start-at}
+use Rattle.schedule.specs.Working.{term}
 use Rattle.schedule.proofs.Loops.{largest-none-yet, largest-more}
 use Rattle.schedule.proofs.Laws.{start-at-source, start-at-later}
 use borrow.Author.Needs.{needs}
 use native.Mathlib.Omega.{arith}
 use Rattle.schedule.proofs.start_of.Statement.{statement}
 use Rattle.schedule.proofs.start_of.Tie as tie
-use Rattle.schedule.proofs.start_of.Reads as reads
-use Rattle.schedule.proofs.start_of.Lts as lts
-use Rattle.schedule.proofs.larger.Reads as larger-reads
-use Rattle.schedule.proofs.term_of.Reads as term-of-reads
 
 abbrev Inv-loop : tie.InvT-loop
 Inv-loop d sets n list old v members most₀ a₀ most a = (a ≤ n) × (most ≡ largest (test-bit members) (term d list old v) a)

@@ -1,15 +1,12 @@
-use mathlib.Core.Path.{_≡_, sym, ap, _∙_}
+-- By the test. The sum fits: the row's number is small by the contract, the other two have 32 bits. Assumes nothing.
 use Prim.Native.Nat.{_+_}
+use mathlib.Core.Path.{sym, ap, _∙_}
 use borrow.Author.Tests.{not-true, not-false}
 use Rattle.laws.proofs.Bools.{cond-true, cond-false}
 use borrow.Author.Needs.{needs}
 use native.Mathlib.Omega.{arith}
 use Rattle.schedule.proofs.term_of.Statement.{statement}
 use Rattle.schedule.proofs.term_of.Tie as tie
-use Rattle.schedule.proofs.term_of.Reads as reads
-use Rattle.schedule.proofs.term_of.Lts as lts
-use Rattle.bitmaps.proofs.has.Reads as has-reads
-use Rattle.schedule.proofs.offset_at.Reads as offset-at-reads
 
 has-requires : tie.Need-has-requires
 has-requires c κs = search needs

@@ -1,4 +1,5 @@
-use mathlib.Core.Path.{_≡_, sym, _∙_}
+-- The invariant: the first v numbers are the next row's, the others 0. The measure is the number of steps that are left. Assumes nothing.
+use mathlib.Core.Path.{_≡_}
 use Prim.Native.Nat.{_-_, _≤_}
 use lib.ListN.{length, length-set, replicate}
 use Rattle.schedule.specs.Working.{start-at, next-row}
@@ -7,9 +8,6 @@ use borrow.Author.Needs.{needs}
 use native.Mathlib.Omega.{arith}
 use Rattle.schedule.proofs.turn.Statement.{statement}
 use Rattle.schedule.proofs.turn.Tie as tie
-use Rattle.schedule.proofs.turn.Reads as reads
-use Rattle.schedule.proofs.turn.Lts as lts
-use Rattle.schedule.proofs.start_of.Reads as start-of-reads
 
 abbrev Inv-loop : tie.InvT-loop
 Inv-loop d sets n list old row₀ v₀ row v = (v ≤ n) × (length row ≡ 64) × (row ≡ laid (start-at d sets n list old) v row₀)

@@ -1,16 +1,12 @@
+-- The invariant: the row after k turns. A turn that changes nothing ends them all. The measure is the number of turns that are left. Assumes nothing.
 use mathlib.Core.Path.{_≡_, sym, _∙_}
 use Prim.Native.Nat.{_-_, _≤_}
-use lib.ListN.{getD}
-use Rattle.schedule.specs.Working.{row-after, Fits}
+use Rattle.schedule.specs.Working.{row-after}
 use Rattle.schedule.proofs.Laws.{row-after-none, row-after-more, row-after-stop, row-fits}
 use borrow.Author.Needs.{needs}
 use native.Mathlib.Omega.{arith}
 use Rattle.schedule.proofs.turns.Statement.{statement}
 use Rattle.schedule.proofs.turns.Tie as tie
-use Rattle.schedule.proofs.turns.Reads as reads
-use Rattle.schedule.proofs.turns.Lts as lts
-use Rattle.schedule.proofs.same.Reads as same-reads
-use Rattle.schedule.proofs.turn.Reads as turn-reads
 
 abbrev Inv-loop : tie.InvT-loop
 Inv-loop d sets n list row₀ k₀ row k = (k ≤ n) × (row ≡ row-after d sets n list k)

@@ -1,13 +1,10 @@
-use mathlib.Core.Path.{_≡_, sym, ap, _∙_}
-use Prim.Native.Nat.{ℕ, _-_, _≤_, max}
+-- The invariant: the map of the open operations below i. The measure is the number of operations that are left. Assumes nothing.
+use Prim.Native.Nat.{_-_, _≤_, max}
 use Rattle.schedule.proofs.DelayLaws.{Mapped, mapped-source, mapped-more, mapped-end}
 use borrow.Author.Needs.{needs}
 use native.Mathlib.Omega.{arith}
 use Rattle.schedule.proofs.unbounded_map.Statement.{statement}
 use Rattle.schedule.proofs.unbounded_map.Tie as tie
-use Rattle.schedule.proofs.unbounded_map.Reads as reads
-use Rattle.schedule.proofs.unbounded_map.Lts as lts
-use Rattle.schedule.proofs.with_operation.Reads as with-operation-reads
 
 abbrev Inv-loop : tie.InvT-loop
 Inv-loop n operations map₀ i₀ map i = (1 ≤ i) × (i ≤ max n 1) × Mapped operations i map

@@ -1,16 +1,12 @@
+-- By the test: a member more, or the map as it is. Assumes nothing.
 use mathlib.Core.Bool.{Bool, true, false, _||_, and-true, and-false, or-false}
 use lib.Dec.{eqb}
 use Rattle.definitions.specs.Basics.{test-bit}
 use Rattle.schedule.specs.Delays.{is-open}
 use mathlib.Core.Path.{_≡_, sym, ap, _∙_}
 use borrow.Author.Needs.{needs}
-use native.Mathlib.Omega.{arith}
 use Rattle.schedule.proofs.with_operation.Statement.{statement}
 use Rattle.schedule.proofs.with_operation.Tie as tie
-use Rattle.schedule.proofs.with_operation.Reads as reads
-use Rattle.schedule.proofs.with_operation.Lts as lts
-use Rattle.bitmaps.proofs.insert.Reads as insert-reads
-use Rattle.schedule.proofs.open.Reads as open-reads
 
 open-requires : tie.Need-open-requires
 open-requires c κs = search needs
