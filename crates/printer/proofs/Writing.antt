@@ -24,10 +24,10 @@ module _ {A : Type 0} (old : List A) (at : ℕ) where
   length-overlay s h = simp (length-append, length-take, length-drop) (omega arith)
 
   -- Both parts of what is left are cut where the first text ends.
-  pub overlay-then : (s t : List A) → at + length s + length t ≤ length old → overlay (overlay old at s) (at + length s) t ≡ overlay old at (s ++ t)
+  pub overlay-then : (s t : List A) → at ≤ length old → overlay (overlay old at s) (at + length s) t ≡ overlay old at (s ++ t)
   unfolding overlay
   overlay-then s t h =
-      let size : length (take at old ++ s) ≡ at + length s = length-append (take at old) s ∙ ap (λ (k : ℕ). k + length s) (length-take-le at old (omega arith)) in
+      let size : length (take at old ++ s) ≡ at + length s = length-append (take at old) s ∙ ap (λ (k : ℕ). k + length s) (length-take-le at old h) in
       let e : at + length s + length t ≡ at + length (s ++ t) = omega (arith, length-append s t) in
       ap₂
       (λ (x y : List A). x ++ t ++ y)
@@ -47,9 +47,9 @@ module _ {A : Type 0} (old : List A) (at : ℕ) where
 pub put-none : (at : ℕ) (old : List ℕ) → Put [] at at old old
 put-none at old = record { behind = omega arith; bytes = overlay-none old at }
 
-pub put-then : {s t : List ℕ} {at p r : ℕ} {old mid new : List ℕ} → Put s at p old mid → Put t p r mid new → at + length (s ++ t) ≤ length old → Put (s ++ t) at r old new
-put-then {s} {t} {at} {p} {r} {old} {mid} {new} f g room =
-    record { behind = omega (arith, f .behind, g .behind, length-append s t); bytes = g .bytes ∙ ap₂ (λ (l : List ℕ) (k : ℕ). overlay l k t) (f .bytes) (f .behind) ∙ overlay-then old at s t (omega (arith, length-append s t)) }
+pub put-then : {s t : List ℕ} {at p r : ℕ} {old mid new : List ℕ} → Put s at p old mid → Put t p r mid new → at ≤ length old → Put (s ++ t) at r old new
+put-then {s} {t} {at} {p} {r} {old} {mid} {new} f g h =
+    record { behind = omega (arith, f .behind, g .behind, length-append s t); bytes = g .bytes ∙ ap₂ (λ (l : List ℕ) (k : ℕ). overlay l k t) (f .bytes) (f .behind) ∙ overlay-then old at s t h }
 
 -- A text under another name.
 pub put-as : {s t : List ℕ} {at r : ℕ} {old new : List ℕ} → s ≡ t → Put s at r old new → Put t at r old new
@@ -60,6 +60,10 @@ put-length {s} {at} {r} {old} {new} f room = ap length (f .bytes) ∙ length-ove
 
 pub put-room : {s : List ℕ} {at p : ℕ} {old mid : List ℕ} → Put s at p old mid → (t : List ℕ) → at + length (s ++ t) ≤ length old → p + length t ≤ length mid
 put-room {s} f t room = omega (arith, f .behind, length-append s t, put-length f (omega (arith, length-append s t)))
+
+-- Where there is room for two texts, there is room for the first.
+pub left-room : (at : ℕ) (s t : List ℕ) (m : ℕ) → at + length (s ++ t) ≤ m → at + length s ≤ m
+left-room at s t m h = omega (arith, length-append s t)
 
 -- From the front.
 pub put-printed : {s : List ℕ} {r : ℕ} {old new : List ℕ} → Put s 0 r old new → Printed s r old new
@@ -97,7 +101,7 @@ module _ (f : ℕ → List ℕ) (n k : ℕ) {at p : ℕ} {old mid : List ℕ} (b
 
   pub next-text : {r : ℕ} {new : List ℕ} → Put (f k) p r mid new → Put (texts f (k + 1)) at r old new
   unfolding texts
-  next-text g = rw (add-one k) (put-then before g fits)
+  next-text g = rw (add-one k) (put-then before g (omega arith))
 
 -- Whatever of the texts is written, the buffer keeps its length.
 pub texts-length : (f : ℕ → List ℕ) (n k : ℕ) {at p : ℕ} {old new : List ℕ} → Put (texts f k) at p old new → k ≤ n → at + length (texts f n) ≤ length old → length new ≡ length old

@@ -32,9 +32,16 @@ texts f (suc n) = texts f n ++ f n
 unfoldable pub heading : List ℕ → ℕ → List ℕ
 heading word x = word ++ field x ++ newline
 
+-- A wait line and a start line.
+abbrev pub wait-line : ℕ → ℕ → List ℕ
+wait-line a i = wait-text (record { anchor = a; target = i })
+
+abbrev pub start-line : ℕ → ℕ → ℕ → List ℕ
+start-line v a ticks = start-text (record { step = v; decider = a; ticks = ticks })
+
 -- The wait lines of the maps: bit a of map i stands where i waits for a. By a, then by i.
 unfoldable pub wait-cell : List ℕ → ℕ → ℕ → List ℕ
-wait-cell maps a i = cond (test-bit (getD maps i 0) a) (wait-text (record { anchor = a; target = i })) []
+wait-cell maps a i = cond (test-bit (getD maps i 0) a) (wait-line a i) []
 
 unfoldable pub maps-row : ℕ → List ℕ → ℕ → List ℕ
 maps-row n maps a = texts (wait-cell maps a) n
@@ -47,7 +54,7 @@ abbrev pub cell-at : ℕ → List ℕ → ℕ → ℕ → ℕ
 cell-at n table v a = getD table (v * n + a) 0
 
 unfoldable pub start-cell : ℕ → List ℕ → ℕ → ℕ → List ℕ
-start-cell n table v a = cond (eqb (cell-at n table v a) undecided) [] (start-text (record { step = v; decider = a; ticks = cell-at n table v a }))
+start-cell n table v a = cond (eqb (cell-at n table v a) undecided) [] (start-line v a (cell-at n table v a))
 
 unfoldable pub table-row : ℕ → List ℕ → ℕ → List ℕ
 table-row n table v = texts (start-cell n table v) n

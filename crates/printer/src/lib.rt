@@ -3,8 +3,8 @@ ghost use mathlib.Core.Path.{_≡_};
 ghost use mathlib.Core.List.{List, [], _∷_, _++_};
 ghost use Prim.Native.Nat.{ℕ, _+_, _*_, _<_, _≤_};
 ghost use lib.ListN.{length};
-ghost use Rattle.definitions.specs.Output.{decimal, field, newline, wait-text, start-text};
-ghost use Rattle.printer.specs.Texts.{Put, Printed, heading, wait-cell, maps-row, maps-text, start-cell, table-row, table-text, plan-text, refusal-text, plan-room};
+ghost use Rattle.definitions.specs.Output.{decimal, field, newline};
+ghost use Rattle.printer.specs.Texts.{Put, Printed, heading, wait-line, start-line, wait-cell, maps-row, maps-text, start-cell, table-row, table-text, plan-text, refusal-text, plan-room};
 
 // One byte.
 fn put_byte(b: u8, out: &mut [u8], at: usize) -> usize
@@ -64,4 +64,37 @@ fn put_newline(out: &mut [u8], at: usize) -> usize
     ensures { λ r. ⌜ Put newline at r (now (out .entry)) (now (out .exit)) ⌝ }
 {
     put_byte(10, out, at)
+}
+
+// A line of a word and a number.
+fn put_heading(word: &[u8], x: u32, out: &mut [u8], at: usize) -> usize
+    requires { ⌜ at + length (heading (now word) x) ≤ length (now out) ⌝ }
+    ensures { λ r. ⌜ Put (heading (now (word .entry)) x) at r (now (out .entry)) (now (out .exit)) ⌝ }
+{
+    let p = put_word(word, out, at);
+    let q = put_field(x, out, p);
+    put_newline(out, q)
+}
+
+// A wait line: i waits for a.
+fn put_wait(a: u32, i: u32, out: &mut [u8], at: usize) -> usize
+    requires { ⌜ at + length (wait-line a i) ≤ length (now out) ⌝ }
+    ensures { λ r. ⌜ Put (wait-line a i) at r (now (out .entry)) (now (out .exit)) ⌝ }
+{
+    let p = put_word(b"wait", out, at);
+    let q = put_field(a, out, p);
+    let s = put_field(i, out, q);
+    put_newline(out, s)
+}
+
+// A start line: step v, deciding step a, and the offset.
+fn put_start(v: u32, a: u32, ticks: u32, out: &mut [u8], at: usize) -> usize
+    requires { ⌜ at + length (start-line v a ticks) ≤ length (now out) ⌝ }
+    ensures { λ r. ⌜ Put (start-line v a ticks) at r (now (out .entry)) (now (out .exit)) ⌝ }
+{
+    let p = put_word(b"start", out, at);
+    let q = put_field(v, out, p);
+    let s = put_field(a, out, q);
+    let t = put_field(ticks, out, s);
+    put_newline(out, t)
 }
