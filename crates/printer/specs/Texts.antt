@@ -43,10 +43,10 @@ start-line v a ticks = start-text (record { step = v; decider = a; ticks = ticks
 unfoldable pub wait-cell : List ℕ → ℕ → ℕ → List ℕ
 wait-cell maps a i = cond (test-bit (getD maps i 0) a) (wait-line a i) []
 
-unfoldable pub maps-row : ℕ → List ℕ → ℕ → List ℕ
+abbrev pub maps-row : ℕ → List ℕ → ℕ → List ℕ
 maps-row n maps a = texts (wait-cell maps a) n
 
-unfoldable pub maps-text : ℕ → List ℕ → List ℕ
+abbrev pub maps-text : ℕ → List ℕ → List ℕ
 maps-text n maps = texts (maps-row n maps) n
 
 -- The start lines of a table of n by n numbers: none where a does not decide v.
@@ -56,10 +56,10 @@ cell-at n table v a = getD table (v * n + a) 0
 unfoldable pub start-cell : ℕ → List ℕ → ℕ → ℕ → List ℕ
 start-cell n table v a = cond (eqb (cell-at n table v a) undecided) [] (start-line v a (cell-at n table v a))
 
-unfoldable pub table-row : ℕ → List ℕ → ℕ → List ℕ
+abbrev pub table-row : ℕ → List ℕ → ℕ → List ℕ
 table-row n table v = texts (start-cell n table v) n
 
-unfoldable pub table-text : ℕ → List ℕ → List ℕ
+abbrev pub table-text : ℕ → List ℕ → List ℕ
 table-text n table = texts (table-row n table) n
 
 -- The whole of an accepted sheet, and a refusal.

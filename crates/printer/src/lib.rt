@@ -98,3 +98,101 @@ fn put_start(v: u32, a: u32, ticks: u32, out: &mut [u8], at: usize) -> usize
     let t = put_field(ticks, out, s);
     put_newline(out, t)
 }
+
+// The wait line of a and i, where bit a of map i stands.
+fn put_wait_at(maps: &[u64; 64], a: usize, i: usize, out: &mut [u8], at: usize) -> usize
+    requires { ⌜ (a < 64) × (i < 64) × (at + length (wait-cell (now maps) a i) ≤ length (now out)) ⌝ }
+    ensures { λ r. ⌜ Put (wait-cell (now (maps .entry)) a i) at r (now (out .entry)) (now (out .exit)) ⌝ }
+{
+    if bitmaps::has(maps[i], a) {
+        return put_wait(a as u32, i as u32, out, at);
+    }
+    at
+}
+
+// The wait lines of a.
+fn put_waits_of(maps: &[u64; 64], n: usize, a: usize, out: &mut [u8], at: usize) -> usize
+    requires { ⌜ (n ≤ 64) × (a < 64) × (at + length (maps-row n (now maps) a) ≤ length (now out)) ⌝ }
+    ensures { λ r. ⌜ Put (maps-row n (now (maps .entry)) a) at r (now (out .entry)) (now (out .exit)) ⌝ }
+{
+    let mut p = at;
+    let mut i = 0;
+    while i < n {
+        p = put_wait_at(maps, a, i, out, p);
+        i += 1;
+    }
+    p
+}
+
+// Every wait line.
+fn put_waits(maps: &[u64; 64], n: usize, out: &mut [u8], at: usize) -> usize
+    requires { ⌜ (n ≤ 64) × (at + length (maps-text n (now maps)) ≤ length (now out)) ⌝ }
+    ensures { λ r. ⌜ Put (maps-text n (now (maps .entry))) at r (now (out .entry)) (now (out .exit)) ⌝ }
+{
+    let mut p = at;
+    let mut a = 0;
+    while a < n {
+        p = put_waits_of(maps, n, a, out, p);
+        a += 1;
+    }
+    p
+}
+
+// The start line of v and a, where a decides v.
+fn put_start_at(table: &[u32], n: usize, v: usize, a: usize, out: &mut [u8], at: usize) -> usize
+    requires { ⌜ (n ≤ 64) × (v < n) × (a < n) × (n * n ≤ length (now table)) × (at + length (start-cell n (now table) v a) ≤ length (now out)) ⌝ }
+    ensures { λ r. ⌜ Put (start-cell n (now (table .entry)) v a) at r (now (out .entry)) (now (out .exit)) ⌝ }
+{
+    let ticks = table[v * n + a];
+    if ticks == 4294967295 {
+        return at;
+    }
+    put_start(v as u32, a as u32, ticks, out, at)
+}
+
+// The start lines of v.
+fn put_starts_of(table: &[u32], n: usize, v: usize, out: &mut [u8], at: usize) -> usize
+    requires { ⌜ (n ≤ 64) × (v < n) × (n * n ≤ length (now table)) × (at + length (table-row n (now table) v) ≤ length (now out)) ⌝ }
+    ensures { λ r. ⌜ Put (table-row n (now (table .entry)) v) at r (now (out .entry)) (now (out .exit)) ⌝ }
+{
+    let mut p = at;
+    let mut a = 0;
+    while a < n {
+        p = put_start_at(table, n, v, a, out, p);
+        a += 1;
+    }
+    p
+}
+
+// Every start line.
+fn put_starts(table: &[u32], n: usize, out: &mut [u8], at: usize) -> usize
+    requires { ⌜ (n ≤ 64) × (n * n ≤ length (now table)) × (at + length (table-text n (now table)) ≤ length (now out)) ⌝ }
+    ensures { λ r. ⌜ Put (table-text n (now (table .entry))) at r (now (out .entry)) (now (out .exit)) ⌝ }
+{
+    let mut p = at;
+    let mut v = 0;
+    while v < n {
+        p = put_starts_of(table, n, v, out, p);
+        v += 1;
+    }
+    p
+}
+
+// What is printed of an accepted sheet: its verdict, the count of its waits, the waits and the plan. Returns how many bytes there are.
+pub fn print_plan(verdict: u32, count: u32, maps: &[u64; 64], table: &[u32], n: usize, out: &mut [u8]) -> usize
+    requires { ⌜ (n ≤ 64) × (n * n ≤ length (now table)) × (plan-room ≤ length (now out)) ⌝ }
+    ensures { λ r. ⌜ Printed (plan-text verdict count (now (maps .entry)) (now (table .entry)) n) r (now (out .entry)) (now (out .exit)) ⌝ }
+{
+    let p = put_heading(b"verdict", verdict, out, 0);
+    let q = put_heading(b"waits", count, out, p);
+    let s = put_waits(maps, n, out, q);
+    put_starts(table, n, out, s)
+}
+
+// What is printed of a sheet that is refused, by the refusal's number. Returns how many bytes there are.
+pub fn print_refusal(number: u32, out: &mut [u8]) -> usize
+    requires { ⌜ 19 ≤ length (now out) ⌝ }
+    ensures { λ r. ⌜ Printed (refusal-text number) r (now (out .entry)) (now (out .exit)) ⌝ }
+{
+    put_heading(b"refused", number, out, 0)
+}
