@@ -1,4 +1,5 @@
 pub mod Cells
 pub mod Digits
+pub mod Limits
 pub mod Lines
 pub mod Writing
