@@ -15,7 +15,7 @@ use Rattle.definitions.specs.Links.{Edge}
 use Rattle.definitions.specs.Anchors.{in-anchor-set}
 use Rattle.definitions.specs.Waits.{WaitPair, waits-for, waits-of, wait-list, wait-maps, wait-count}
 use Rattle.definitions.specs.Plan.{offset, overrides, decides, undecided, plan-entry, plan-table}
-use Rattle.definitions.specs.Answers.{count-of, edges-of, serialized-of, judge-records}
+use Rattle.definitions.specs.Answers.{count-of, edges-of, serialized-of, judge-records, judged}
 use Rattle.definitions.specs.Output.{StartLine, lines-of, start-lines, Listing, list-records, listed, field, newline, word-verdict, word-waits, wait-text, start-text, listing-text, standplan}
 use Rattle.laws.proofs.Bools.{bool-cases, and-split, cond-true, cond-false}
 use Rattle.theory.proofs.PlanTables.{plan-table-length, plan-table-at}
@@ -97,3 +97,47 @@ module _ (n : ℕ) (es : List Edge) (table : List ℕ) (planned : take (n * n) t
   starts-listed =
       texts-same _ _ n (λ v b. texts-same _ _ n (λ a c. cell-listed v a b c))
       ∙ rows-listed start-text (λ v a. record { step = v; decider = a; ticks = offset n es a v }) (λ v a. decides n es a v) n
+
+-- The planner writes the plan at the front of the lent table.
+pub written-plan : (n : ℕ) (es : List Edge) (rest : List ℕ) → take (n * n) (plan-table n es ++ rest) ≡ plan-table n es
+written-plan n es rest = take-at (plan-table n es) rest (n * n) (plan-table-length n es)
+
+-- The whole of an accepted sheet: es are its edges as sent, fs those with its waits in.
+module _ (n : ℕ) (es fs : List Edge) (verdict count : ℕ) (maps table : List ℕ) (counted : count ≡ wait-count n es) (bits : (a i : ℕ) → a < n → i < n → test-bit (getD maps i 0) a ≡ waits-for n es a i) (planned : take (n * n) table ≡ plan-table n fs) (limit : (a v : ℕ) → v < n → in-anchor-set n fs a v ≡ true → offset n fs a v ≤ 4128705) where
+  headings-joined : heading word-verdict verdict ++ heading word-waits count ≡ word-verdict ++ field verdict ++ newline ++ word-waits ++ field (length (wait-list n es)) ++ newline
+  unfolding heading wait-count
+  headings-joined =
+      sym (append-assoc (word-verdict ++ field verdict ++ newline) (word-waits ++ field count) newline)
+      ∙ ap (λ (l : List ℕ). l ++ newline) (sym (append-assoc (word-verdict ++ field verdict ++ newline) word-waits (field count)))
+      ∙ ap (λ (k : ℕ). word-verdict ++ field verdict ++ newline ++ word-waits ++ field k ++ newline) counted
+
+  pub plan-listed : plan-text verdict count maps table n ≡ listing-text (given (record { verdict = verdict; waits = wait-list n es; starts = start-lines n fs }))
+  unfolding plan-text listing-text
+  plan-listed = ap₂ (λ (x y : List ℕ). x ++ y) (ap₂ (λ (x y : List ℕ). x ++ y) headings-joined (waits-listed n es maps bits)) (starts-listed n fs table planned limit)
+
+-- A refusal.
+pub refusal-listed : (k : ℕ) → refusal-text k ≡ listing-text (refused k)
+unfolding refusal-text heading listing-text
+refusal-listed k = refl
+
+-- What `standplan` prints of a sheet: the plan where the sheet is accepted with waits allowed, the refusal where it is not.
+pub standplan-plan : (s : List ℕ) (q : Records) (verdict : ℕ) (maps table : List ℕ) → read s ≡ given q → judge-records q true ≡ given verdict → ((a i : ℕ) → a < count-of q → i < count-of q → test-bit (getD maps i 0) a ≡ waits-for (count-of q) (edges-of q) a i) → take (count-of q * count-of q) table ≡ plan-table (count-of q) (serialized-of q) → ((a v : ℕ) → v < count-of q → in-anchor-set (count-of q) (serialized-of q) a v ≡ true → offset (count-of q) (serialized-of q) a v ≤ 4128705) → plan-text verdict (wait-count (count-of q) (edges-of q)) maps table (count-of q) ≡ standplan s
+unfolding standplan listed list-records when-given
+standplan-plan s q verdict maps table reads judges bits planned limit =
+    plan-listed (count-of q) (edges-of q) (serialized-of q) verdict (wait-count (count-of q) (edges-of q)) maps table refl bits planned limit
+    ∙ sym
+    (ap (λ (o : Outcome Records). listing-text (when-given o (λ r. list-records r true))) reads
+    ∙ ap (λ (o : Outcome ℕ). listing-text (when-given o (λ v. given (record { verdict = v; waits = wait-list (count-of q) (edges-of q); starts = start-lines (count-of q) (serialized-of q) })))) judges)
+
+-- Where judging refuses, so does listing: both read first, and judge next.
+refused-listed : (k : ℕ) (o : Outcome Records) → when-given o (λ q. judge-records q true) ≡ refused k → when-given o (λ q. list-records q true) ≡ refused k
+unfolding when-given list-records
+refused-listed k (refused j) h = refused-as j k h
+  where
+    refused-as : (j k : ℕ) → _≡_ {A = Outcome ℕ} (refused j) (refused k) → _≡_ {A = Outcome Listing} (refused j) (refused k)
+    refused-as j k h = let e : j ≡ k = cc in ap {B = Outcome Listing} refused e
+refused-listed k (given q) h = ap (λ (o : Outcome ℕ). when-given o (λ v. given (record { verdict = v; waits = wait-list (count-of q) (edges-of q); starts = start-lines (count-of q) (serialized-of q) }))) h
+
+pub standplan-refusal : (s : List ℕ) (k : ℕ) → judged s true ≡ refused k → refusal-text k ≡ standplan s
+unfolding standplan listed judged
+standplan-refusal s k h = refusal-listed k ∙ ap listing-text (sym (refused-listed k (read s) h))

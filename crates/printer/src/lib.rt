@@ -179,7 +179,14 @@ fn put_starts(table: &[u32], n: usize, out: &mut [u8], at: usize) -> usize
 }
 
 // What is printed of an accepted sheet: its verdict, the count of its waits, the waits and the plan. Returns how many bytes there are.
-pub fn print_plan(verdict: u32, count: u32, maps: &[u64; 64], table: &[u32], n: usize, out: &mut [u8]) -> usize
+pub fn print_plan(
+    verdict: u32,
+    count: u32,
+    maps: &[u64; 64],
+    table: &[u32],
+    n: usize,
+    out: &mut [u8],
+) -> usize
     requires { ⌜ (n ≤ 64) × (n * n ≤ length (now table)) × (plan-room ≤ length (now out)) ⌝ }
     ensures { λ r. ⌜ Printed (plan-text verdict count (now (maps .entry)) (now (table .entry)) n) r (now (out .entry)) (now (out .exit)) ⌝ }
 {

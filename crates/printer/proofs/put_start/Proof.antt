@@ -42,13 +42,13 @@ put-newline-requires : tie.Need-put-newline-requires
 put-newline-requires c κs =
     let s = c .before .before .before .before .before .before .before .before .before .before .before .before .before .before .before .before .before .before .before in
     let room =
-        put-room
-        (put-then
-        (put-then (put-then (c .before .before .before .before .before .before .before .before .before .before .before .before .before .before .before .put-word .ensures) (c .before .before .before .before .before .before .before .before .before .before .before .put-field .ensures) (omega arith)) (c .before .before .before .before .before .before .before .put-field2 .ensures) (omega arith))
-        (c .before .before .before .put-field3 .ensures)
-        (omega arith))
-        newline
-        (start-all-room (s .args .v) (s .args .a) (s .args .ticks) (s .args .at) _ (s .pre)) in
+    put-room
+    (put-then
+    (put-then (put-then (c .before .before .before .before .before .before .before .before .before .before .before .before .before .before .before .put-word .ensures) (c .before .before .before .before .before .before .before .before .before .before .before .put-field .ensures) (omega arith)) (c .before .before .before .before .before .before .before .put-field2 .ensures) (omega arith))
+    (c .before .before .before .put-field3 .ensures)
+    (omega arith))
+    newline
+    (start-all-room (s .args .v) (s .args .a) (s .args .ticks) (s .args .at) _ (s .pre)) in
     omega arith
 
 same-length : tie.Need-same-length
