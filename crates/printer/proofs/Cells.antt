@@ -1,0 +1,38 @@
+-- The lines that stand or are left out, and where a number of the table lies.
+use mathlib.Core.Path.{_≡_, sym}
+use mathlib.Core.Bool.{true, false}
+use mathlib.Core.List.{List, []}
+use Prim.Native.Nat.{ℕ, _+_, _*_, _≤_, _<_}
+use native.Mathlib.Nat.{mul-le-mul}
+use lib.ListN.{getD}
+use lib.Arith.{digits-lt}
+use borrow.Author.Tests.{eq-eqb, ne-eqb}
+use Rattle.laws.proofs.Bools.{cond-true, cond-false}
+use Rattle.definitions.specs.Basics.{test-bit}
+use Rattle.definitions.specs.Plan.{undecided}
+use Rattle.printer.specs.Texts.{wait-line, start-line, wait-cell, cell-at, start-cell}
+
+module _ (maps : List ℕ) (a i : ℕ) where
+  pub wait-stands : true ≡ test-bit (getD maps i 0) a → wait-line a i ≡ wait-cell maps a i
+  unfolding wait-cell
+  wait-stands h = sym (cond-true (wait-line a i) [] (sym h))
+
+  pub wait-absent : false ≡ test-bit (getD maps i 0) a → [] ≡ wait-cell maps a i
+  unfolding wait-cell
+  wait-absent h = sym (cond-false (wait-line a i) [] (sym h))
+
+module _ (n : ℕ) (table : List ℕ) (v a : ℕ) where
+  pub start-stands : (cell-at n table v a ≡ undecided → ⊥) → start-line v a (cell-at n table v a) ≡ start-cell n table v a
+  unfolding start-cell
+  start-stands h = sym (cond-false [] (start-line v a (cell-at n table v a)) (ne-eqb (cell-at n table v a) undecided h))
+
+  pub start-absent : cell-at n table v a ≡ undecided → [] ≡ start-cell n table v a
+  unfolding start-cell
+  start-absent h = sym (cond-true [] (start-line v a (cell-at n table v a)) (eq-eqb (cell-at n table v a) undecided h))
+
+-- Number v × n + a lies in a table of n by n, of at most 4,096 numbers.
+pub cell-below : (n v a : ℕ) → v < n → a < n → v * n + a < n * n
+cell-below n v a b c = digits-lt b c
+
+pub square-limit : (n : ℕ) → n ≤ 64 → n * n ≤ 4096
+square-limit n h = mul-le-mul h h

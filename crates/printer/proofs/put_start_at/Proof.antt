@@ -1,0 +1,60 @@
+-- By the number: the line, or nothing. Assumes nothing.
+use mathlib.Core.Path.{_≡_, ap}
+use native.Mathlib.Omega.{arith}
+use lib.ListN.{length}
+use Rattle.printer.proofs.Cells.{start-stands, start-absent, cell-below, square-limit}
+use Rattle.printer.proofs.Writing.{put-as, put-none}
+use borrow.Author.Needs.{needs}
+use Rattle.printer.proofs.put_start_at.Statement.{statement}
+use Rattle.printer.proofs.put_start_at.Tie as tie
+
+mul-ticks : tie.Need-mul-ticks
+mul-ticks c = omega (arith, cell-below (c .before .before .args .n) (c .before .before .args .v) (c .before .before .args .a) (omega arith) (omega arith), square-limit (c .before .before .args .n) (omega arith))
+
+add-ticks : tie.Need-add-ticks
+add-ticks c = omega (arith, cell-below (c .before .before .args .n) (c .before .before .args .v) (c .before .before .args .a) (omega arith) (omega arith), square-limit (c .before .before .args .n) (omega arith))
+
+mul-ticks-2 : tie.Need-mul-ticks-2
+mul-ticks-2 c = omega (arith, cell-below (c .before .before .args .n) (c .before .before .args .v) (c .before .before .args .a) (omega arith) (omega arith), square-limit (c .before .before .args .n) (omega arith))
+
+shared-slice-read-ticks : tie.Need-shared-slice-read-ticks
+shared-slice-read-ticks c = omega (arith, cell-below (c .before .before .before .args .n) (c .before .before .before .args .v) (c .before .before .before .args .a) (omega arith) (omega arith))
+
+returns : tie.Need-returns
+returns c =
+    let s = c .before .before .before .before in
+    put-as (start-absent (s .args .n) (s .args .table .now) (s .args .v) (s .args .a) (c .if1 .taken)) (put-none _ _)
+
+cast-put-start : tie.Need-cast-put-start
+cast-put-start c = search needs
+
+cast-put-start-2 : tie.Need-cast-put-start-2
+cast-put-start-2 c = search needs
+
+put-start-requires : tie.Need-put-start-requires
+put-start-requires c κs =
+    let s = c .before .before .before .before .before in
+    omega (arith, ap length (start-stands (s .args .n) (s .args .table .now) (s .args .v) (s .args .a) (c .before .if1 .left)))
+
+same-length : tie.Need-same-length
+same-length c = search needs
+
+returns-2 : tie.Need-returns-2
+returns-2 c =
+    let s = c .before .before .before .before .before .before .before .before in
+    put-as (start-stands (s .args .n) (s .args .table .now) (s .args .v) (s .args .a) (c .before .before .before .before .if1 .left)) (c .before .before .put-start .ensures)
+
+pub put-start-at-spec : {M : Type 1} → statement M
+put-start-at-spec =
+    tie.close
+    (tie.spec
+    mul-ticks
+    add-ticks
+    mul-ticks-2
+    shared-slice-read-ticks
+    returns
+    cast-put-start
+    cast-put-start-2
+    put-start-requires
+    same-length
+    returns-2)

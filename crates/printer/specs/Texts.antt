@@ -1,0 +1,74 @@
+-- What the writers of this crate put into a lent buffer, in terms of what is lent to them.
+use mathlib.Core.Path.{_≡_}
+use mathlib.Core.Bool.{cond}
+use mathlib.Core.List.{List, [], _∷_, _++_}
+use Prim.Native.Nat.{ℕ, zero, suc, _+_, _*_}
+use lib.Dec.{eqb}
+use lib.ListN.{length, getD, take, drop}
+use Rattle.definitions.specs.Basics.{test-bit}
+use Rattle.definitions.specs.Plan.{undecided}
+use Rattle.definitions.specs.Output.{field, newline, word-verdict, word-waits, word-refused, wait-text, start-text}
+
+-- A list with a text written over it from position at on; all else stays.
+unfoldable pub overlay : {A : Type 0} → List A → ℕ → List A → List A
+overlay old at text = take at old ++ text ++ drop (at + length text) old
+
+-- A writer's promise: the text stands at position at, and the next position is behind it.
+pub record Put (text : List ℕ) (at next : ℕ) (old new : List ℕ) : Type 0 where
+  pub behind : next ≡ at + length text
+  pub bytes : new ≡ overlay old at text
+
+-- The promise of a function that writes from the front: what it returns is the text's length, and what lies past the text stays.
+pub record Printed (text : List ℕ) (size : ℕ) (old new : List ℕ) : Type 0 where
+  pub long : size ≡ length text
+  pub bytes : new ≡ text ++ drop (length text) old
+
+-- The texts of the numbers below n, one after the other.
+unfoldable pub texts : (ℕ → List ℕ) → ℕ → List ℕ
+texts f zero = []
+texts f (suc n) = texts f n ++ f n
+
+-- A line of a word and a number.
+unfoldable pub heading : List ℕ → ℕ → List ℕ
+heading word x = word ++ field x ++ newline
+
+-- A wait line and a start line.
+abbrev pub wait-line : ℕ → ℕ → List ℕ
+wait-line a i = wait-text (record { anchor = a; target = i })
+
+abbrev pub start-line : ℕ → ℕ → ℕ → List ℕ
+start-line v a ticks = start-text (record { step = v; decider = a; ticks = ticks })
+
+-- The wait lines of the maps: bit a of map i stands where i waits for a. By a, then by i.
+unfoldable pub wait-cell : List ℕ → ℕ → ℕ → List ℕ
+wait-cell maps a i = cond (test-bit (getD maps i 0) a) (wait-line a i) []
+
+abbrev pub maps-row : ℕ → List ℕ → ℕ → List ℕ
+maps-row n maps a = texts (wait-cell maps a) n
+
+abbrev pub maps-text : ℕ → List ℕ → List ℕ
+maps-text n maps = texts (maps-row n maps) n
+
+-- The start lines of a table of n by n numbers: none where a does not decide v.
+abbrev pub cell-at : ℕ → List ℕ → ℕ → ℕ → ℕ
+cell-at n table v a = getD table (v * n + a) 0
+
+unfoldable pub start-cell : ℕ → List ℕ → ℕ → ℕ → List ℕ
+start-cell n table v a = cond (eqb (cell-at n table v a) undecided) [] (start-line v a (cell-at n table v a))
+
+abbrev pub table-row : ℕ → List ℕ → ℕ → List ℕ
+table-row n table v = texts (start-cell n table v) n
+
+abbrev pub table-text : ℕ → List ℕ → List ℕ
+table-text n table = texts (table-row n table) n
+
+-- The whole of an accepted sheet, and a refusal.
+unfoldable pub plan-text : ℕ → ℕ → List ℕ → List ℕ → ℕ → List ℕ
+plan-text verdict count maps table n = heading word-verdict verdict ++ heading word-waits count ++ maps-text n maps ++ table-text n table
+
+unfoldable pub refusal-text : ℕ → List ℕ
+refusal-text k = heading word-refused k
+
+-- Room for every plan of up to 64 steps: 4,096 wait lines of at most 11 bytes, 4,096 start lines of at most 23, and two headings of at most 19 and 17. Numbers have at most ten digits, step numbers at most two.
+abbrev pub plan-room : ℕ
+plan-room = 139300
