@@ -4,6 +4,7 @@ use mathlib.Core.Bool.{Bool, true, false, cond, not, _&&_, _||_}
 use mathlib.Core.List.{List}
 use Prim.Native.Nat.{ℕ, zero, suc, _+_, _*_, _^_}
 use lib.Dec.{eqb, leb, ltb}
+use lib.Bits.{bitOr}
 use lib.ListN.{length, getD, set, replicate}
 use Rattle.definitions.specs.Basics.{any-below, all-below, test-bit, bits-below, Outcome, given, refused, refuse-if}
 use Rattle.definitions.specs.Plan.{undecided}
@@ -42,7 +43,7 @@ pub record Progress : Type 0 where
 
 unfoldable pub sweep : State → List ℕ → Progress
 sweep st table =
-    record { state = record { n = st .n; unbounded = st .unbounded; tick = st .tick; started = st .started + starting st table; finished = st .finished; start = start-ticks st table (st .n); finish = st .finish }; map = starting st table }
+    record { state = record { n = st .n; unbounded = st .unbounded; tick = st .tick; started = bitOr (st .started) (starting st table); finished = st .finished; start = start-ticks st table (st .n); finish = st .finish }; map = starting st table }
 
 -- A run has begun when step 0 has started. 15: no run has begun, or the step count is not 1 to 64.
 unfoldable pub begun : State → Bool
@@ -56,7 +57,7 @@ unfoldable pub fresh : ℕ → ℕ → State
 fresh n unbounded = record { n = n; unbounded = unbounded; tick = 0; started = 1; finished = 1; start = replicate 64 0; finish = replicate 64 0 }
 
 unfoldable pub with-source : Progress → Progress
-with-source g = record { state = g .state; map = 1 + g .map }
+with-source g = record { state = g .state; map = bitOr 1 (g .map) }
 
 unfoldable pub begin : State → ℕ → ℕ → List ℕ → Outcome Progress
 begin st n unbounded table =
@@ -75,7 +76,7 @@ unfoldable pub cannot-finish : State → ℕ → Bool
 cannot-finish st s = eqb s 0 || leb (st .n) s || not (test-bit (st .unbounded) s) || not (test-bit (st .started) s) || test-bit (st .finished) s
 
 unfoldable pub ended : State → ℕ → State
-ended st s = record { n = st .n; unbounded = st .unbounded; tick = st .tick; started = st .started; finished = st .finished + 2 ^ s; start = st .start; finish = set (st .finish) s (st .tick) }
+ended st s = record { n = st .n; unbounded = st .unbounded; tick = st .tick; started = st .started; finished = bitOr (st .finished) (2 ^ s); start = st .start; finish = set (st .finish) s (st .tick) }
 
 unfoldable pub finish : State → ℕ → List ℕ → Outcome Progress
 finish st s table =
