@@ -1,0 +1,67 @@
+// Sets of numbers below 64, each a u64: bit k stands where k is a member. Contracts say of every number whether it is a member.
+ghost use mathlib.Core.Path.{_≡_};
+ghost use mathlib.Core.Bool.{not, _&&_, _||_};
+ghost use Prim.Native.Nat.{ℕ, _<_};
+ghost use lib.Dec.{eqb};
+ghost use lib.ListN.{length};
+ghost use Rattle.definitions.specs.Basics.{any-below, select-below, test-bit};
+ghost use Rattle.bitmaps.specs.Members.{Lowest};
+
+// Whether k is a member.
+pub fn has(m: u64, k: usize) -> bool
+    requires { ⌜ k < 64 ⌝ }
+    ensures { λ r. ⌜ r ≡ test-bit m k ⌝ }
+{
+    (m >> k) % 2 == 1
+}
+
+// With k as a member.
+pub fn insert(m: u64, k: usize) -> u64
+    requires { ⌜ k < 64 ⌝ }
+    ensures { λ r. ⌜ ((j : ℕ) → test-bit r j ≡ (test-bit m j || eqb j k)) ⌝ }
+{
+    m | (1 << k)
+}
+
+// The members of either.
+pub fn union(a: u64, b: u64) -> u64
+    ensures { λ r. ⌜ ((j : ℕ) → test-bit r j ≡ (test-bit a j || test-bit b j)) ⌝ }
+{
+    a | b
+}
+
+// The members of both.
+pub fn both(a: u64, b: u64) -> u64
+    ensures { λ r. ⌜ ((j : ℕ) → test-bit r j ≡ (test-bit a j && test-bit b j)) ⌝ }
+{
+    a & b
+}
+
+// The members of a that are not in b.
+pub fn minus(a: u64, b: u64) -> u64
+    ensures { λ r. ⌜ ((j : ℕ) → test-bit r j ≡ (test-bit a j && not (test-bit b j))) ⌝ }
+{
+    a & !b
+}
+
+// Whether some number is a member of both.
+pub fn meets(a: u64, b: u64) -> bool
+    ensures { λ r. ⌜ r ≡ any-below (λ (k : ℕ). test-bit a k && test-bit b k) 64 ⌝ }
+{
+    a & b != 0
+}
+
+// The number of members.
+pub fn count(m: u64) -> u32
+    ensures { λ r. ⌜ r ≡ length (select-below (test-bit m) 64) ⌝ }
+{
+    u64::count_ones(m)
+}
+
+// The smallest member of a map that has one.
+pub fn lowest(m: u64) -> usize
+    requires { ⌜ 0 < m ⌝ }
+    ensures { λ r. ⌜ Lowest m r ⌝ }
+{
+    u64::trailing_zeros(m) as usize
+}
