@@ -1,11 +1,11 @@
 // The dispatcher: begins a run, moves its clock, takes finishes, and starts each operation when its row of the relative schedule is due.
 ghost use mathlib.Core.Path.{_≡_};
 ghost use mathlib.Core.Bool.{_&&_};
-ghost use Prim.Native.Nat.{ℕ, _+_, _*_, _<_, _≤_};
+ghost use Prim.Native.Nat.{ℕ, _+_, _*_, _^_, _<_, _≤_};
 ghost use lib.ListN.{length};
 ghost use Rattle.definitions.specs.Basics.{test-bit};
-ghost use Rattle.definitions.specs.Dispatcher.{begin, tick, finish, Returns};
-ghost use Rattle.dispatcher.specs.Rows.{due-in, row-ready};
+ghost use Rattle.definitions.specs.Dispatcher.{ready, starting, start-ticks, begin, tick, finish, Returns};
+ghost use Rattle.dispatcher.specs.Rows.{due-in, row-ready, ready-in};
 
 use definitions::Dispatch;
 use definitions::Refusal;
@@ -18,19 +18,91 @@ fn wide(x: u32) -> u64
     x as u64
 }
 
-fn has(m: u64, k: usize) -> bool
-    requires { ⌜ k < 64 ⌝ }
-    ensures { λ r. ⌜ r ≡ test-bit m k ⌝ }
-{
-    (m >> k) % 2 == 1
-}
-
 // Whether the operation a, named with this offset, has finished and its offset has run out.
-fn is_due(finished: u64, finish: &[u32; 64], now: u32, a: usize, offset: u32) -> bool
+fn is_due(finished: u64, finish: &[u32; 64], clock: u32, a: usize, offset: u32) -> bool
     requires { ⌜ a < 64 ⌝ }
+    ensures { λ r. ⌜ r ≡ due-in finished (now (finish .entry)) clock a offset ⌝ }
 {
-    if !has(finished, a) {
+    if !bitmaps::has(finished, a) {
         return false;
     }
-    wide(finish[a]) + wide(offset) <= wide(now)
+    wide(finish[a]) + wide(offset) <= wide(clock)
+}
+
+// Whether a row names some operation and each that it names is due. It stops at the first that is not.
+fn row_due(row: &[u32], finished: u64, finish: &[u32; 64], clock: u32) -> bool
+    requires { ⌜ length (now row) ≤ 64 ⌝ }
+    ensures { λ r. ⌜ r ≡ row-ready finished (now (finish .entry)) clock (now (row .entry)) (length (now (row .entry))) ⌝ }
+{
+    let mut named = false;
+    let mut a = 0;
+    while a < row.len() {
+        let offset = row[a];
+        if offset != 4294967295 {
+            named = true;
+            if !is_due(finished, finish, clock, a, offset) {
+                return false;
+            }
+        }
+        a += 1;
+    }
+    named
+}
+
+// Whether the operation v has not started and its row is due.
+fn is_ready(
+    table: &[u32],
+    n: usize,
+    v: usize,
+    started: u64,
+    finished: u64,
+    finish: &[u32; 64],
+    clock: u32,
+) -> bool
+    requires { ⌜ (n ≤ 64) × (v < n) × (n * n ≤ length (now table)) ⌝ }
+    ensures { λ r. ⌜ r ≡ ready-in started finished (now (finish .entry)) clock (now (table .entry)) n v ⌝ }
+{
+    if bitmaps::has(started, v) {
+        return false;
+    }
+    let at = v * n;
+    let end = at + n;
+    row_due(&table[at..end], finished, finish, clock)
+}
+
+fn power(k: usize) -> u64
+    requires { ⌜ k < 64 ⌝ }
+    ensures { λ r. ⌜ r ≡ 2 ^ k ⌝ }
+{
+    1 << k
+}
+
+// The operations that start now, and the start ticks with theirs in.
+struct Starting {
+    map: u64,
+    start: [u32; 64],
+}
+
+fn starting_now(st: State, table: &[u32]) -> Starting
+    requires { ⌜ (st .n ≤ 64) × (st .n * st .n ≤ length (now table)) ⌝ }
+    ensures { λ r. ⌜ (r .map ≡ starting st (now (table .entry))) × (r .start ≡ start-ticks st (now (table .entry)) (st .n)) ⌝ }
+{
+    let n = st.n;
+    let clock = st.tick;
+    let started = st.started;
+    let finished = st.finished;
+    let mut start = st.start;
+    let mut map: u64 = 0;
+    let mut v = 0;
+    while v < n {
+        if is_ready(table, n, v, started, finished, &st.finish, clock) {
+            map += power(v);
+            start[v] = clock;
+        }
+        v += 1;
+    }
+    Starting {
+        map: map,
+        start: start,
+    }
 }

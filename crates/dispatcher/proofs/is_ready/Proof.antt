@@ -1,0 +1,57 @@
+use mathlib.Core.Path.{_≡_, sym, ap, _∙_}
+use borrow.Author.Tests.{not-true, not-false}
+use Rattle.dispatcher.proofs.RowLaws.{row-inside, row-length, ready-started, ready-row}
+use borrow.Author.Needs.{needs}
+use native.Mathlib.Omega.{arith}
+use borrow.Author.Needs.{needs}
+use Rattle.dispatcher.proofs.is_ready.Statement.{statement}
+use Rattle.dispatcher.proofs.is_ready.Tie as tie
+use Rattle.dispatcher.proofs.is_ready.Reads as reads
+use Rattle.dispatcher.proofs.is_ready.Lts as lts
+use Rattle.bitmaps.proofs.has.Reads as has-reads
+use Rattle.dispatcher.proofs.row_due.Reads as row-due-reads
+
+has-requires : tie.Need-has-requires
+has-requires c κs = search needs
+
+returns : tie.Need-returns
+returns c = sym (ready-started _ _ _ _ _ _ _ (sym (c .before .has .ensures) ∙ c .if1 .taken))
+
+mul-at : tie.Need-mul-at
+mul-at c = ?mul-at
+
+add-end : tie.Need-add-end
+add-end c = ?add-end
+
+mul-row-due : tie.Need-mul-row-due
+mul-row-due c = ?mul-row-due
+
+sub-row-due : tie.Need-sub-row-due
+sub-row-due c = search needs
+
+part-row-due-start : tie.Need-part-row-due-start
+part-row-due-start c = search needs
+
+part-row-due-end : tie.Need-part-row-due-end
+part-row-due-end c = ?part-row-due-end
+
+row-due-requires : tie.Need-row-due-requires
+row-due-requires c κs = search needs
+
+returns-2 : tie.Need-returns-2
+returns-2 c = ?
+
+pub is-ready-spec : {M : Type 1} → statement M
+is-ready-spec =
+    tie.close
+    (tie.spec
+    has-requires
+    returns
+    mul-at
+    add-end
+    mul-row-due
+    sub-row-due
+    part-row-due-start
+    part-row-due-end
+    row-due-requires
+    returns-2)
