@@ -1,6 +1,6 @@
 use mathlib.Core.Path.{_≡_, sym, ap, _∙_}
-use borrow.Author.Tests.{not-true, not-false}
-use Rattle.dispatcher.proofs.RowLaws.{row-inside, row-length, ready-started, ready-row}
+
+use Rattle.dispatcher.proofs.RowLaws.{row-inside, row-small, ready-started, ready-part}
 use borrow.Author.Needs.{needs}
 use native.Mathlib.Omega.{arith}
 use borrow.Author.Needs.{needs}
@@ -18,13 +18,13 @@ returns : tie.Need-returns
 returns c = sym (ready-started _ _ _ _ _ _ _ (sym (c .before .has .ensures) ∙ c .if1 .taken))
 
 mul-at : tie.Need-mul-at
-mul-at c = ?mul-at
+mul-at c = let s = c .before .before .before in omega (arith, row-small (s .args .n) (s .args .v) (s .pre .0) (s .pre .1))
 
 add-end : tie.Need-add-end
-add-end c = ?add-end
+add-end c = let s = c .before .before .before in omega (arith, row-small (s .args .n) (s .args .v) (s .pre .0) (s .pre .1))
 
 mul-row-due : tie.Need-mul-row-due
-mul-row-due c = ?mul-row-due
+mul-row-due c = let s = c .before .before .before in omega (arith, row-small (s .args .n) (s .args .v) (s .pre .0) (s .pre .1))
 
 sub-row-due : tie.Need-sub-row-due
 sub-row-due c = search needs
@@ -33,13 +33,15 @@ part-row-due-start : tie.Need-part-row-due-start
 part-row-due-start c = search needs
 
 part-row-due-end : tie.Need-part-row-due-end
-part-row-due-end c = ?part-row-due-end
+part-row-due-end c = let s = c .before .before .before in row-inside (s .args .n) (s .args .v) _ (s .pre .1) (s .pre .2)
 
 row-due-requires : tie.Need-row-due-requires
 row-due-requires c κs = search needs
 
 returns-2 : tie.Need-returns-2
-returns-2 c = ?
+returns-2 c =
+    let s = c .before .before .before .before .before in
+    c .row-due .ensures ∙ ready-part _ _ _ _ _ _ _ (sym (c .before .before .before .has .ensures) ∙ c .before .before .if1 .left) (s .pre .1) (s .pre .2)
 
 pub is-ready-spec : {M : Type 1} → statement M
 is-ready-spec =
