@@ -1,3 +1,8 @@
+use mathlib.Core.Path.{_≡_, sym, _∙_}
+use mathlib.Core.Logic.{⊎-elim}
+use Prim.Native.Nat.{_-_}
+use Rattle.definitions.specs.declared.State.{State}
+use Rattle.dispatcher.proofs.SweepLaws.{Swept, swept-none, swept-start, swept-over, swept-fits, swept-map, swept-ticks}
 use borrow.Author.Needs.{needs}
 use native.Mathlib.Omega.{arith}
 use Rattle.dispatcher.proofs.starting_now.Statement.{statement}
@@ -8,13 +13,13 @@ use Rattle.dispatcher.proofs.is_ready.Reads as is-ready-reads
 use Rattle.dispatcher.proofs.power.Reads as power-reads
 
 abbrev Inv-loop : tie.InvT-loop
-Inv-loop table st n clock started finished start₀ map₀ v₀ start map v = ?
+Inv-loop table st n clock started finished start₀ map₀ v₀ start map v = Swept st table start map v
 
 abbrev μ-loop : tie.MeasureT-loop
-μ-loop table st n clock started finished start₀ map₀ v₀ start map v = ?
+μ-loop table st n clock started finished start₀ map₀ v₀ start map v = n - v
 
 loop-holds : tie.Need-loop-holds Inv-loop μ-loop
-loop-holds c = search needs
+loop-holds c = swept-none
 
 is-ready-requires : tie.Need-is-ready-requires Inv-loop μ-loop
 is-ready-requires c κs = search needs
@@ -23,7 +28,7 @@ power-requires : tie.Need-power-requires Inv-loop μ-loop
 power-requires c κs = search needs
 
 add-map : tie.Need-add-map Inv-loop μ-loop
-add-map c = search needs
+add-map c = let l = c .before .before .before .before .before .before in record { fits = swept-fits (l .loop .inv) (c .before .before .before .before .before .loop-test .taken) (l .before .before .before .pre .0) (c .power .ensures) }
 
 mul-start : tie.Need-mul-start Inv-loop μ-loop
 mul-start c = search needs
@@ -38,10 +43,16 @@ loop-less : tie.Need-loop-less Inv-loop μ-loop
 loop-less c = search needs
 
 loop-again : tie.Need-loop-again Inv-loop μ-loop
-loop-again c = search needs
+loop-again c = 
+    let l = c .before .before .before .before .before in
+    let h = c .before .before .before .before .loop-test .taken in
+    ⊎-elim
+    (λ w. rw (w .2, w .3) (swept-start (l .loop .inv) h (sym (c .before .is-ready .ensures) ∙ w .0 .taken) (w .1 .ensures)))
+    (λ w. rw (w .1, w .2) (swept-over (l .loop .inv) h (sym (c .before .is-ready .ensures) ∙ w .0 .left)))
+    (c .if1 .came)
 
 returns : tie.Need-returns Inv-loop μ-loop
-returns c = search needs
+returns c = (swept-map (c .before .loop .inv) (c .loop-test .left), swept-ticks (c .before .loop .inv) (c .loop-test .left))
 
 pub starting-now-spec : {M : Type 1} → statement M
 starting-now-spec =
