@@ -1,3 +1,4 @@
 pub mod Below
 pub mod RowLaws
 pub mod SweepLaws
+pub mod CallLaws

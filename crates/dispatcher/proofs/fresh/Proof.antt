@@ -1,0 +1,14 @@
+use Rattle.definitions.specs.Dispatcher.{fresh}
+use borrow.Author.Needs.{needs}
+use native.Mathlib.Omega.{arith}
+use Rattle.dispatcher.proofs.fresh.Statement.{statement}
+use Rattle.dispatcher.proofs.fresh.Tie as tie
+use Rattle.dispatcher.proofs.fresh.Reads as reads
+use Rattle.dispatcher.proofs.fresh.Lts as lts
+
+returns : tie.Need-returns
+unfolding fresh
+returns c = search needs
+
+pub fresh-spec : {M : Type 1} → statement M
+fresh-spec = tie.close (tie.spec returns)

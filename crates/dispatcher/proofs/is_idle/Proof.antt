@@ -1,0 +1,28 @@
+use mathlib.Core.Bool.{not}
+use mathlib.Core.Path.{_≡_, refl, sym, ap, _∙_}
+use borrow.Author.Tests.{not-true, not-false}
+use Rattle.laws.proofs.Bools.{or-left}
+use Rattle.dispatcher.proofs.CallLaws.{or-past}
+use borrow.Author.Needs.{needs}
+use native.Mathlib.Omega.{arith}
+use Rattle.dispatcher.proofs.is_idle.Statement.{statement}
+use Rattle.dispatcher.proofs.is_idle.Tie as tie
+use Rattle.dispatcher.proofs.is_idle.Reads as reads
+use Rattle.dispatcher.proofs.is_idle.Lts as lts
+use Rattle.bitmaps.proofs.has.Reads as has-reads
+use Rattle.dispatcher.proofs.wrong_count.Reads as wrong-count-reads
+
+has-requires : tie.Need-has-requires
+has-requires c κs = search needs
+
+returns : tie.Need-returns
+returns c = sym (or-left _ (ap not (sym (c .before .has .ensures)) ∙ c .if1 .taken))
+
+wrong-count-requires : tie.Need-wrong-count-requires
+wrong-count-requires c κs = search needs
+
+returns-2 : tie.Need-returns-2
+returns-2 c = c .wrong-count .ensures ∙ sym (or-past _ (ap not (sym (c .before .before .has .ensures)) ∙ c .before .if1 .left))
+
+pub is-idle-spec : {M : Type 1} → statement M
+is-idle-spec = tie.close (tie.spec has-requires returns wrong-count-requires returns-2)

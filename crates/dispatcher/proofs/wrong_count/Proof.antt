@@ -1,0 +1,16 @@
+use Rattle.dispatcher.proofs.CallLaws.{count-low, count-high}
+use borrow.Author.Needs.{needs}
+use native.Mathlib.Omega.{arith}
+use Rattle.dispatcher.proofs.wrong_count.Statement.{statement}
+use Rattle.dispatcher.proofs.wrong_count.Tie as tie
+use Rattle.dispatcher.proofs.wrong_count.Reads as reads
+use Rattle.dispatcher.proofs.wrong_count.Lts as lts
+
+returns : tie.Need-returns
+returns c = count-low _ (c .if1 .taken)
+
+returns-2 : tie.Need-returns-2
+returns-2 c = count-high _ (c .if1 .left)
+
+pub wrong-count-spec : {M : Type 1} → statement M
+wrong-count-spec = tie.close (tie.spec returns returns-2)
