@@ -2,3 +2,4 @@ pub mod Below
 pub mod RowLaws
 pub mod SweepLaws
 pub mod CallLaws
+pub mod Worked

@@ -10,7 +10,6 @@ ghost use Rattle.definitions.specs.Dispatcher as Dispatcher;
 ghost use Rattle.definitions.specs.Dispatcher.{starting, start-ticks, Returns};
 ghost use Rattle.dispatcher.specs.Rows.{due-in, row-ready, ready-in};
 ghost use Rattle.dispatcher.specs.Calls.{Swept, cannot-finish-in};
-
 use definitions::Dispatch;
 use definitions::Refusal;
 use definitions::State;

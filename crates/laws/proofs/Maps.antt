@@ -189,6 +189,7 @@ add-is-insert m k e = let s : bitOr m (2 ^ k) + bitAnd m (2 ^ k) ≡ m + 2 ^ k =
     at : (j : ℕ) (t : Bool) → eqb j k ≡ t → (test-bit m j && t) ≡ false
     at j true q = rw (eqb-true j k q, e)
     at j false q = and-false (test-bit m j)
+
     empty : bitAnd m (2 ^ k) ≡ 0
     empty = same-map (bitAnd m (2 ^ k)) 0 (λ j. test-and m (2 ^ k) j ∙ ap (λ (t : Bool). test-bit m j && t) (test-pow k j) ∙ at j (eqb j k) refl ∙ sym (test-zero j))
 
@@ -208,6 +209,7 @@ ltb-more k n = by (ltb k n) refl
     here : (t : Bool) → eqb k n ≡ t → n ≤ k → ltb k (suc n) ≡ t
     here true e l = let p : k ≡ n = eqb-true k n e in lt-ltb k (suc n) (omega arith)
     here false e l = let p : k ≡ n → ⊥ = eqb-false k n e in le-ltb k (suc n) (omega arith)
+
     by : (t : Bool) → ltb k n ≡ t → ltb k (suc n) ≡ (t || eqb k n)
     by true e = let p : k < n = ltb-true k n e in lt-ltb k (suc n) (omega arith)
     by false e = here (eqb k n) refl (ltb-false k n e)
@@ -223,6 +225,7 @@ test-bits-below f (suc n) k = more (f n) refl (test-bits-below f n k) ∙ ap (λ
     at true false u e q = or-false (f k)
     at false true u e q = sym (ap f (eqb-true k n e) ∙ q)
     at false false u e q = refl
+
     more : (u : Bool) → f n ≡ u → test-bit (bits-below f n) k ≡ (ltb k n && f k) → test-bit (bits-below f n + cond u (2 ^ n) 0) k ≡ ((ltb k n || eqb k n) && f k)
     more true q ih =
         ap (λ (x : ℕ). test-bit x k) (add-is-insert (bits-below f n) n (test-above (bits-below f n) n n (bits-below-lt f n) (omega arith)))
@@ -270,6 +273,7 @@ none-below f (suc n) k e l = by (any-below f n) refl e (none-below f n k)
     last : (t : Bool) → eqb k n ≡ t → f n ≡ false → (k < n → f k ≡ false) → f k ≡ false
     last true q h ih = ap f (eqb-true k n q) ∙ h
     last false q h ih = let p : k ≡ n → ⊥ = eqb-false k n q in ih (omega arith)
+
     by : (t : Bool) → any-below f n ≡ t → (t || f n) ≡ false → (any-below f n ≡ false → k < n → f k ≡ false) → f k ≡ false
     by true q h ih = absurd (true≢false h)
     by false q h ih = last (eqb k n) refl h (ih q)
@@ -281,6 +285,7 @@ any-member n m h = by (any-below (test-bit m) n) refl
     full : (t : Bool) → eqb m 0 ≡ t → (k : ℕ) × (k < n) × (test-bit m k ≡ true) → true ≡ not t
     full true e w = sym (w .2) ∙ ap (λ (x : ℕ). test-bit x (w .0)) (eqb-true m 0 e) ∙ test-zero (w .0)
     full false e w = refl
+
     by : (t : Bool) → any-below (test-bit m) n ≡ t → t ≡ not (eqb m 0)
     by true e = full (eqb m 0) refl (found-below (test-bit m) n e)
     by false e =

@@ -1,5 +1,4 @@
 use mathlib.Core.Path.{_≡_, sym, ap, _∙_}
-
 use Rattle.dispatcher.proofs.RowLaws.{row-inside, row-small, ready-started, ready-part}
 use borrow.Author.Needs.{needs}
 use native.Mathlib.Omega.{arith}
