@@ -1,6 +1,6 @@
 -- Tests over the numbers below n that agree there give the same answer. Not about the planner.
 use mathlib.Core.Path.{_≡_, refl}
-use mathlib.Core.Bool.{Bool, _&&_, _||_}
+use mathlib.Core.Bool.{Bool}
 use Prim.Native.Nat.{ℕ, zero, suc, _<_}
 use native.Mathlib.Omega.{arith}
 use Rattle.definitions.specs.Basics.{any-below, all-below}

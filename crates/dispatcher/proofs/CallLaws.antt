@@ -1,15 +1,13 @@
 -- The three calls, refusal by refusal: what each early return shows, and what an accepted call returns. Assumes nothing.
-use mathlib.Core.Path.{_≡_, refl, sym, ap, ap₂, _∙_, subst}
-use mathlib.Core.Bool.{Bool, true, false, not, _&&_, _||_}
-use mathlib.Core.Logic.{_⊎_, inl, inr}
+use mathlib.Core.Path.{_≡_, refl, ap, ap₂, _∙_, subst}
+use mathlib.Core.Bool.{Bool, true, false, not, _||_}
 use mathlib.Core.List.{List}
-use Prim.Native.Nat.{ℕ, _+_, _*_, _^_, _≤_, _<_}
-use native.Mathlib.Omega.{arith}
+use Prim.Native.Nat.{ℕ, _*_, _^_, _≤_, _<_}
 use native.Mathlib.Nat.{mul-le-mul}
 use lib.Bits.{bitOr}
 use lib.Dec.{eqb, leb, ltb}
 use lib.ListN.{length, set}
-use borrow.Author.Tests.{ltb-true, ltb-false, leb-true, leb-false, lt-ltb, le-ltb, le-leb, lt-leb, eq-eqb, ne-eqb, eqb-false, not-true, not-false}
+use borrow.Author.Tests.{ltb-false, leb-true, leb-false, lt-ltb, le-ltb, le-leb, lt-leb, eq-eqb, ne-eqb, not-false}
 use Rattle.definitions.specs.Basics.{test-bit, Outcome, given, refused, refuse-if}
 use Rattle.definitions.specs.Numbers.{number, status-of}
 use Rattle.definitions.specs.Answers.{bad-count, too-short}
@@ -18,7 +16,7 @@ use Rattle.definitions.specs.declared.State.{State}
 use Rattle.definitions.specs.declared.Dispatch.{Dispatch}
 use Rattle.definitions.specs.declared.Refusal.{Refusal}
 use Rattle.definitions.specs.declared.Status.the-variants.{Done, Refused}
-use Rattle.laws.proofs.Bools.{bool-cases, both-ways, and-split, or-split, or-left, or-right, not-passing}
+use Rattle.laws.proofs.Bools.{both-ways, and-split, or-left, or-right, not-passing}
 use Rattle.dispatcher.specs.Calls.{Swept, cannot-finish-in}
 
 -- A disjunction whose first part fails is its second; where it fails, both parts do.

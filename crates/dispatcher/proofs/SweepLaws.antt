@@ -1,16 +1,16 @@
 -- The sweep over the operations: what is known once v of them have been looked at. Assumes nothing.
 use mathlib.Core.Path.{_≡_, refl, sym, ap, ap₂, _∙_}
-use mathlib.Core.Bool.{Bool, true, false, cond, not, _&&_, _||_, and-assoc}
+use mathlib.Core.Bool.{Bool, true, false, not, _&&_, _||_, and-assoc}
 use mathlib.Core.List.{List}
-use Prim.Native.Nat.{ℕ, zero, suc, _+_, _-_, _*_, _^_, _≤_, _<_}
+use Prim.Native.Nat.{ℕ, suc, _+_, _-_, _*_, _^_, _≤_, _<_}
 use native.Mathlib.Omega.{arith}
 use native.Mathlib.Nat.{pow-suc}
 use native.Mathlib.Numerals.{add-one}
 use lib.Dec.{eqb, leb}
-use lib.ListN.{length, getD, set, take, drop}
+use lib.ListN.{getD, set, drop}
 use lib.Pow.{pow-mono}
 use lib.Seq.{getD-take, getD-drop}
-use Rattle.definitions.specs.Basics.{any-below, all-below, test-bit, bits-below}
+use Rattle.definitions.specs.Basics.{test-bit, bits-below}
 use Rattle.definitions.specs.Plan.{undecided, row-part}
 use Rattle.definitions.specs.Dispatcher.{entry, names, due, ready, starting, start-ticks}
 use Rattle.definitions.specs.declared.State.{State}
@@ -44,25 +44,25 @@ module _ (st : State) (table : List ℕ) where
       (any-below-same _ _ (st .n) (row-names v))
       (all-below-same _ _ (st .n) (λ a h. ap₂ (λ (x y : Bool). not x || y) (row-names v a h) (row-dues v a h)))
 
-  pub record Swept (start : List ℕ) (map v : ℕ) : Type 0 where
+  pub record SweptBelow (start : List ℕ) (map v : ℕ) : Type 0 where
     pub within : v ≤ st .n
     pub map-is : map ≡ bits-below (ready st table) v
     pub start-is : start ≡ start-ticks st table v
 
 module _ {st : State} {table : List ℕ} where
-  pub swept-none : Swept st table (st .start) 0 0
+  pub swept-none : SweptBelow st table (st .start) 0 0
   unfolding bits-below start-ticks
   swept-none = record { within = omega arith; map-is = refl; start-is = refl }
 
   -- An operation that starts.
-  pub swept-start : {start : List ℕ} {map v p : ℕ} → Swept st table start map v → v < st .n → row-test st table v ≡ true → p ≡ 2 ^ v → Swept st table (set start v (st .tick)) (map + p) (v + 1)
+  pub swept-start : {start : List ℕ} {map v p : ℕ} → SweptBelow st table start map v → v < st .n → row-test st table v ≡ true → p ≡ 2 ^ v → SweptBelow st table (set start v (st .tick)) (map + p) (v + 1)
   unfolding bits-below start-ticks
   swept-start {start} {map} {v} {p} S h t e =
       let r : ready st table v ≡ true = sym (row-test-is st table v) ∙ t in
       record { within = omega arith; map-is = rw (add-one, r) (ap₂ (λ (x y : ℕ). x + y) (S .map-is) e); start-is = rw (add-one, r) (ap (λ (l : List ℕ). set l v (st .tick)) (S .start-is)) }
 
   -- One that does not.
-  pub swept-over : {start : List ℕ} {map v : ℕ} → Swept st table start map v → v < st .n → row-test st table v ≡ false → Swept st table start map (v + 1)
+  pub swept-over : {start : List ℕ} {map v : ℕ} → SweptBelow st table start map v → v < st .n → row-test st table v ≡ false → SweptBelow st table start map (v + 1)
   unfolding bits-below start-ticks
   swept-over {start} {map} {v} S h t =
       let r : ready st table v ≡ false = sym (row-test-is st table v) ∙ t in
@@ -70,14 +70,14 @@ module _ {st : State} {table : List ℕ} where
       record { within = omega arith; map-is = rw (add-one, r) (S .map-is ∙ sym e); start-is = rw (add-one, r) (S .start-is) }
 
   -- The map so far is below 2 ^ v, so one bit more fits.
-  pub swept-fits : {start : List ℕ} {map v p : ℕ} → Swept st table start map v → v < st .n → st .n ≤ 64 → p ≡ 2 ^ v → map + p < 2 ^ 64
+  pub swept-fits : {start : List ℕ} {map v p : ℕ} → SweptBelow st table start map v → v < st .n → st .n ≤ 64 → p ≡ 2 ^ v → map + p < 2 ^ 64
   swept-fits {map = map} {v} {p} S h k e =
       let m : 2 ^ suc v ≤ 2 ^ 64 = pow-mono (let l : suc v ≤ 64 = omega arith in l) in
       omega (arith, S .map-is, bits-below-lt (ready st table) v, pow-suc 2 v, m)
 
-  pub swept-map : {start : List ℕ} {map v : ℕ} → Swept st table start map v → st .n ≤ v → map ≡ starting st table
+  pub swept-map : {start : List ℕ} {map v : ℕ} → SweptBelow st table start map v → st .n ≤ v → map ≡ starting st table
   unfolding starting
   swept-map {v = v} S h = let e : v ≡ st .n = omega (arith, S .within) in S .map-is ∙ ap (bits-below (ready st table)) e
 
-  pub swept-ticks : {start : List ℕ} {map v : ℕ} → Swept st table start map v → st .n ≤ v → start ≡ start-ticks st table (st .n)
+  pub swept-ticks : {start : List ℕ} {map v : ℕ} → SweptBelow st table start map v → st .n ≤ v → start ≡ start-ticks st table (st .n)
   swept-ticks {v = v} S h = let e : v ≡ st .n = omega (arith, S .within) in S .start-is ∙ ap (start-ticks st table) e

@@ -1,12 +1,12 @@
 -- Worked calls on states from anywhere: each theorem excludes an answer that an edit of the code cannot give while it keeps the code's shape, or settles an order of refusals. All by computing.
-use mathlib.Core.Path.{_≡_, refl, ap, _∙_}
+use mathlib.Core.Path.{_≡_, refl}
 use mathlib.Core.List.{List, [], _∷_}
 use Prim.Native.Nat.{ℕ}
 use lib.ListN.{replicate}
-use Rattle.definitions.specs.Basics.{Outcome, given, refused}
+use Rattle.definitions.specs.Basics.{refused}
 use Rattle.definitions.specs.Plan.{undecided}
-use Rattle.definitions.specs.Dispatcher.{Progress, begin, tick, finish, state-after, map-after, Returns}
-use Rattle.definitions.specs.Worked.{every-definition, map-or-refusal}
+use Rattle.definitions.specs.Dispatcher.{begin, tick, finish, map-after, Returns}
+use Rattle.definitions.specs.Worked.{every-definition}
 use Rattle.definitions.specs.declared.State.{State}
 use Rattle.definitions.specs.declared.Dispatch.{Dispatch}
 

@@ -1,18 +1,10 @@
-use mathlib.Core.Path.{_≡_, refl, sym, ap, _∙_}
+-- Each early return is a refusal in its order, 16, 2, 14; what passes them is swept. Assumes nothing.
+use mathlib.Core.Path.{sym, _∙_}
 use Rattle.definitions.specs.Dispatcher.{fresh}
 use Rattle.dispatcher.proofs.CallLaws.{count-fits, long-enough, returns-as, swept-source, room, begin-begun, begin-count, begin-short, begin-given}
 use borrow.Author.Needs.{needs}
-use native.Mathlib.Omega.{arith}
 use Rattle.dispatcher.proofs.begin.Statement.{statement}
 use Rattle.dispatcher.proofs.begin.Tie as tie
-use Rattle.dispatcher.proofs.begin.Reads as reads
-use Rattle.dispatcher.proofs.begin.Lts as lts
-use Rattle.bitmaps.proofs.has.Reads as has-reads
-use Rattle.dispatcher.proofs.fresh.Reads as fresh-reads
-use Rattle.dispatcher.proofs.is_short.Reads as is-short-reads
-use Rattle.dispatcher.proofs.refusal.Reads as refusal-reads
-use Rattle.dispatcher.proofs.sweep.Reads as sweep-reads
-use Rattle.dispatcher.proofs.wrong_count.Reads as wrong-count-reads
 
 has-requires : tie.Need-has-requires
 has-requires c κs = search needs

@@ -1,11 +1,8 @@
+-- The shifted bit is the power of two. Assumes nothing.
 use Rattle.dispatcher.proofs.CallLaws.{ended-now}
 use borrow.Author.Needs.{needs}
-use native.Mathlib.Omega.{arith}
 use Rattle.dispatcher.proofs.ended.Statement.{statement}
 use Rattle.dispatcher.proofs.ended.Tie as tie
-use Rattle.dispatcher.proofs.ended.Reads as reads
-use Rattle.dispatcher.proofs.ended.Lts as lts
-use Rattle.dispatcher.proofs.power.Reads as power-reads
 
 power-requires : tie.Need-power-requires
 power-requires c κs = search needs

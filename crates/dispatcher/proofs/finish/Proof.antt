@@ -1,18 +1,11 @@
-use mathlib.Core.Path.{_≡_, refl, sym, ap, _∙_}
+-- Each early return is a refusal in its order, 15, 14, 17; what passes them is swept. Assumes nothing.
+use mathlib.Core.Path.{sym, _∙_}
 use Rattle.definitions.specs.Dispatcher.{ended}
 use Rattle.dispatcher.proofs.CallLaws.{running-count, running-is, cannot-is, finishable-below, long-enough, returns-as, swept-given, room, finish-idle, finish-short, finish-cannot, finish-given}
 use borrow.Author.Needs.{needs}
 use native.Mathlib.Omega.{arith}
 use Rattle.dispatcher.proofs.finish.Statement.{statement}
 use Rattle.dispatcher.proofs.finish.Tie as tie
-use Rattle.dispatcher.proofs.finish.Reads as reads
-use Rattle.dispatcher.proofs.finish.Lts as lts
-use Rattle.dispatcher.proofs.ended.Reads as ended-reads
-use Rattle.dispatcher.proofs.is_idle.Reads as is-idle-reads
-use Rattle.dispatcher.proofs.is_short.Reads as is-short-reads
-use Rattle.dispatcher.proofs.not_finishable.Reads as not-finishable-reads
-use Rattle.dispatcher.proofs.refusal.Reads as refusal-reads
-use Rattle.dispatcher.proofs.sweep.Reads as sweep-reads
 
 is-idle-requires : tie.Need-is-idle-requires
 is-idle-requires c κs = search needs

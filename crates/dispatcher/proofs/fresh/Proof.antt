@@ -1,10 +1,8 @@
+-- By computing. Assumes nothing.
 use Rattle.definitions.specs.Dispatcher.{fresh}
 use borrow.Author.Needs.{needs}
-use native.Mathlib.Omega.{arith}
 use Rattle.dispatcher.proofs.fresh.Statement.{statement}
 use Rattle.dispatcher.proofs.fresh.Tie as tie
-use Rattle.dispatcher.proofs.fresh.Reads as reads
-use Rattle.dispatcher.proofs.fresh.Lts as lts
 
 returns : tie.Need-returns
 unfolding fresh

@@ -1,4 +1,5 @@
-use mathlib.Core.Path.{_≡_, sym, ap₂, _∙_}
+-- By the two cases of `due-in`: the operation has not finished, or its sum of 64 bits is compared. Assumes nothing.
+use mathlib.Core.Path.{sym, ap₂, _∙_}
 use lib.Dec.{leb}
 use borrow.Author.Tests.{not-true, not-false}
 use Rattle.dispatcher.proofs.RowLaws.{due-unfinished, due-finished}
@@ -6,10 +7,6 @@ use native.Mathlib.Omega.{arith}
 use borrow.Author.Needs.{needs}
 use Rattle.dispatcher.proofs.is_due.Statement.{statement}
 use Rattle.dispatcher.proofs.is_due.Tie as tie
-use Rattle.dispatcher.proofs.is_due.Reads as reads
-use Rattle.dispatcher.proofs.is_due.Lts as lts
-use Rattle.bitmaps.proofs.has.Reads as has-reads
-use Rattle.dispatcher.proofs.wide.Reads as wide-reads
 
 has-requires : tie.Need-has-requires
 has-requires c κs = search needs

@@ -1,16 +1,11 @@
+-- By the two parts of refusal 15. Assumes nothing.
 use mathlib.Core.Bool.{not}
-use mathlib.Core.Path.{_≡_, refl, sym, ap, _∙_}
-use borrow.Author.Tests.{not-true, not-false}
+use mathlib.Core.Path.{sym, ap, _∙_}
 use Rattle.laws.proofs.Bools.{or-left}
 use Rattle.dispatcher.proofs.CallLaws.{or-past}
 use borrow.Author.Needs.{needs}
-use native.Mathlib.Omega.{arith}
 use Rattle.dispatcher.proofs.is_idle.Statement.{statement}
 use Rattle.dispatcher.proofs.is_idle.Tie as tie
-use Rattle.dispatcher.proofs.is_idle.Reads as reads
-use Rattle.dispatcher.proofs.is_idle.Lts as lts
-use Rattle.bitmaps.proofs.has.Reads as has-reads
-use Rattle.dispatcher.proofs.wrong_count.Reads as wrong-count-reads
 
 has-requires : tie.Need-has-requires
 has-requires c κs = search needs

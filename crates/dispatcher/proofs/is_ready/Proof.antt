@@ -1,14 +1,10 @@
-use mathlib.Core.Path.{_≡_, sym, ap, _∙_}
+-- Row v lies inside the table, and the part that is lent is that row. Assumes nothing.
+use mathlib.Core.Path.{sym, _∙_}
 use Rattle.dispatcher.proofs.RowLaws.{row-inside, row-small, ready-started, ready-part}
 use borrow.Author.Needs.{needs}
 use native.Mathlib.Omega.{arith}
-use borrow.Author.Needs.{needs}
 use Rattle.dispatcher.proofs.is_ready.Statement.{statement}
 use Rattle.dispatcher.proofs.is_ready.Tie as tie
-use Rattle.dispatcher.proofs.is_ready.Reads as reads
-use Rattle.dispatcher.proofs.is_ready.Lts as lts
-use Rattle.bitmaps.proofs.has.Reads as has-reads
-use Rattle.dispatcher.proofs.row_due.Reads as row-due-reads
 
 has-requires : tie.Need-has-requires
 has-requires c κs = search needs

@@ -1,11 +1,10 @@
+-- n × n is at most 4,096, so it fits. Assumes nothing.
 use Rattle.definitions.specs.Answers.{too-short}
 use Rattle.dispatcher.proofs.CallLaws.{square-small}
 use borrow.Author.Needs.{needs}
 use native.Mathlib.Omega.{arith}
 use Rattle.dispatcher.proofs.is_short.Statement.{statement}
 use Rattle.dispatcher.proofs.is_short.Tie as tie
-use Rattle.dispatcher.proofs.is_short.Reads as reads
-use Rattle.dispatcher.proofs.is_short.Lts as lts
 
 mul-size : tie.Need-mul-size
 mul-size c = omega (arith, square-small _ (c .pre))

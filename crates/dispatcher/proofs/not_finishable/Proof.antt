@@ -1,8 +1,8 @@
+-- Each early return is a part of refusal 17. Assumes nothing.
 use mathlib.Core.Bool.{not}
-use mathlib.Core.Path.{_≡_, sym, ap, _∙_}
+use mathlib.Core.Path.{sym, ap, _∙_}
 use Rattle.dispatcher.proofs.CallLaws.{cannot-source, cannot-past, cannot-fixed, cannot-early, cannot-twice}
 use borrow.Author.Needs.{needs}
-use native.Mathlib.Omega.{arith}
 use Rattle.dispatcher.proofs.not_finishable.Statement.{statement}
 use Rattle.dispatcher.proofs.not_finishable.Tie as tie
 

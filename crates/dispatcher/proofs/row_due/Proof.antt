@@ -1,16 +1,13 @@
-use mathlib.Core.Path.{_≡_, sym, _∙_}
+-- The loop's invariant (`Passed`): of the entries so far, whether one names an operation, and that all named ones are due. The measure is what is left of the row. Assumes nothing.
+use mathlib.Core.Path.{sym, _∙_}
 use mathlib.Core.Logic.{⊎-elim}
 use borrow.Author.Tests.{not-true, not-false}
 use Prim.Native.Nat.{_-_}
 use lib.ListN.{length}
 use Rattle.dispatcher.proofs.RowLaws.{Passed, passed-none, passed-over, passed-due, not-due, passed-all}
 use borrow.Author.Needs.{needs}
-use native.Mathlib.Omega.{arith}
 use Rattle.dispatcher.proofs.row_due.Statement.{statement}
 use Rattle.dispatcher.proofs.row_due.Tie as tie
-use Rattle.dispatcher.proofs.row_due.Reads as reads
-use Rattle.dispatcher.proofs.row_due.Lts as lts
-use Rattle.dispatcher.proofs.is_due.Reads as is-due-reads
 
 abbrev Inv-loop : tie.InvT-loop
 Inv-loop row finished finish clock named₀ a₀ named a = Passed finished finish clock row named a

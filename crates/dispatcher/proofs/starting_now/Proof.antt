@@ -1,19 +1,14 @@
-use mathlib.Core.Path.{_≡_, sym, _∙_}
+-- The loop's invariant (`SweptBelow`): the map and the start ticks are the definition's for the operations so far. The measure is how many are left. Assumes nothing.
+use mathlib.Core.Path.{sym, _∙_}
 use mathlib.Core.Logic.{⊎-elim}
 use Prim.Native.Nat.{_-_}
-use Rattle.definitions.specs.declared.State.{State}
-use Rattle.dispatcher.proofs.SweepLaws.{Swept, swept-none, swept-start, swept-over, swept-fits, swept-map, swept-ticks}
+use Rattle.dispatcher.proofs.SweepLaws.{SweptBelow, swept-none, swept-start, swept-over, swept-fits, swept-map, swept-ticks}
 use borrow.Author.Needs.{needs}
-use native.Mathlib.Omega.{arith}
 use Rattle.dispatcher.proofs.starting_now.Statement.{statement}
 use Rattle.dispatcher.proofs.starting_now.Tie as tie
-use Rattle.dispatcher.proofs.starting_now.Reads as reads
-use Rattle.dispatcher.proofs.starting_now.Lts as lts
-use Rattle.dispatcher.proofs.is_ready.Reads as is-ready-reads
-use Rattle.dispatcher.proofs.power.Reads as power-reads
 
 abbrev Inv-loop : tie.InvT-loop
-Inv-loop table st n clock started finished start₀ map₀ v₀ start map v = Swept st table start map v
+Inv-loop table st n clock started finished start₀ map₀ v₀ start map v = SweptBelow st table start map v
 
 abbrev μ-loop : tie.MeasureT-loop
 μ-loop table st n clock started finished start₀ map₀ v₀ start map v = n - v

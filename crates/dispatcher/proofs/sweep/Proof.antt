@@ -1,11 +1,8 @@
+-- The map and the start ticks of `starting_now`, put into the state. Assumes nothing.
 use Rattle.dispatcher.proofs.CallLaws.{swept-now}
 use borrow.Author.Needs.{needs}
-use native.Mathlib.Omega.{arith}
 use Rattle.dispatcher.proofs.sweep.Statement.{statement}
 use Rattle.dispatcher.proofs.sweep.Tie as tie
-use Rattle.dispatcher.proofs.sweep.Reads as reads
-use Rattle.dispatcher.proofs.sweep.Lts as lts
-use Rattle.dispatcher.proofs.starting_now.Reads as starting-now-reads
 
 starting-now-requires : tie.Need-starting-now-requires
 starting-now-requires c κs = search needs

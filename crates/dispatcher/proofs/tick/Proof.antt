@@ -1,17 +1,10 @@
-use mathlib.Core.Path.{_≡_, refl, sym, ap, _∙_}
+-- Each early return is a refusal in its order, 15, 14, 18; what passes them is swept. Assumes nothing.
+use mathlib.Core.Path.{sym, _∙_}
 use Rattle.definitions.specs.Dispatcher.{ticked}
 use Rattle.dispatcher.proofs.CallLaws.{running-count, running-is, long-enough, returns-as, swept-given, room, tick-idle, tick-short, tick-end, tick-given}
 use borrow.Author.Needs.{needs}
-use native.Mathlib.Omega.{arith}
 use Rattle.dispatcher.proofs.tick.Statement.{statement}
 use Rattle.dispatcher.proofs.tick.Tie as tie
-use Rattle.dispatcher.proofs.tick.Reads as reads
-use Rattle.dispatcher.proofs.tick.Lts as lts
-use Rattle.dispatcher.proofs.is_idle.Reads as is-idle-reads
-use Rattle.dispatcher.proofs.is_short.Reads as is-short-reads
-use Rattle.dispatcher.proofs.refusal.Reads as refusal-reads
-use Rattle.dispatcher.proofs.sweep.Reads as sweep-reads
-use Rattle.dispatcher.proofs.ticked.Reads as ticked-reads
 
 is-idle-requires : tie.Need-is-idle-requires
 is-idle-requires c κs = search needs

@@ -1,10 +1,8 @@
+-- By computing. Assumes nothing.
 use Rattle.definitions.specs.Dispatcher.{ticked}
 use borrow.Author.Needs.{needs}
-use native.Mathlib.Omega.{arith}
 use Rattle.dispatcher.proofs.ticked.Statement.{statement}
 use Rattle.dispatcher.proofs.ticked.Tie as tie
-use Rattle.dispatcher.proofs.ticked.Reads as reads
-use Rattle.dispatcher.proofs.ticked.Lts as lts
 
 add-next : tie.Need-add-next
 add-next c = search needs

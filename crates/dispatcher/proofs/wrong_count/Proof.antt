@@ -1,10 +1,7 @@
+-- By the two ways in which a count is wrong. Assumes nothing.
 use Rattle.dispatcher.proofs.CallLaws.{count-low, count-high}
-use borrow.Author.Needs.{needs}
-use native.Mathlib.Omega.{arith}
 use Rattle.dispatcher.proofs.wrong_count.Statement.{statement}
 use Rattle.dispatcher.proofs.wrong_count.Tie as tie
-use Rattle.dispatcher.proofs.wrong_count.Reads as reads
-use Rattle.dispatcher.proofs.wrong_count.Lts as lts
 
 returns : tie.Need-returns
 returns c = count-low _ (c .if1 .taken)
