@@ -1,0 +1,5 @@
+pub mod Below
+pub mod RowLaws
+pub mod SweepLaws
+pub mod CallLaws
+pub mod Worked
