@@ -1,0 +1,3 @@
+pub mod StartSets
+pub mod Sheets
+pub mod Sweeps
