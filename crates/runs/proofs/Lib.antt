@@ -1,3 +1,4 @@
 pub mod StartSets
 pub mod Sheets
 pub mod Sweeps
+pub mod Invariants

@@ -57,6 +57,10 @@ module _ {s : List ℕ} {allow : Bool} {q : Records} {w : ℕ} (accepted : Accep
   pub some-decider : (v : ℕ) → v < count-of q → (a : ℕ) × (sheet-decides q a v ≡ true)
   some-decider v b = deciding-for accepted v b .part .some
 
+  -- Step 0 is alone in its own start set: no chain of forward links leads to it.
+  pub source-member : (a : ℕ) → in-start-set q a 0 ≡ true → a ≡ 0
+  source-member a h = StartSets.source-alone well (member a 0 .0 h)
+
   -- Each member decides, or is a member of one that decides.
   pub member-decider : (a v : ℕ) → v < count-of q → in-start-set q a v ≡ true → (c : ℕ) × (sheet-decides q c v ≡ true) × ((a ≡ c) ⊎ (in-start-set q a c ≡ true))
   member-decider a v b h =

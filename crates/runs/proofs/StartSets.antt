@@ -23,7 +23,12 @@ module _ {n : ℕ} {es : List Edge} (well : Well n (members es)) where
   forward-acyclic : Acyclic (Forward (members es))
   forward-acyclic a w = well .acyclic a (chain-after w)
 
-  -- A member of a member's start set is a member. No chain of forward links leads to step 0.
+  -- No chain of forward links leads to step 0.
+  pub source-alone : {a : ℕ} → InAnchorSet (members es) a 0 → a ≡ 0
+  source-alone (is-source e) = e
+  source-alone (chain w) = absurd (source-first (well .rooted) forward-acyclic (after-start-below (well .shape) (chain-after w)) w)
+
+  -- A member of a member's start set is a member.
   pub member-trans : {a b v : ℕ} → InAnchorSet (members es) a b → InAnchorSet (members es) b v → InAnchorSet (members es) a v
   member-trans (is-source e) j = is-source e
   member-trans {a} (chain w) (is-source e) =
