@@ -2,3 +2,4 @@ pub mod StartSets
 pub mod Sheets
 pub mod Sweeps
 pub mod Invariants
+pub mod Calls
