@@ -85,7 +85,7 @@ module _ {s : List ℕ} {allow : Bool} {q : Records} {w : ℕ} (accepted : Accep
     facts = before .timely .state
 
     -- Where the deciding steps of a step that has not started have all finished, its planned tick is still to come.
-    still : (v : ℕ) → v < count-of q → test-bit (st .started) v ≡ false → DecidersFinished q st v → st .tick < planned-tick q st v
+    pub still : (v : ℕ) → v < count-of q → test-bit (st .started) v ≡ false → DecidersFinished q st v → st .tick < planned-tick q st v
     still v b f D = go (decLe (planned-tick q st v) (st .tick))
       where
         go : Dec (planned-tick q st v ≤ st .tick) → st .tick < planned-tick q st v

@@ -3,3 +3,5 @@ pub mod Sheets
 pub mod Sweeps
 pub mod Invariants
 pub mod Calls
+pub mod Certificates
+pub mod Runs
