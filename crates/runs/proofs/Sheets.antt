@@ -1,0 +1,100 @@
+-- What runs use of an accepted sheet: its start sets, deciding sets and starts, and the table as it is lent.
+use mathlib.Core.Path.{_≡_, refl, sym, ap, subst, _∙_}
+use mathlib.Core.Bool.{Bool, true, false, cond}
+use mathlib.Core.Logic.{_⊎_, inl, inr, _↔_}
+use mathlib.Core.List.{List}
+use Prim.Native.Nat.{ℕ, suc, _+_, _*_, _≤_, _<_}
+use native.Mathlib.Omega.{arith}
+use native.Mathlib.Nat.{mul-le-mul-right, suc-mul}
+use lib.ListN.{getD, length, take, length-take}
+use lib.Seq.{getD-take}
+use Rattle.definitions.specs.Basics.{largest}
+use Rattle.definitions.specs.Bytes.{Records}
+use Rattle.definitions.specs.Links.{members, delay-at}
+use Rattle.definitions.specs.Anchors.{InAnchorSet, WellPosed}
+use Rattle.definitions.specs.Plan.{plan-table, undecided}
+use Rattle.definitions.specs.Answers.{count-of, edges-of, serialized-of}
+use Rattle.laws.proofs.Tests.{largest-above, largest-below}
+use Rattle.theory.specs.Graphs.{Shape, Well}
+use Rattle.theory.proofs.Reachability.{in-anchor-set-iff}
+use Rattle.theory.proofs.DecidingSets.{decides-iff}
+use Rattle.theory.proofs.Plans.{plan-well, plan-posed}
+use Rattle.theory.proofs.Walks.{member-below}
+use Rattle.demands.specs.Demands.{Accepted, in-start-set, sheet-offset, sheet-decides, our-start, term}
+use Rattle.demands.proofs.OurStarts.{accepted-fits, accepted-well}
+use Rattle.demands.proofs.Planning.{deciding-for, plan-for, start-rule-for}
+use Rattle.runs.specs.Runs.{IsLent}
+use Rattle.runs.proofs.StartSets as StartSets
+
+module _ {s : List ℕ} {allow : Bool} {q : Records} {w : ℕ} (accepted : Accepted s allow q w) where
+  pub some-steps : 0 < count-of q
+  some-steps = accepted-fits accepted .some
+
+  pub few-steps : count-of q ≤ 64
+  few-steps = accepted-fits accepted .few
+
+  -- The sheet with its waits in can be scheduled for all delays, and is sound.
+  well : Well (count-of q) (members (serialized-of q))
+  unfolding serialized-of
+  well = plan-well (accepted-well accepted)
+
+  posed : WellPosed (members (serialized-of q))
+  unfolding serialized-of
+  posed = plan-posed (accepted-well accepted)
+
+  member : (a v : ℕ) → (in-start-set q a v ≡ true) ↔ InAnchorSet (members (serialized-of q)) a v
+  member = in-anchor-set-iff (well .shape)
+
+  pub start-member-below : (a v : ℕ) → v < count-of q → in-start-set q a v ≡ true → a < count-of q
+  start-member-below a v b h = member-below (well .shape) b (member a v .0 h)
+
+  pub decider-member : (a v : ℕ) → v < count-of q → sheet-decides q a v ≡ true → in-start-set q a v ≡ true
+  decider-member a v b = deciding-for accepted v b .part .within a
+
+  pub decider-below : (a v : ℕ) → v < count-of q → sheet-decides q a v ≡ true → a < count-of q
+  decider-below a v b h = start-member-below a v b (decider-member a v b h)
+
+  pub some-decider : (v : ℕ) → v < count-of q → (a : ℕ) × (sheet-decides q a v ≡ true)
+  some-decider v b = deciding-for accepted v b .part .some
+
+  -- Step 0 is alone in its own start set: no chain of forward links leads to it.
+  pub source-member : (a : ℕ) → in-start-set q a 0 ≡ true → a ≡ 0
+  source-member a h = StartSets.source-alone well (member a 0 .0 h)
+
+  -- Each member decides, or is a member of one that decides.
+  pub member-decider : (a v : ℕ) → v < count-of q → in-start-set q a v ≡ true → (c : ℕ) × (sheet-decides q c v ≡ true) × ((a ≡ c) ⊎ (in-start-set q a c ≡ true))
+  member-decider a v b h =
+      let r = StartSets.member-decider well posed v b a (start-member-below a v b h) (member a v .0 h) in
+      (r .0, decides-iff (well .shape) (r .0) v b .1 (r .1), go (r .0) (r .2))
+    where
+      go : (c : ℕ) → (a ≡ c) ⊎ InAnchorSet (members (serialized-of q)) a c → (a ≡ c) ⊎ (in-start-set q a c ≡ true)
+      go c (inl e) = inl e
+      go c (inr i) = inr (member a c .1 i)
+
+  -- Durations that agree on the start set of v give the same start of v.
+  pub our-start-agrees : (d d′ : ℕ → ℕ) (v : ℕ) → v < count-of q → ((a : ℕ) → in-start-set q a v ≡ true → d a ≡ d′ a) → our-start q d v ≡ our-start q d′ v
+  our-start-agrees d d′ v b same = StartSets.start-agrees well d d′ v b (λ a i. same a (member a v .1 i))
+
+  pub our-start-source : (d : ℕ → ℕ) → our-start q d 0 ≡ 0
+  our-start-source = start-rule-for accepted .source
+
+  -- A start is the largest of the deciding terms.
+  pub our-start-above : (d : ℕ → ℕ) → d 0 ≡ 0 → (a v : ℕ) → v < count-of q → sheet-decides q a v ≡ true → term q d v a ≤ our-start q d v
+  our-start-above d d0 a v b h = omega (arith, deciding-for accepted v b .enough d d0, largest-above (λ a. sheet-decides q a v) (term q d v) (count-of q) a (decider-below a v b h) h)
+
+  pub our-start-below : (d : ℕ → ℕ) → d 0 ≡ 0 → (v x : ℕ) → v < count-of q → ((a : ℕ) → sheet-decides q a v ≡ true → term q d v a ≤ x) → our-start q d v ≤ x
+  our-start-below d d0 v x b h = omega (arith, deciding-for accepted v b .enough d d0, largest-below (λ a. sheet-decides q a v) (term q d v) (count-of q) x (λ a c i. h a i))
+
+  -- The numbers of a lent table.
+  module _ {table : List ℕ} (lent : IsLent q table) where
+    cell-below : (v a : ℕ) → v < count-of q → a < count-of q → v * count-of q + a < count-of q * count-of q
+    cell-below v a b c = let h : suc v ≤ count-of q = omega arith in omega (arith, mul-le-mul-right (count-of q) h, suc-mul v (count-of q))
+
+    pub lent-entry : (v a : ℕ) → v < count-of q → a < count-of q → getD table (v * count-of q + a) 0 ≡ cond (sheet-decides q a v) (sheet-offset q a v) undecided
+    lent-entry v a b c =
+        sym (getD-take (count-of q * count-of q) table (v * count-of q + a) 0 (cell-below v a b c))
+        ∙ ap (λ (l : List ℕ). getD l (v * count-of q + a) 0) (lent .plan)
+        ∙ plan-for accepted .entry v a b c
+
+    pub lent-apart : (v a : ℕ) → v < count-of q → sheet-decides q a v ≡ true → sheet-offset q a v < undecided
+    lent-apart = plan-for accepted .apart

@@ -1,0 +1,122 @@
+-- Runs of an accepted sheet, and what is certified of every state of every run. Definitions alone: each statement is proved in proofs/Runs.antt, by the theorem that its comment names.
+--
+-- Words that are not defined here are those of the crates definitions (Dispatcher: the calls) and demands (accepted sheets, deciding sets, our starts). Quoted sentences are document 01's.
+-- Durations have no largest one: no list's limit stands here, and a run has any number of calls.
+use mathlib.Core.Path.{_≡_}
+use mathlib.Core.Bool.{Bool, true, false}
+use mathlib.Core.Logic.{_⊎_, _≢_, _↔_}
+use mathlib.Core.List.{List, List·Memᴰ}
+use Prim.Native.Nat.{ℕ, _+_, _-_, _*_, _≤_, _<_}
+use lib.ListN.{getD, take, length}
+use Rattle.definitions.specs.Basics.{test-bit, given, refused}
+use Rattle.definitions.specs.Bytes.{Records}
+use Rattle.definitions.specs.Links.{Constraint, sequencing, minimum, maximum, constraints, delay-at, duration}
+use Rattle.definitions.specs.Waits.{WaitPair}
+use Rattle.definitions.specs.Plan.{plan-table}
+use Rattle.definitions.specs.Answers.{count-of, serialized-of}
+use Rattle.definitions.specs.Dispatcher.{Progress, begin, Call, called, state-after}
+use Rattle.definitions.specs.declared.State.{State}
+use Rattle.definitions.specs.declared.Delay.the-variants.{Open}
+use Rattle.demands.specs.Demands.{Accepted, sheet-decides, our-start, sheet-waits, wait-link, WorkedBytes}
+
+-- ## A run
+
+-- The sheet's open map: bit i stands exactly if step i is open. "Its bit 0 counts for nothing", and "steps numbered N or more do not exist": these bits are free.
+pub record IsOpenMap (q : Records) (unbounded : ℕ) : Type 0 where
+  pub stands : (i : ℕ) → 0 < i → i < count-of q → (test-bit unbounded i ≡ true) ↔ (delay-at (q .steps) i ≡ Open)
+
+-- The sheet's table, as it is lent: its first N × N numbers are the plan. It may be longer, and another one at each call.
+pub record IsLent (q : Records) (table : List ℕ) : Type 0 where
+  pub plan : take (count-of q * count-of q) table ≡ plan-table (count-of q) (serialized-of q)
+
+-- "In a run begun with the sheet's N and open map and lent its table at each call." It begins with a Begin that is not refused, on any state; after it come any calls, refused ones among them: `Run q st`
+-- says that st is a state of such a run. A refused call leaves the state as given (`state-after`).
+pub data Run (q : Records) : State → Type 0 where
+  begins : {st : State} (before : State) (unbounded : ℕ) (table : List ℕ) (g : Progress) → IsOpenMap q unbounded → IsLent q table → begin before (count-of q) unbounded table ≡ given g → st ≡ g .state → Run q st
+  goes-on : {st before : State} → Run q before → (c : Call) (table : List ℕ) → IsLent q table → st ≡ state-after before (called before table c) → Run q st
+
+-- Which steps have started and finished, and when.
+abbrev pub Started : State → ℕ → Type 0
+Started st v = test-bit (st .started) v ≡ true
+
+abbrev pub Finished : State → ℕ → Type 0
+Finished st v = test-bit (st .finished) v ≡ true
+
+abbrev pub start-tick : State → ℕ → ℕ
+start-tick st v = getD (st .start) v 0
+
+abbrev pub finish-tick : State → ℕ → ℕ
+finish-tick st v = getD (st .finish) v 0
+
+-- ## The planned tick
+
+-- "A reported duration is finish tick less start tick." The subtraction stops at 0: ticks are 0 until then, so a step that has not finished counts as 0. No planned tick that is spoken of depends on it.
+abbrev pub reported : State → ℕ → ℕ
+reported st a = finish-tick st a - start-tick st a
+
+-- "The planned tick of a step, once its deciding steps have finished, is its start by the rule above over the reported durations, even above a list's limit."
+abbrev pub planned-tick : Records → State → ℕ → ℕ
+planned-tick q st v = our-start q (reported st) v
+
+abbrev pub DecidersFinished : Records → State → ℕ → Type 0
+DecidersFinished q st v = (a : ℕ) → sheet-decides q a v ≡ true → Finished st a
+
+-- Each step has started exactly if all its deciding steps have finished and its planned tick is not above the tick, and then its start tick is the planned tick. Proof: planned-ticks.
+pub record OnTime (q : Records) (st : State) (v : ℕ) : Type 0 where
+  pub exactly : Started st v ↔ (DecidersFinished q st v × (planned-tick q st v ≤ st .tick))
+  pub at-planned : Started st v → start-tick st v ≡ planned-tick q st v
+
+abbrev pub PlannedTicks : Type 0
+PlannedTicks =
+    (s : List ℕ) (allow : Bool) (q : Records) (w : ℕ) → Accepted s allow q w → (st : State) → Run q st → (v : ℕ) → v < count-of q → OnTime q st v
+
+-- What else holds of the state: it keeps N and the open map; the tick fits 32 bits; steps numbered N or more never start or finish; only open steps and step 0 finish, once they have started and not before;
+-- start and finish ticks are not above the tick, and "0 until then". Proof: run-states.
+pub record StateFor (q : Records) (st : State) : Type 0 where
+  pub count : st .n ≡ count-of q
+  pub open-map : IsOpenMap q (st .unbounded)
+  pub clock : st .tick ≤ 4294967295
+  pub source : Started st 0 × Finished st 0 × (start-tick st 0 ≡ 0) × (finish-tick st 0 ≡ 0)
+  pub only-steps : (v : ℕ) → Started st v → v < count-of q
+  pub finished-started : (v : ℕ) → Finished st v → Started st v
+  pub finished-open : (v : ℕ) → Finished st v → (v ≡ 0) ⊎ (delay-at (q .steps) v ≡ Open)
+  pub in-order : (v : ℕ) → Finished st v → start-tick st v ≤ finish-tick st v
+  pub starts-past : (v : ℕ) → start-tick st v ≤ st .tick
+  pub finishes-past : (v : ℕ) → finish-tick st v ≤ st .tick
+  pub not-started : (v : ℕ) → test-bit (st .started) v ≡ false → start-tick st v ≡ 0
+  pub not-finished : (v : ℕ) → test-bit (st .finished) v ≡ false → finish-tick st v ≡ 0
+
+abbrev pub RunStates : Type 0
+RunStates = (s : List ℕ) (allow : Bool) (q : Records) (w : ℕ) → Accepted s allow q w → (st : State) → Run q st → StateFor q st
+
+-- ## The certificate
+
+-- After: where j has started, i has started before it or at the same tick, and the link's line holds of the ticks. Out of an open i other than step 0: i has finished, not after j's start.
+pub record AfterHolds (q : Records) (st : State) (i j : ℕ) : Type 0 where
+  pub started : Started st i
+  pub order : start-tick st i ≤ start-tick st j
+  pub line : start-tick st i + duration (q .steps) (reported st) i ≤ start-tick st j
+  pub ended : i ≢ 0 → delay-at (q .steps) i ≡ Open → Finished st i × (finish-tick st i ≤ start-tick st j)
+
+-- At least m.
+pub record AtLeastHolds (st : State) (i j m : ℕ) : Type 0 where
+  pub started : Started st i
+  pub order : start-tick st i ≤ start-tick st j
+  pub line : start-tick st i + m ≤ start-tick st j
+
+-- At most u: where i has started, j has started at most u later, or has not started and the tick is below start(i) + u.
+abbrev pub AtMostHolds : State → ℕ → ℕ → ℕ → Type 0
+AtMostHolds st i j u = (Started st j × (start-tick st j ≤ start-tick st i + u)) ⊎ ((test-bit (st .started) j ≡ false) × (st .tick < start-tick st i + u))
+
+abbrev pub Holds : Records → State → Constraint → Type 0
+Holds q st (sequencing i j) = Started st j → AfterHolds q st i j
+Holds q st (minimum i j m) = Started st j → AtLeastHolds st i j m
+Holds q st (maximum i j u) = Started st i → AtMostHolds st i j u
+
+-- At every state of every run of every accepted sheet, every link and every wait holds. Nothing is asked of the durations: a hand may take any time at all. Proof: certificate.
+pub record Certified (q : Records) (st : State) : Type 0 where
+  pub links : (c : Constraint) → List·Memᴰ c (constraints (q .pairs)) → Holds q st c
+  pub waits : (p : WaitPair) → List·Memᴰ p (sheet-waits q) → Holds q st (wait-link p)
+
+abbrev pub Certificate : Type 0
+Certificate = (s : List ℕ) (allow : Bool) (q : Records) (w : ℕ) → Accepted s allow q w → (st : State) → Run q st → Certified q st

@@ -1,0 +1,1 @@
+// Runs of the dispatcher: theorems alone, in specs/ and proofs/.
