@@ -30,6 +30,7 @@ fn extended(w: u64, gain: u64, loss: u64) -> u64
     if loss < s { s - loss } else { 1 }
 }
 
+// Whether one of two passes raised a cell.
 fn either(a: bool, b: bool) -> bool
     ensures { λ r. ⌜ r ≡ a || b ⌝ }
 {
