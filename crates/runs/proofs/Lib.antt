@@ -4,4 +4,5 @@ pub mod Sweeps
 pub mod Invariants
 pub mod Calls
 pub mod Certificates
+pub mod Examples
 pub mod Runs

@@ -5,7 +5,7 @@
 use mathlib.Core.Path.{_≡_}
 use mathlib.Core.Bool.{Bool, true, false}
 use mathlib.Core.Logic.{_⊎_, _≢_, _↔_}
-use mathlib.Core.List.{List, List·Memᴰ}
+use mathlib.Core.List.{List, [], _∷_, List·Memᴰ}
 use Prim.Native.Nat.{ℕ, _+_, _-_, _*_, _≤_, _<_}
 use lib.ListN.{getD, take, length}
 use Rattle.definitions.specs.Basics.{test-bit, given, refused}
@@ -14,7 +14,8 @@ use Rattle.definitions.specs.Links.{Constraint, sequencing, minimum, maximum, c
 use Rattle.definitions.specs.Waits.{WaitPair}
 use Rattle.definitions.specs.Plan.{plan-table}
 use Rattle.definitions.specs.Answers.{count-of, serialized-of}
-use Rattle.definitions.specs.Dispatcher.{Progress, begin, Call, called, state-after}
+use Rattle.definitions.specs.Dispatcher.{Progress, begin, Call, beginning, ticking, finishing, called, state-after}
+use Rattle.definitions.specs.Worked.{stand, stand-table, idle}
 use Rattle.definitions.specs.declared.State.{State}
 use Rattle.definitions.specs.declared.Delay.the-variants.{Open}
 use Rattle.demands.specs.Demands.{Accepted, sheet-decides, our-start, sheet-waits, wait-link, WorkedBytes}
@@ -120,3 +121,24 @@ pub record Certified (q : Records) (st : State) : Type 0 where
 
 abbrev pub Certificate : Type 0
 Certificate = (s : List ℕ) (allow : Bool) (q : Records) (w : ℕ) → Accepted s allow q w → (st : State) → Run q st → Certified q st
+
+-- ## The hypotheses are met
+
+-- The state after calls that are all lent one table.
+abbrev pub after-calls : State → List ℕ → List Call → State
+after-calls st table [] = st
+after-calls st table (c ∷ cs) = after-calls (state-after st (called st table c)) table cs
+
+-- A run of the stand sheet, begun on a state that has not begun, that starts all five steps, at the ticks given.
+pub record StandRun (calls : List Call) (starts : List ℕ) : Type 0 where
+  pub records : Records
+  pub accepted : Accepted (stand 2) false records 0
+  pub lent : IsLent records stand-table
+  pub run : Run records (after-calls idle stand-table (beginning 5 4 ∷ calls))
+  pub all-started : after-calls idle stand-table (beginning 5 4 ∷ calls) .started ≡ 31
+  pub ticks : take 5 (after-calls idle stand-table (beginning 5 4 ∷ calls) .start) ≡ starts
+
+-- "Run of it: Begin gives 7; Finish 2 gives 0; ticks give 8, 0, 16. A second Finish 2: 17." And a run in which the hand takes 10. Proof: runs-met.
+pub record RunsMet : Type 0 where
+  pub at-once : StandRun (finishing 2 ∷ ticking ∷ ticking ∷ ticking ∷ finishing 2 ∷ []) (0 ∷ 0 ∷ 0 ∷ 1 ∷ 3 ∷ [])
+  pub after-ten : StandRun (ticking ∷ ticking ∷ ticking ∷ ticking ∷ ticking ∷ ticking ∷ ticking ∷ ticking ∷ ticking ∷ ticking ∷ finishing 2 ∷ ticking ∷ ticking ∷ []) (0 ∷ 0 ∷ 0 ∷ 10 ∷ 12 ∷ [])
