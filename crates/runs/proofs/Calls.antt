@@ -22,13 +22,17 @@ use Rattle.laws.proofs.Maps.{test-insert, test-pow}
 use Rattle.laws.proofs.Outcomes.{refuse-given, given-same}
 use Rattle.theory.proofs.FirstRows.{zeros-at}
 use Rattle.demands.specs.Demands.{Accepted, in-start-set, sheet-decides, our-start}
-use Rattle.runs.specs.Runs.{IsOpenMap, IsLent, Run, begins, goes-on, Started, Finished, start-tick, finish-tick, reported, planned-tick, DecidersFinished, StateFor}
+use Rattle.runs.specs.Runs.{IsOpenMap, IsLent, Run, begins, goes-on, Started, Finished, start-tick, finish-tick, reported, planned-tick, DecidersFinished, StateFor, CanFinish}
 use Rattle.runs.proofs.Sheets.{some-steps, few-steps, source-member, our-start-source, our-start-above}
 use Rattle.runs.proofs.Invariants.{Timely, Invariant, NotLate, reported-source, finished-term, all-finished, planned-agrees, swept}
 
 -- A row of refusals that ends in an answer: each test fails.
 or-fails : (a b : Bool) → (a || b) ≡ false → (a ≡ false) × (b ≡ false)
 or-fails a b h = (not-passing a (λ t. both-ways (or-left b t) h), not-passing b (λ t. both-ways (or-right a t) h))
+
+pub not-zero : (x : ℕ) → x ≢ 0 → 0 < x
+not-zero zero z = absurd (z refl)
+not-zero (suc x) z = omega arith
 
 module _ {s : List ℕ} {allow : Bool} {q : Records} {w : ℕ} (accepted : Accepted s allow q w) where
   -- ## Begin
@@ -127,37 +131,26 @@ module _ {s : List ℕ} {allow : Bool} {q : Records} {w : ℕ} (accepted : Accep
 
     -- ## Finish
 
-    module _ (x : ℕ) (can : cannot-finish st x ≡ false) where
-      -- What the refusal 17 leaves: x is a step, open, has started and has not finished.
-      record Finishes : Type 0 where
-        not-source : x ≢ 0
-        exists : x < count-of q
-        lasts : delay-at (q .steps) x ≡ Open
-        started : Started st x
-        running : test-bit (st .finished) x ≡ false
+    -- Where the refusal 17 does not apply, the step can finish.
+    pub can-finish : (x : ℕ) → cannot-finish st x ≡ false → CanFinish q st x
+    unfolding cannot-finish
+    can-finish x can =
+        let a = eqb x 0 in
+        let b = leb (st .n) x in
+        let c = not (test-bit (st .unbounded) x) in
+        let d = not (test-bit (st .started) x) in
+        let e = test-bit (st .finished) x in
+        let r₁ = or-fails (a || b || c || d) e can in
+        let r₂ = or-fails (a || b || c) d (r₁ .0) in
+        let r₃ = or-fails (a || b) c (r₂ .0) in
+        let r₄ = or-fails a b (r₃ .0) in
+        let z : x ≢ 0 = eqb-false x 0 (r₄ .0) in
+        let l : x < count-of q = omega (arith, leb-false (st .n) x (r₄ .1), facts .count) in
+        record { exists = l; not-source = z; lasts = facts .open-map .stands x (not-zero x z) l .0 (not-false (test-bit (st .unbounded) x) (r₃ .1)); started = not-false (test-bit (st .started) x) (r₂ .1); running = r₁ .1 }
 
-      finishes : Finishes
-      unfolding cannot-finish
-      finishes =
-          let a = eqb x 0 in
-          let b = leb (st .n) x in
-          let c = not (test-bit (st .unbounded) x) in
-          let d = not (test-bit (st .started) x) in
-          let e = test-bit (st .finished) x in
-          let r₁ = or-fails (a || b || c || d) e can in
-          let r₂ = or-fails (a || b || c) d (r₁ .0) in
-          let r₃ = or-fails (a || b) c (r₂ .0) in
-          let r₄ = or-fails a b (r₃ .0) in
-          let z : x ≢ 0 = eqb-false x 0 (r₄ .0) in
-          let l : x < count-of q = omega (arith, leb-false (st .n) x (r₄ .1), facts .count) in
-          record { not-source = z; exists = l; lasts = facts .open-map .stands x (positive z) l .0 (not-false (test-bit (st .unbounded) x) (r₃ .1)); started = not-false (test-bit (st .started) x) (r₂ .1); running = r₁ .1 }
-        where
-          positive : x ≢ 0 → 0 < x
-          positive z = go (same-or-not x 0)
-            where
-              go : (x ≡ 0) ⊎ (x ≢ 0) → 0 < x
-              go (inl e) = absurd (z e)
-              go (inr n) = omega arith
+    module _ (x : ℕ) (can : cannot-finish st x ≡ false) where
+      finishes : CanFinish q st x
+      finishes = can-finish x can
 
       abbrev next : State
       next = ended st x

@@ -13,7 +13,7 @@ use lib.Dec.{eqb, leb, ltb}
 use lib.ListN.{length, getD, set, replicate, length-set, length-replicate}
 use lib.Seq.{getD-set-same, getD-set-other}
 use borrow.Author.Tests.{eqb-true, eqb-false, eq-eqb, ne-eqb, leb-true, leb-false, le-leb, ltb-true, lt-ltb, le-ltb, not-true, not-false}
-use Rattle.definitions.specs.Basics.{test-bit, given, refused}
+use Rattle.definitions.specs.Basics.{any-below, test-bit, given, refused}
 use Rattle.definitions.specs.Bytes.{Records}
 use Rattle.definitions.specs.Links.{delay-at}
 use Rattle.definitions.specs.Plan.{undecided}
@@ -22,7 +22,7 @@ use Rattle.definitions.specs.Dispatcher.{entry, names, due, ready, start-ticks,
 use Rattle.definitions.specs.declared.State.{State}
 use Rattle.definitions.specs.declared.Delay.the-variants.{Open}
 use Rattle.laws.proofs.Bools.{bool-cases, both-ways, and-split, and-join, or-split, or-left, or-right, not-passing, cond-true, cond-false, same-or-not}
-use Rattle.laws.proofs.Maps.{test-insert, test-pow, test-zero}
+use Rattle.laws.proofs.Tests.{any-below-has, any-below-none}
 use Rattle.demands.specs.Demands.{Accepted, in-start-set, sheet-offset, sheet-decides, our-start, term}
 use Rattle.runs.specs.Runs.{IsOpenMap, IsLent, Started, Finished, start-tick, finish-tick, reported, planned-tick, DecidersFinished, StateFor}
 use Rattle.runs.proofs.Sheets.{some-steps, few-steps, start-member-below, decider-member, decider-below, some-decider, member-decider, our-start-agrees, our-start-source, our-start-above, our-start-below, lent-entry, lent-apart}
@@ -62,6 +62,24 @@ module _ {s : List ℕ} {allow : Bool} {q : Records} {w : ℕ} (accepted : Accep
     -- The term of a step that has finished is its finish tick plus the offset.
     pub finished-term : (a v : ℕ) → Finished st a → term q (reported st) v a ≡ finish-tick st a + sheet-offset q a v
     finished-term a v f = omega (arith, timely .at-planned a (timely .state .finished-started a f), timely .state .in-order a f)
+
+    -- The deciding steps have all finished, or one has not. By search.
+    pub deciders-or-one : (v : ℕ) → v < count-of q → DecidersFinished q st v ⊎ ((a : ℕ) × (sheet-decides q a v ≡ true) × (test-bit (st .finished) a ≡ false))
+    deciders-or-one v b = go (bool-cases (any-below unfinished (count-of q)))
+      where
+        unfinished : ℕ → Bool
+        unfinished a = sheet-decides q a v && not (test-bit (st .finished) a)
+
+        done : any-below unfinished (count-of q) ≡ false → (a : ℕ) → sheet-decides q a v ≡ true → (test-bit (st .finished) a ≡ true) ⊎ (test-bit (st .finished) a ≡ false) → Finished st a
+        done n a k (inl t) = t
+        done n a k (inr f) = absurd (both-ways (and-join k (ap not f)) (any-below-none unfinished (count-of q) n a (decider-below accepted a v b k)))
+
+        go : (any-below unfinished (count-of q) ≡ true) ⊎ (any-below unfinished (count-of q) ≡ false) → DecidersFinished q st v ⊎ ((a : ℕ) × (sheet-decides q a v ≡ true) × (test-bit (st .finished) a ≡ false))
+        go (inl t) =
+            let r = any-below-has unfinished (count-of q) t in
+            let k = and-split (sheet-decides q (r .0) v) (not (test-bit (st .finished) (r .0))) (r .2) in
+            inr (r .0, k .0, not-true (test-bit (st .finished) (r .0)) (k .1))
+        go (inr n) = inl (λ a k. done n a k (bool-cases (test-bit (st .finished) a)))
 
     -- Where the deciding steps have finished, all members have.
     pub all-finished : (v : ℕ) → v < count-of q → DecidersFinished q st v → (a : ℕ) → in-start-set q a v ≡ true → Finished st a

@@ -3,6 +3,8 @@ pub mod Sheets
 pub mod Sweeps
 pub mod Invariants
 pub mod Calls
+pub mod Answers
+pub mod Waiting
 pub mod Certificates
 pub mod Examples
 pub mod Runs

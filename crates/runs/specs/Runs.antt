@@ -12,13 +12,47 @@ use Rattle.definitions.specs.Basics.{test-bit, given, refused}
 use Rattle.definitions.specs.Bytes.{Records}
 use Rattle.definitions.specs.Links.{Constraint, sequencing, minimum, maximum, constraints, delay-at, duration}
 use Rattle.definitions.specs.Waits.{WaitPair}
-use Rattle.definitions.specs.Plan.{plan-table}
+use Rattle.definitions.specs.Plan.{plan-table, undecided}
 use Rattle.definitions.specs.Answers.{count-of, serialized-of}
-use Rattle.definitions.specs.Dispatcher.{Progress, begin, Call, beginning, ticking, finishing, called, state-after}
+use Rattle.definitions.specs.Dispatcher.{entry, Progress, sweep, begin, ticked, tick, ended, finish, Call, beginning, ticking, finishing, called, state-after}
 use Rattle.definitions.specs.Worked.{stand, stand-table, idle}
 use Rattle.definitions.specs.declared.State.{State}
 use Rattle.definitions.specs.declared.Delay.the-variants.{Open}
-use Rattle.demands.specs.Demands.{Accepted, sheet-decides, our-start, sheet-waits, wait-link, WorkedBytes}
+use Rattle.demands.specs.Demands.{Accepted, in-start-set, sheet-decides, our-start, sheet-waits, wait-link, WorkedBytes}
+
+-- ## The rule of one call
+
+-- Which steps have started and finished, and when.
+abbrev pub Started : State → ℕ → Type 0
+Started st v = test-bit (st .started) v ≡ true
+
+abbrev pub Finished : State → ℕ → Type 0
+Finished st v = test-bit (st .finished) v ≡ true
+
+abbrev pub start-tick : State → ℕ → ℕ
+start-tick st v = getD (st .start) v 0
+
+abbrev pub finish-tick : State → ℕ → ℕ
+finish-tick st v = getD (st .finish) v 0
+
+-- "After each, a step not yet started starts if its row names at least one step, and each named step has finished, its finish tick plus its offset not above the tick." st is the state in which the tick has
+-- grown, or the step has finished. "On a table from anywhere this same rule holds; a row that names none never starts. Steps numbered N or more do not exist."
+pub record Starts (st : State) (table : List ℕ) (v : ℕ) : Type 0 where
+  pub exists : v < st .n
+  pub not-yet : test-bit (st .started) v ≡ false
+  pub some : (a : ℕ) × (a < st .n) × (entry st table v a ≢ undecided)
+  pub each : (a : ℕ) → a < st .n → entry st table v a ≢ undecided → Finished st a × (finish-tick st a + entry st table v a ≤ st .tick)
+
+-- "Each call returns a 64-bit map of the steps it started." These have started then, at this tick; of all others nothing changes. For any state with as many start ticks as steps, and any table. Proof:
+-- sweeps-meant.
+pub record SweepFor (st : State) (table : List ℕ) : Type 0 where
+  pub map : (v : ℕ) → (test-bit (sweep st table .map) v ≡ true) ↔ Starts st table v
+  pub started : (v : ℕ) → Started (sweep st table .state) v ↔ (Started st v ⊎ Starts st table v)
+  pub now : (v : ℕ) → Starts st table v → start-tick (sweep st table .state) v ≡ st .tick
+  pub others : (v : ℕ) → ¬ Starts st table v → start-tick (sweep st table .state) v ≡ start-tick st v
+
+abbrev pub SweepsMeant : Type 0
+SweepsMeant = (st : State) (table : List ℕ) → st .n ≤ length (st .start) → SweepFor st table
 
 -- ## A run
 
@@ -35,19 +69,6 @@ pub record IsLent (q : Records) (table : List ℕ) : Type 0 where
 pub data Run (q : Records) : State → Type 0 where
   begins : {st : State} (before : State) (unbounded : ℕ) (table : List ℕ) (g : Progress) → IsOpenMap q unbounded → IsLent q table → begin before (count-of q) unbounded table ≡ given g → st ≡ g .state → Run q st
   goes-on : {st before : State} → Run q before → (c : Call) (table : List ℕ) → IsLent q table → st ≡ state-after before (called before table c) → Run q st
-
--- Which steps have started and finished, and when.
-abbrev pub Started : State → ℕ → Type 0
-Started st v = test-bit (st .started) v ≡ true
-
-abbrev pub Finished : State → ℕ → Type 0
-Finished st v = test-bit (st .finished) v ≡ true
-
-abbrev pub start-tick : State → ℕ → ℕ
-start-tick st v = getD (st .start) v 0
-
-abbrev pub finish-tick : State → ℕ → ℕ
-finish-tick st v = getD (st .finish) v 0
 
 -- ## The planned tick
 
@@ -89,6 +110,36 @@ pub record StateFor (q : Records) (st : State) : Type 0 where
 
 abbrev pub RunStates : Type 0
 RunStates = (s : List ℕ) (allow : Bool) (q : Records) (w : ℕ) → Accepted s allow q w → (st : State) → Run q st → StateFor q st
+
+-- "Refusal 17: Finish of a step that is not open, is 0, has not started, or has finished." The others can finish.
+pub record CanFinish (q : Records) (st : State) (x : ℕ) : Type 0 where
+  pub exists : x < count-of q
+  pub not-source : x ≢ 0
+  pub lasts : delay-at (q .steps) x ≡ Open
+  pub started : Started st x
+  pub running : test-bit (st .finished) x ≡ false
+
+-- No other call of a run is refused than Begin (16), a Tick at the clock's end (18), and a Finish of a step that cannot finish (17). So a hand's finish is taken at every tick. Proof: run-answers.
+pub record AnswersFor (q : Records) (st : State) (table : List ℕ) : Type 0 where
+  pub begins-never : (n unbounded : ℕ) → begin st n unbounded table ≡ refused 16
+  pub ticks : st .tick ≢ 4294967295 → tick st table ≡ given (sweep (ticked st) table)
+  pub clock-end : st .tick ≡ 4294967295 → tick st table ≡ refused 18
+  pub finishes : (x : ℕ) → CanFinish q st x → finish st x table ≡ given (sweep (ended st x) table)
+  pub finishes-never : (x : ℕ) → ¬ CanFinish q st x → finish st x table ≡ refused 17
+
+abbrev pub RunAnswers : Type 0
+RunAnswers =
+    (s : List ℕ) (allow : Bool) (q : Records) (w : ℕ) → Accepted s allow q w → (st : State) → Run q st → (table : List ℕ) → IsLent q table → AnswersFor q st table
+
+-- No run is stuck: a step that has not started waits for an open step of its start set that is at work, or for the clock to come to a planned tick, its own or that of a step of its start set. Proof:
+-- nothing-stuck.
+pub data WaitsOn (q : Records) (st : State) (v : ℕ) : Type 0 where
+  on-hand : (a : ℕ) → in-start-set q a v ≡ true → CanFinish q st a → WaitsOn q st v
+  on-clock : (u : ℕ) → (u ≡ v) ⊎ (in-start-set q u v ≡ true) → test-bit (st .started) u ≡ false → DecidersFinished q st u → st .tick < planned-tick q st u → WaitsOn q st v
+
+abbrev pub NothingStuck : Type 0
+NothingStuck =
+    (s : List ℕ) (allow : Bool) (q : Records) (w : ℕ) → Accepted s allow q w → (st : State) → Run q st → (v : ℕ) → v < count-of q → test-bit (st .started) v ≡ false → WaitsOn q st v
 
 -- ## The certificate
 
