@@ -1,18 +1,17 @@
 -- Which calls of a run are refused: Begin always, Tick at the clock's end, Finish of a step that cannot finish.
-use mathlib.Core.Path.{_≡_, refl, sym, ap, _∙_}
-use mathlib.Core.Bool.{Bool, true, false, not, _&&_, _||_, true≢false}
-use mathlib.Core.Logic.{_⊎_, inl, inr, _≢_}
+use mathlib.Core.Path.{_≡_, ap, _∙_}
+use mathlib.Core.Bool.{Bool, true, false, not, _||_, true≢false}
+use mathlib.Core.Logic.{_⊎_, inl, inr}
 use mathlib.Core.List.{List}
-use Prim.Native.Nat.{ℕ, _*_, _≤_, _<_}
+use Prim.Native.Nat.{ℕ, _*_}
 use native.Mathlib.Omega.{arith}
-use lib.Dec.{eqb, leb, ltb}
+use lib.Dec.{eqb}
 use lib.ListN.{length}
 use borrow.Author.Tests.{eq-eqb, ne-eqb, le-leb, lt-leb, le-ltb}
-use Rattle.definitions.specs.Basics.{test-bit, Outcome, given, refused, refuse-if}
+use Rattle.definitions.specs.Basics.{Outcome, given, refused, refuse-if}
 use Rattle.definitions.specs.Bytes.{Records}
-use Rattle.definitions.specs.Links.{delay-at}
-use Rattle.definitions.specs.Answers.{count-of, too-short, bad-count}
-use Rattle.definitions.specs.Dispatcher.{Progress, sweep, begun, not-running, fresh, with-source, begin, ticked, tick, cannot-finish, ended, finish}
+use Rattle.definitions.specs.Answers.{too-short, bad-count}
+use Rattle.definitions.specs.Dispatcher.{sweep, begun, not-running, fresh, with-source, begin, ticked, tick, cannot-finish, ended, finish}
 use Rattle.definitions.specs.declared.State.{State}
 use Rattle.laws.proofs.Bools.{bool-cases, and-join}
 use Rattle.demands.specs.Demands.{Accepted}

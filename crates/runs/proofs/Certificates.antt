@@ -2,29 +2,26 @@
 --
 -- Take durations that are the reported ones where a step has finished, and longer than the tick where it has not. Our starts for these durations keep every link and wait, agree with the start ticks of
 -- steps that have started, and put every step that has not started after the tick. What they keep is then read off the ticks.
-use mathlib.Core.Path.{_≡_, refl, sym, ap, _∙_}
-use mathlib.Core.Bool.{Bool, true, false, cond, not, _&&_}
+use mathlib.Core.Path.{_≡_, refl, sym, _∙_}
+use mathlib.Core.Bool.{Bool, true, false, cond}
 use mathlib.Core.Logic.{_⊎_, inl, inr, _≢_}
-use mathlib.Core.List.{List, List·Memᴰ}
+use mathlib.Core.List.{List}
 use Prim.Native.Nat.{ℕ, zero, suc, _+_, _≤_, _<_}
 use native.Mathlib.Omega.{arith}
-use Rattle.definitions.specs.Basics.{any-below, test-bit}
+use Rattle.definitions.specs.Basics.{test-bit}
 use Rattle.definitions.specs.Bytes.{Records}
-use Rattle.definitions.specs.Links.{Constraint, sequencing, minimum, maximum, constraints, delay-at, duration-with, duration, Keeps}
+use Rattle.definitions.specs.Links.{Constraint, sequencing, minimum, maximum, delay-at, duration-with, duration, Keeps}
 use Rattle.definitions.specs.Answers.{count-of}
 use Rattle.definitions.specs.declared.State.{State}
 use Rattle.definitions.specs.declared.Delay.{Delay}
 use Rattle.definitions.specs.declared.Delay.the-variants.{Open, Fixed}
-use Rattle.laws.proofs.Bools.{bool-cases, both-ways, and-join, cond-true, cond-false}
-use Rattle.laws.proofs.Tests.{any-below-has, any-below-none}
-use Rattle.laws.proofs.Bools.{and-split}
-use borrow.Author.Tests.{not-true}
-use Rattle.demands.specs.Demands.{Accepted, KeptFor, sheet-decides, our-start, wait-link}
+use Rattle.laws.proofs.Bools.{bool-cases, cond-true, cond-false}
+use Rattle.demands.specs.Demands.{Accepted, sheet-decides, our-start, wait-link}
 use Rattle.demands.proofs.Edges.{Ends, sheet-ends}
 use Rattle.demands.proofs.Meaning.{wait-of}
 use Rattle.demands.proofs.OurStarts.{accepted-fits, kept-for}
-use Rattle.runs.specs.Runs.{Started, Finished, start-tick, finish-tick, reported, planned-tick, DecidersFinished, StateFor, AfterHolds, AtLeastHolds, AtMostHolds, Holds, Certified}
-use Rattle.runs.proofs.Sheets.{decider-below, our-start-above}
+use Rattle.runs.specs.Runs.{Started, Finished, start-tick, reported, DecidersFinished, StateFor, AfterHolds, AtLeastHolds, AtMostHolds, Holds, Certified}
+use Rattle.runs.proofs.Sheets.{our-start-above}
 use Rattle.runs.proofs.Invariants.{Timely, Invariant, reported-source, deciders-or-one, all-finished, planned-agrees}
 use Rattle.runs.proofs.Calls.{still}
 

@@ -3,7 +3,7 @@ use mathlib.Core.Path.{_≡_, refl, sym, _∙_}
 use mathlib.Core.Bool.{Bool, true, false, false≢true}
 use mathlib.Core.Logic.{_↔_}
 use mathlib.Core.List.{List, [], _∷_}
-use Prim.Native.Nat.{ℕ, zero, suc, _*_, _≤_, _<_}
+use Prim.Native.Nat.{ℕ, zero, suc, _*_, _<_}
 use native.Mathlib.Omega.{arith}
 use lib.Dec.{ltb}
 use lib.ListN.{take}
@@ -19,8 +19,8 @@ use Rattle.definitions.specs.declared.State.{State}
 use Rattle.definitions.specs.declared.Delay.{Delay}
 use Rattle.definitions.specs.declared.Delay.the-variants.{Open, Fixed}
 use Rattle.laws.proofs.Tests.{all-each}
-use Rattle.demands.specs.Demands.{Bytes, Accepted}
-use Rattle.runs.specs.Runs.{IsOpenMap, IsLent, Run, begins, goes-on, after-calls, StandRun, RunsMet}
+use Rattle.demands.specs.Demands.{Accepted}
+use Rattle.runs.specs.Runs.{IsOpenMap, IsLent, Run, begins, goes-on, after-calls, RunsMet}
 
 -- The stand sheet's records, and what its Begin gives.
 abbrev records-in : Outcome Records → Records

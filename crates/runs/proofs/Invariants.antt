@@ -2,30 +2,27 @@
 --
 -- A step cannot be late. Offsets are at least 0, so the last of its deciding steps finishes at a tick that is not above the planned one; and the planned tick of a step that has started no longer changes,
 -- because all members of its start set have finished.
-use mathlib.Core.Path.{_≡_, refl, sym, ap, subst, _∙_}
-use mathlib.Core.Bool.{Bool, true, false, cond, not, _&&_, _||_}
-use mathlib.Core.Logic.{_⊎_, inl, inr, _≢_, _↔_}
+use mathlib.Core.Path.{_≡_, sym, ap, subst, _∙_}
+use mathlib.Core.Bool.{Bool, true, false, cond, not, _&&_}
+use mathlib.Core.Logic.{_⊎_, inl, inr}
 use mathlib.Core.List.{List}
-use Prim.Native.Nat.{ℕ, zero, suc, _+_, _-_, _*_, _^_, _≤_, _<_}
+use Prim.Native.Nat.{ℕ, _+_, _-_, _*_, _≤_, _<_}
 use native.Mathlib.Omega.{arith}
-use native.Mathlib.Decide.{decLe, decLt}
+use native.Mathlib.Decide.{decLt}
 use lib.Dec.{eqb, leb, ltb}
-use lib.ListN.{length, getD, set, replicate, length-set, length-replicate}
-use lib.Seq.{getD-set-same, getD-set-other}
-use borrow.Author.Tests.{eqb-true, eqb-false, eq-eqb, ne-eqb, leb-true, leb-false, le-leb, ltb-true, lt-ltb, le-ltb, not-true, not-false}
-use Rattle.definitions.specs.Basics.{any-below, test-bit, given, refused}
+use lib.ListN.{length, getD}
+use borrow.Author.Tests.{eq-eqb, ne-eqb, leb-true, le-leb, lt-ltb, le-ltb, not-true}
+use Rattle.definitions.specs.Basics.{any-below, test-bit}
 use Rattle.definitions.specs.Bytes.{Records}
-use Rattle.definitions.specs.Links.{delay-at}
 use Rattle.definitions.specs.Plan.{undecided}
 use Rattle.definitions.specs.Answers.{count-of}
-use Rattle.definitions.specs.Dispatcher.{entry, names, due, ready, start-ticks, Progress, sweep, fresh, ticked, ended}
+use Rattle.definitions.specs.Dispatcher.{entry, names, due, ready, sweep}
 use Rattle.definitions.specs.declared.State.{State}
-use Rattle.definitions.specs.declared.Delay.the-variants.{Open}
-use Rattle.laws.proofs.Bools.{bool-cases, both-ways, and-split, and-join, or-split, or-left, or-right, not-passing, cond-true, cond-false, same-or-not}
+use Rattle.laws.proofs.Bools.{bool-cases, both-ways, and-split, and-join, or-split, or-left, or-right, not-passing, cond-true, cond-false}
 use Rattle.laws.proofs.Tests.{any-below-has, any-below-none}
 use Rattle.demands.specs.Demands.{Accepted, in-start-set, sheet-offset, sheet-decides, our-start, term}
-use Rattle.runs.specs.Runs.{IsOpenMap, IsLent, Started, Finished, start-tick, finish-tick, reported, planned-tick, DecidersFinished, StateFor}
-use Rattle.runs.proofs.Sheets.{some-steps, few-steps, start-member-below, decider-member, decider-below, some-decider, member-decider, our-start-agrees, our-start-source, our-start-above, our-start-below, lent-entry, lent-apart}
+use Rattle.runs.specs.Runs.{IsLent, Started, Finished, start-tick, finish-tick, reported, planned-tick, DecidersFinished, StateFor}
+use Rattle.runs.proofs.Sheets.{few-steps, decider-below, some-decider, member-decider, our-start-agrees, our-start-above, our-start-below, lent-entry, lent-apart}
 use Rattle.runs.proofs.Sweeps.{ready-says, ready-by, sweep-started, start-ticks-length, start-ticks-stay, start-ticks-new}
 
 -- What holds before the sweep of a call and after it.
@@ -160,9 +157,10 @@ module _ {s : List ℕ} {allow : Bool} {q : Records} {w : ℕ} (accepted : Accep
 
     kept : (v : ℕ) → Started st v → Started after v × (start-tick after v ≡ start-tick st v)
     unfolding sweep
-    kept v h =
-        (sweep-started st table v ∙ or-left (ltb v (st .n) && ready st table v) h,
-        start-ticks-stay st table (st .n) v (inl (not-passing (ready st table v) (λ r. both-ways h (ready-says st table v r .0)))))
+    kept v h = (
+      sweep-started st table v ∙ or-left (ltb v (st .n) && ready st table v) h,
+      start-ticks-stay st table (st .n) v (inl (not-passing (ready st table v) (λ r. both-ways h (ready-says st table v r .0)))),
+    )
 
     step-of : (v : ℕ) → Step v
     unfolding sweep

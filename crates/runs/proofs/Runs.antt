@@ -1,6 +1,4 @@
 -- The theorems: one for each statement of specs/Runs.antt, in its order.
-use mathlib.Core.Path.{_≡_}
-use Prim.Native.Nat.{ℕ}
 use native.Mathlib.Omega.{arith}
 use Rattle.runs.specs.Runs.{SweepsMeant, PlannedTicks, RunStates, RunAnswers, NothingStuck, Certificate, RunsMet}
 use Rattle.runs.proofs.Sheets.{decider-member}

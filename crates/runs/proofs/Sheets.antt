@@ -1,22 +1,21 @@
 -- What runs use of an accepted sheet: its start sets, deciding sets and starts, and the table as it is lent.
-use mathlib.Core.Path.{_≡_, refl, sym, ap, subst, _∙_}
-use mathlib.Core.Bool.{Bool, true, false, cond}
+use mathlib.Core.Path.{_≡_, sym, ap, _∙_}
+use mathlib.Core.Bool.{Bool, true, cond}
 use mathlib.Core.Logic.{_⊎_, inl, inr, _≢_, _↔_}
 use mathlib.Core.List.{List}
 use Prim.Native.Nat.{ℕ, suc, _+_, _*_, _≤_, _<_}
 use native.Mathlib.Omega.{arith}
 use native.Mathlib.Nat.{mul-le-mul-right, suc-mul}
-use lib.ListN.{getD, length, take, length-take}
+use lib.ListN.{getD, length, length-take}
 use lib.Seq.{getD-take}
-use Rattle.definitions.specs.Basics.{largest}
 use Rattle.definitions.specs.Bytes.{Records}
 use Rattle.definitions.specs.Links.{After, Forward, members, delay-at}
 use Rattle.definitions.specs.declared.Delay.the-variants.{Open}
 use Rattle.definitions.specs.Anchors.{InAnchorSet, WellPosed, chain, is-source}
-use Rattle.definitions.specs.Plan.{plan-table, undecided}
-use Rattle.definitions.specs.Answers.{count-of, edges-of, serialized-of}
+use Rattle.definitions.specs.Plan.{undecided}
+use Rattle.definitions.specs.Answers.{count-of, serialized-of}
 use Rattle.laws.proofs.Tests.{largest-above, largest-below}
-use Rattle.theory.specs.Graphs.{Shape, Well}
+use Rattle.theory.specs.Graphs.{Well}
 use Rattle.theory.proofs.Reachability.{in-anchor-set-iff}
 use Rattle.theory.proofs.DecidingSets.{decides-iff}
 use Rattle.theory.proofs.Plans.{plan-well, plan-posed}

@@ -14,7 +14,7 @@ use Rattle.definitions.specs.Basics.{any-below, all-below, test-bit, bits-below
 use Rattle.definitions.specs.Plan.{undecided}
 use Rattle.definitions.specs.Dispatcher.{entry, names, due, ready, starting, start-ticks, sweep}
 use Rattle.definitions.specs.declared.State.{State}
-use Rattle.laws.proofs.Bools.{bool-cases, both-ways, not-passing, and-split, and-join, or-split, or-left, or-right, cond-true, cond-false, same-or-not}
+use Rattle.laws.proofs.Bools.{bool-cases, both-ways, not-passing, and-split, and-join, or-split, or-left, or-right, cond-true, cond-false}
 use Rattle.laws.proofs.Tests.{any-below-has, any-below-by, all-below-each, all-below-by, bits-below-at, last-or-below}
 use Rattle.laws.proofs.Maps.{test-or}
 use Rattle.runs.specs.Runs.{Started, Finished, finish-tick, Starts, SweepFor}

@@ -12,9 +12,9 @@ use Rattle.definitions.specs.declared.State.{State}
 use Rattle.definitions.specs.declared.Delay.the-variants.{Open}
 use Rattle.laws.proofs.Bools.{bool-cases, both-ways}
 use Rattle.demands.specs.Demands.{Accepted, in-start-set, sheet-decides}
-use Rattle.runs.specs.Runs.{Started, Finished, DecidersFinished, WaitsOn, on-hand, on-clock, StateFor}
+use Rattle.runs.specs.Runs.{DecidersFinished, WaitsOn, on-hand, on-clock, StateFor}
 use Rattle.runs.proofs.Sheets.{start-member-below, start-member-trans, start-set-induct, member-open, decider-member}
-use Rattle.runs.proofs.Invariants.{Timely, Invariant, deciders-or-one}
+use Rattle.runs.proofs.Invariants.{Invariant, deciders-or-one}
 use Rattle.runs.proofs.Calls.{still}
 
 module _ {s : List ℕ} {allow : Bool} {q : Records} {w : ℕ} (accepted : Accepted s allow q w) {st : State} (invariant : Invariant q st) where

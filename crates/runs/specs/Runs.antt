@@ -18,7 +18,7 @@ use Rattle.definitions.specs.Dispatcher.{entry, Progress, sweep, begin, ticked,
 use Rattle.definitions.specs.Worked.{stand, stand-table, idle}
 use Rattle.definitions.specs.declared.State.{State}
 use Rattle.definitions.specs.declared.Delay.the-variants.{Open}
-use Rattle.demands.specs.Demands.{Accepted, in-start-set, sheet-decides, our-start, sheet-waits, wait-link, WorkedBytes}
+use Rattle.demands.specs.Demands.{Accepted, in-start-set, sheet-decides, our-start, sheet-waits, wait-link}
 
 -- ## The rule of one call
 
