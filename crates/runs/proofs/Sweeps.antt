@@ -21,7 +21,7 @@ use Rattle.runs.specs.Runs.{Started, Finished, finish-tick, Starts, Swee
 
 module _ (st : State) (table : List ℕ) where
   -- A step that is ready has not started, and each named step is due.
-  pub ready-says : (v : ℕ) → ready st table v ≡ true → (test-bit (st .started) v ≡ false) × ((a : ℕ) → a < st .n → names st table v a ≡ true → due st table v a ≡ true)
+  ready-says : (v : ℕ) → ready st table v ≡ true → (test-bit (st .started) v ≡ false) × ((a : ℕ) → a < st .n → names st table v a ≡ true → due st table v a ≡ true)
   unfolding ready
   ready-says v h =
       let r = and-split (not (test-bit (st .started) v) && any-below (names st table v) (st .n)) (all-below (λ a. not (names st table v a) || due st table v a) (st .n)) h in
@@ -33,7 +33,7 @@ module _ (st : State) (table : List ℕ) where
       go a k (inr t) = t
 
   -- And the other way, where the row names some step.
-  pub ready-by : (v : ℕ) → test-bit (st .started) v ≡ false → (a : ℕ) → a < st .n → names st table v a ≡ true → ((a : ℕ) → a < st .n → names st table v a ≡ true → due st table v a ≡ true) → ready st table v ≡ true
+  ready-by : (v : ℕ) → test-bit (st .started) v ≡ false → (a : ℕ) → a < st .n → names st table v a ≡ true → ((a : ℕ) → a < st .n → names st table v a ≡ true → due st table v a ≡ true) → ready st table v ≡ true
   unfolding ready
   ready-by v f a b k each = and-join (and-join (ap not f) (any-below-by (names st table v) (st .n) b k)) (all-below-by (λ a. not (names st table v a) || due st table v a) (st .n) (λ c l. go c l (bool-cases (names st table v c))))
     where
@@ -42,7 +42,7 @@ module _ (st : State) (table : List ℕ) where
       go c l (inr f) = or-left (due st table v c) (ap not f)
 
   -- The steps that have started after the sweep.
-  pub sweep-started : (v : ℕ) → test-bit (sweep st table .state .started) v ≡ (test-bit (st .started) v || (ltb v (st .n) && ready st table v))
+  sweep-started : (v : ℕ) → test-bit (sweep st table .state .started) v ≡ (test-bit (st .started) v || (ltb v (st .n) && ready st table v))
   unfolding sweep starting
   sweep-started v = test-or (st .started) (bits-below (ready st table) (st .n)) v ∙ ap (λ (b : Bool). test-bit (st .started) v || b) (bits-below-at (ready st table) (st .n) v)
 
@@ -56,7 +56,7 @@ module _ (st : State) (table : List ℕ) where
       go true h = length-set (start-ticks st table k) k (st .tick) ∙ h
       go false h = h
 
-  pub start-ticks-stay : (k v : ℕ) → (ready st table v ≡ false) ⊎ (k ≤ v) → getD (start-ticks st table k) v 0 ≡ getD (st .start) v 0
+  start-ticks-stay : (k v : ℕ) → (ready st table v ≡ false) ⊎ (k ≤ v) → getD (start-ticks st table k) v 0 ≡ getD (st .start) v 0
   unfolding start-ticks
   start-ticks-stay zero v h = refl
   start-ticks-stay (suc k) v h = go (bool-cases (ready st table k)) h (start-ticks-stay k v)
@@ -73,7 +73,7 @@ module _ (st : State) (table : List ℕ) where
       go (inl t) h rest = ap (λ (l : List ℕ). getD l v 0) (cond-true (set (start-ticks st table k) k (st .tick)) (start-ticks st table k) t) ∙ getD-set-other (start-ticks st table k) k v (st .tick) 0 (apart t h) ∙ rest (below h)
       go (inr f) h rest = ap (λ (l : List ℕ). getD l v 0) (cond-false (set (start-ticks st table k) k (st .tick)) (start-ticks st table k) f) ∙ rest (below h)
 
-  pub start-ticks-new : (k v : ℕ) → k ≤ length (st .start) → v < k → ready st table v ≡ true → getD (start-ticks st table k) v 0 ≡ st .tick
+  start-ticks-new : (k v : ℕ) → k ≤ length (st .start) → v < k → ready st table v ≡ true → getD (start-ticks st table k) v 0 ≡ st .tick
   unfolding start-ticks
   start-ticks-new zero v l b h = absurd (omega arith)
   start-ticks-new (suc k) v l b h = go (last-or-below k v b) (bool-cases (ready st table k)) (λ c. start-ticks-new k v (omega arith) c h)
