@@ -64,7 +64,7 @@ pub record IsOpenMap (q : Records) (unbounded : ℕ) : Type 0 where
 pub record IsLent (q : Records) (table : List ℕ) : Type 0 where
   pub plan : take (count-of q * count-of q) table ≡ plan-table (count-of q) (serialized-of q)
 
--- "In a run begun with the sheet's N and open map and lent its table at each call." It begins with a Begin that is not refused, on any state; after it come any calls, refused ones among them: `Run q st`
+-- "In a run begun with the sheet's N and open map and lent its table at each call." It begins with a Begin that is not refused, on any state that has not begun; after it come any calls, refused ones among them: `Run q st`
 -- says that st is a state of such a run. A refused call leaves the state as given (`state-after`).
 pub data Run (q : Records) : State → Type 0 where
   begins : {st : State} (before : State) (unbounded : ℕ) (table : List ℕ) (g : Progress) → IsOpenMap q unbounded → IsLent q table → begin before (count-of q) unbounded table ≡ given g → st ≡ g .state → Run q st
@@ -72,7 +72,8 @@ pub data Run (q : Records) : State → Type 0 where
 
 -- ## The planned tick
 
--- "A reported duration is finish tick less start tick." The subtraction stops at 0: ticks are 0 until then, so a step that has not finished counts as 0. No planned tick that is spoken of depends on it.
+-- "A reported duration is finish tick less start tick." The subtraction stops at 0: ticks are 0 until then, so a step that has not finished counts as 0. No planned tick depends on it
+-- once the deciding steps have finished, since all steps of the start set have finished then.
 abbrev pub reported : State → ℕ → ℕ
 reported st a = finish-tick st a - start-tick st a
 
@@ -111,7 +112,7 @@ pub record StateFor (q : Records) (st : State) : Type 0 where
 abbrev pub RunStates : Type 0
 RunStates = (s : List ℕ) (allow : Bool) (q : Records) (w : ℕ) → Accepted s allow q w → (st : State) → Run q st → StateFor q st
 
--- "Refusal 17: Finish of a step that is not open, is 0, has not started, or has finished." The others can finish.
+-- "17. Finish of a step that is not open, is 0, has not started, or has finished." The others can finish.
 pub record CanFinish (q : Records) (st : State) (x : ℕ) : Type 0 where
   pub exists : x < count-of q
   pub not-source : x ≢ 0
