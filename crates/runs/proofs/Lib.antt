@@ -1,6 +1,7 @@
 pub mod StartSets
 pub mod Sheets
 pub mod Sweeps
+pub mod Changes
 pub mod Invariants
 pub mod Calls
 pub mod Answers

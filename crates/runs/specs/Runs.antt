@@ -14,7 +14,7 @@ use Rattle.definitions.specs.Links.{Constraint, sequencing, minimum, maximum, c
 use Rattle.definitions.specs.Waits.{WaitPair}
 use Rattle.definitions.specs.Plan.{plan-table, undecided}
 use Rattle.definitions.specs.Answers.{count-of, serialized-of}
-use Rattle.definitions.specs.Dispatcher.{entry, Progress, sweep, begin, ticked, tick, ended, finish, Call, beginning, ticking, finishing, called, state-after}
+use Rattle.definitions.specs.Dispatcher.{entry, Progress, sweep, begin, ticked, tick, ended, finish, Call, beginning, ticking, finishing, called, state-after, map-after}
 use Rattle.definitions.specs.Worked.{stand, stand-table, idle}
 use Rattle.definitions.specs.declared.State.{State}
 use Rattle.definitions.specs.declared.Delay.the-variants.{Open}
@@ -131,6 +131,24 @@ pub record AnswersFor (q : Records) (st : State) (table : List ℕ) : Type 0 whe
 abbrev pub RunAnswers : Type 0
 RunAnswers =
     (s : List ℕ) (allow : Bool) (q : Records) (w : ℕ) → Accepted s allow q w → (st : State) → Run q st → (table : List ℕ) → IsLent q table → AnswersFor q st table
+
+-- What a call of a run changes. The start tick of a step is the tick of the call whose map named it, its finish tick is the tick at which its Finish was taken, and no such tick changes later; only a Tick moves
+-- the clock, by one. The map of the Begin names what has started then. Proofs: history-kept, begin-named.
+pub record HistoryFor (st : State) (c : Call) (map : ℕ) (after : State) : Type 0 where
+  pub named : (v : ℕ) → (test-bit map v ≡ true) ↔ ((test-bit (st .started) v ≡ false) × Started after v)
+  pub starts-now : (v : ℕ) → test-bit (st .started) v ≡ false → Started after v → start-tick after v ≡ after .tick
+  pub starts-kept : (v : ℕ) → Started st v → Started after v × (start-tick after v ≡ start-tick st v)
+  pub finishes-now : (v : ℕ) → test-bit (st .finished) v ≡ false → Finished after v → (c ≡ finishing v) × (finish-tick after v ≡ after .tick)
+  pub finishes-kept : (v : ℕ) → Finished st v → Finished after v × (finish-tick after v ≡ finish-tick st v)
+  pub clock : (after .tick ≡ st .tick) ⊎ ((c ≡ ticking) × (after .tick ≡ st .tick + 1))
+
+abbrev pub HistoryKept : Type 0
+HistoryKept =
+    (s : List ℕ) (allow : Bool) (q : Records) (w : ℕ) → Accepted s allow q w → (st : State) → Run q st → (c : Call) (table : List ℕ) → IsLent q table → HistoryFor st c (map-after (called st table c)) (state-after st (called st table c))
+
+abbrev pub BeginNamed : Type 0
+BeginNamed =
+    (before : State) (n unbounded : ℕ) (table : List ℕ) (g : Progress) → begin before n unbounded table ≡ given g → (g .state .tick ≡ 0) × ((v : ℕ) → (test-bit (g .map) v ≡ true) ↔ Started (g .state) v)
 
 -- No run is stuck: a step that has not started waits for an open step of its start set that is at work, or for the clock to come to a planned tick, its own or that of a step of its start set. Proof:
 -- nothing-stuck.
