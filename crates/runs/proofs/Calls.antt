@@ -3,23 +3,21 @@ use mathlib.Core.Path.{_≡_, refl, sym, ap, subst, _∙_}
 use mathlib.Core.Bool.{Bool, true, false, not, _||_}
 use mathlib.Core.Logic.{_⊎_, inl, inr, _≢_}
 use mathlib.Core.List.{List}
-use Prim.Native.Nat.{ℕ, zero, suc, _+_, _-_, _*_, _≤_, _<_}
+use Prim.Native.Nat.{ℕ, zero, suc, _+_, _-_, _≤_, _<_}
 use native.Mathlib.Omega.{arith}
 use native.Mathlib.Decide.{decLe}
 use lib.Dec.{eqb, leb}
 use lib.ListN.{length-set, length-replicate}
-use lib.Seq.{getD-set-same, getD-set-other}
-use borrow.Author.Tests.{eqb-true, eqb-false, eq-eqb, leb-false, not-false}
-use Rattle.definitions.specs.Basics.{test-bit, Outcome, given, refused, refuse-if}
+use borrow.Author.Tests.{eqb-true, eqb-false, leb-false, not-false}
+use Rattle.definitions.specs.Basics.{test-bit, Outcome, given, refused}
 use Rattle.definitions.specs.Bytes.{Records}
 use Rattle.definitions.specs.Links.{delay-at}
-use Rattle.definitions.specs.Answers.{count-of, too-short, bad-count}
-use Rattle.definitions.specs.Dispatcher.{Progress, sweep, begun, not-running, fresh, with-source, begin, ticked, tick, cannot-finish, ended, finish, Call, beginning, ticking, finishing, called, state-after}
+use Rattle.definitions.specs.Answers.{count-of}
+use Rattle.definitions.specs.Dispatcher.{Progress, begun, fresh, with-source, begin, ticked, tick, cannot-finish, ended, finish, Call, called, state-after}
 use Rattle.definitions.specs.declared.State.{State}
 use Rattle.definitions.specs.declared.Delay.the-variants.{Open}
-use Rattle.laws.proofs.Bools.{bool-cases, both-ways, or-split, or-left, or-right, not-passing, same-or-not}
-use Rattle.laws.proofs.Maps.{test-insert, test-pow}
-use Rattle.laws.proofs.Outcomes.{refuse-given, given-same}
+use Rattle.laws.proofs.Bools.{bool-cases, both-ways, or-left, or-right, not-passing, same-or-not}
+use Rattle.laws.proofs.Maps.{test-pow}
 use Rattle.theory.proofs.FirstRows.{zeros-at}
 use Rattle.demands.specs.Demands.{Accepted, in-start-set, sheet-decides, our-start}
 use Rattle.runs.specs.Runs.{IsOpenMap, IsLent, Run, begins, goes-on, Started, Finished, start-tick, finish-tick, reported, planned-tick, DecidersFinished, StateFor, CanFinish}

@@ -8,7 +8,7 @@ use lib.Dec.{eqb}
 use lib.ListN.{length}
 use lib.Seq.{getD-set-same, getD-set-other}
 use borrow.Author.Tests.{eqb-true, eqb-false, eq-eqb}
-use Rattle.definitions.specs.Basics.{test-bit, Outcome, given, refuse-if}
+use Rattle.definitions.specs.Basics.{test-bit, given, refuse-if}
 use Rattle.definitions.specs.Answers.{too-short, bad-count}
 use Rattle.definitions.specs.Dispatcher.{Progress, sweep, begun, not-running, fresh, with-source, begin, ticked, tick, cannot-finish, ended, finish, Call, beginning, ticking, finishing, called}
 use Rattle.definitions.specs.declared.State.{State}

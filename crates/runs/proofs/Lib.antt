@@ -5,6 +5,7 @@ pub mod Changes
 pub mod Invariants
 pub mod Calls
 pub mod Answers
+pub mod History
 pub mod Waiting
 pub mod Certificates
 pub mod Examples

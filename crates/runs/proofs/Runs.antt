@@ -1,10 +1,11 @@
 -- The theorems: one for each statement of specs/Runs.antt, in its order.
 use native.Mathlib.Omega.{arith}
-use Rattle.runs.specs.Runs.{SweepsMeant, PlannedTicks, RunStates, RunAnswers, NothingStuck, Certificate, RunsMet}
+use Rattle.runs.specs.Runs.{SweepsMeant, PlannedTicks, RunStates, RunAnswers, HistoryKept, BeginNamed, NothingStuck, Certificate, RunsMet}
 use Rattle.runs.proofs.Sheets.{decider-member}
 use Rattle.runs.proofs.Sweeps.{sweep-for}
 use Rattle.runs.proofs.Calls.{run-keeps}
 use Rattle.runs.proofs.Answers.{answers-for}
+use Rattle.runs.proofs.History.{begin-names, history-for}
 use Rattle.runs.proofs.Waiting.{waits-on}
 use Rattle.runs.proofs.Certificates.{certified}
 use Rattle.runs.proofs.Examples.{stand-runs}
@@ -27,6 +28,13 @@ run-states s allow q w accepted st run = run-keeps accepted run .timely .state
 -- In a run neither 15 nor 14 applies.
 pub run-answers : RunAnswers
 run-answers s allow q w accepted st run = answers-for accepted (run-keeps accepted run)
+
+-- From the rule of one call.
+pub history-kept : HistoryKept
+history-kept s allow q w accepted st run = history-for accepted (run-keeps accepted run)
+
+pub begin-named : BeginNamed
+begin-named = begin-names
 
 -- By induction along start sets.
 pub nothing-stuck : NothingStuck

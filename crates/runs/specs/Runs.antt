@@ -133,7 +133,7 @@ RunAnswers =
     (s : List ℕ) (allow : Bool) (q : Records) (w : ℕ) → Accepted s allow q w → (st : State) → Run q st → (table : List ℕ) → IsLent q table → AnswersFor q st table
 
 -- What a call of a run changes. The start tick of a step is the tick of the call whose map named it, its finish tick is the tick at which its Finish was taken, and no such tick changes later; only a Tick moves
--- the clock, by one. The map of the Begin names what has started then. Proofs: history-kept, begin-named.
+-- the clock, by one. That holds of every call, whatever table it is lent. The map of the Begin names what has started then, at tick 0. Proofs: history-kept, begin-named.
 pub record HistoryFor (st : State) (c : Call) (map : ℕ) (after : State) : Type 0 where
   pub named : (v : ℕ) → (test-bit map v ≡ true) ↔ ((test-bit (st .started) v ≡ false) × Started after v)
   pub starts-now : (v : ℕ) → test-bit (st .started) v ≡ false → Started after v → start-tick after v ≡ after .tick
@@ -144,7 +144,7 @@ pub record HistoryFor (st : State) (c : Call) (map : ℕ) (after : State) : Type
 
 abbrev pub HistoryKept : Type 0
 HistoryKept =
-    (s : List ℕ) (allow : Bool) (q : Records) (w : ℕ) → Accepted s allow q w → (st : State) → Run q st → (c : Call) (table : List ℕ) → IsLent q table → HistoryFor st c (map-after (called st table c)) (state-after st (called st table c))
+    (s : List ℕ) (allow : Bool) (q : Records) (w : ℕ) → Accepted s allow q w → (st : State) → Run q st → (c : Call) (table : List ℕ) → HistoryFor st c (map-after (called st table c)) (state-after st (called st table c))
 
 abbrev pub BeginNamed : Type 0
 BeginNamed =
