@@ -1,34 +1,37 @@
 -- Each call keeps the invariant of a run: Tick, Finish, and Begin, which a run that has begun refuses. A refused call changes nothing.
 use mathlib.Core.Path.{_≡_, refl, sym, ap, subst, _∙_}
-use mathlib.Core.Bool.{Bool, true, false, not, _&&_, _||_}
-use mathlib.Core.Logic.{_⊎_, inl, inr, _≢_, _↔_}
+use mathlib.Core.Bool.{Bool, true, false, not, _||_}
+use mathlib.Core.Logic.{_⊎_, inl, inr, _≢_}
 use mathlib.Core.List.{List}
-use Prim.Native.Nat.{ℕ, zero, suc, _+_, _-_, _*_, _^_, _≤_, _<_}
+use Prim.Native.Nat.{ℕ, zero, suc, _+_, _-_, _≤_, _<_}
 use native.Mathlib.Omega.{arith}
 use native.Mathlib.Decide.{decLe}
 use lib.Dec.{eqb, leb}
-use lib.ListN.{length, getD, set, replicate, length-set, length-replicate}
-use lib.Seq.{getD-set-same, getD-set-other}
-use borrow.Author.Tests.{eqb-true, eqb-false, eq-eqb, leb-false, not-true, not-false}
-use Rattle.definitions.specs.Basics.{test-bit, Outcome, given, refused, refuse-if}
+use lib.ListN.{length-set, length-replicate}
+use borrow.Author.Tests.{eqb-true, eqb-false, leb-false, not-false}
+use Rattle.definitions.specs.Basics.{test-bit, Outcome, given, refused}
 use Rattle.definitions.specs.Bytes.{Records}
 use Rattle.definitions.specs.Links.{delay-at}
-use Rattle.definitions.specs.Answers.{count-of, too-short, bad-count}
-use Rattle.definitions.specs.Dispatcher.{Progress, sweep, begun, not-running, fresh, with-source, begin, ticked, tick, cannot-finish, ended, finish, Call, beginning, ticking, finishing, called, state-after}
+use Rattle.definitions.specs.Answers.{count-of}
+use Rattle.definitions.specs.Dispatcher.{Progress, begun, fresh, with-source, begin, ticked, tick, cannot-finish, ended, finish, Call, called, state-after}
 use Rattle.definitions.specs.declared.State.{State}
 use Rattle.definitions.specs.declared.Delay.the-variants.{Open}
-use Rattle.laws.proofs.Bools.{bool-cases, both-ways, or-split, or-left, or-right, not-passing, same-or-not}
-use Rattle.laws.proofs.Maps.{test-insert, test-pow}
-use Rattle.laws.proofs.Outcomes.{refuse-given, given-same}
+use Rattle.laws.proofs.Bools.{bool-cases, both-ways, or-left, or-right, not-passing, same-or-not}
+use Rattle.laws.proofs.Maps.{test-pow}
 use Rattle.theory.proofs.FirstRows.{zeros-at}
 use Rattle.demands.specs.Demands.{Accepted, in-start-set, sheet-decides, our-start}
-use Rattle.runs.specs.Runs.{IsOpenMap, IsLent, Run, begins, goes-on, Started, Finished, start-tick, finish-tick, reported, planned-tick, DecidersFinished, StateFor}
+use Rattle.runs.specs.Runs.{IsOpenMap, IsLent, Run, begins, goes-on, Started, Finished, start-tick, finish-tick, reported, planned-tick, DecidersFinished, StateFor, CanFinish}
 use Rattle.runs.proofs.Sheets.{some-steps, few-steps, source-member, our-start-source, our-start-above}
+use Rattle.runs.proofs.Changes.{ended-finished, ended-still, ended-own, ended-own-tick, ended-other-tick, Given, begins-anew, ticks-on, ends, begin-gives, call-gives}
 use Rattle.runs.proofs.Invariants.{Timely, Invariant, NotLate, reported-source, finished-term, all-finished, planned-agrees, swept}
 
 -- A row of refusals that ends in an answer: each test fails.
 or-fails : (a b : Bool) → (a || b) ≡ false → (a ≡ false) × (b ≡ false)
 or-fails a b h = (not-passing a (λ t. both-ways (or-left b t) h), not-passing b (λ t. both-ways (or-right a t) h))
+
+pub not-zero : (x : ℕ) → x ≢ 0 → 0 < x
+not-zero zero z = absurd (z refl)
+not-zero (suc x) z = omega arith
 
 module _ {s : List ℕ} {allow : Bool} {q : Records} {w : ℕ} (accepted : Accepted s allow q w) where
   -- ## Begin
@@ -67,15 +70,8 @@ module _ {s : List ℕ} {allow : Bool} {q : Records} {w : ℕ} (accepted : Accep
   }
 
   pub begin-keeps : (before : State) (unbounded : ℕ) (table : List ℕ) (g : Progress) → IsOpenMap q unbounded → IsLent q table → begin before (count-of q) unbounded table ≡ given g → Invariant q (g .state)
-  unfolding begin with-source
   begin-keeps before unbounded table g opens lent h =
-      let made = with-source (sweep (fresh (count-of q) unbounded) table) in
-      let third = refuse-if (too-short table (count-of q * count-of q)) 14 (given made) in
-      let second = refuse-if (bad-count (count-of q)) 2 third in
-      let r = refuse-given (begun before) 16 second g .0 h in
-      let r₂ = refuse-given (bad-count (count-of q)) 2 third g .0 (r .1) in
-      let r₃ = refuse-given (too-short table (count-of q * count-of q)) 14 (given made) g .0 (r₂ .1) in
-      subst (λ (x : Progress). Invariant q (x .state)) (given-same (r₃ .1)) (swept accepted lent (fresh-in-time unbounded opens))
+      subst (λ (x : Progress). Invariant q (x .state)) (sym (begin-gives before (count-of q) unbounded table g h)) (unfold with-source in swept accepted lent (fresh-in-time unbounded opens))
 
   module _ {st : State} (before : Invariant q st) where
     timely : Timely q st
@@ -127,65 +123,32 @@ module _ {s : List ℕ} {allow : Bool} {q : Records} {w : ℕ} (accepted : Accep
 
     -- ## Finish
 
-    module _ (x : ℕ) (can : cannot-finish st x ≡ false) where
-      -- What the refusal 17 leaves: x is a step, open, has started and has not finished.
-      record Finishes : Type 0 where
-        not-source : x ≢ 0
-        exists : x < count-of q
-        lasts : delay-at (q .steps) x ≡ Open
-        started : Started st x
-        running : test-bit (st .finished) x ≡ false
+    -- Where the refusal 17 does not apply, the step can finish.
+    pub can-finish : (x : ℕ) → cannot-finish st x ≡ false → CanFinish q st x
+    unfolding cannot-finish
+    can-finish x can =
+        let a = eqb x 0 in
+        let b = leb (st .n) x in
+        let c = not (test-bit (st .unbounded) x) in
+        let d = not (test-bit (st .started) x) in
+        let e = test-bit (st .finished) x in
+        let r₁ = or-fails (a || b || c || d) e can in
+        let r₂ = or-fails (a || b || c) d (r₁ .0) in
+        let r₃ = or-fails (a || b) c (r₂ .0) in
+        let r₄ = or-fails a b (r₃ .0) in
+        let z : x ≢ 0 = eqb-false x 0 (r₄ .0) in
+        let l : x < count-of q = omega (arith, leb-false (st .n) x (r₄ .1), facts .count) in
+        record { exists = l; not-source = z; lasts = facts .open-map .stands x (not-zero x z) l .0 (not-false (test-bit (st .unbounded) x) (r₃ .1)); started = not-false (test-bit (st .started) x) (r₂ .1); running = r₁ .1 }
 
-      finishes : Finishes
-      unfolding cannot-finish
-      finishes =
-          let a = eqb x 0 in
-          let b = leb (st .n) x in
-          let c = not (test-bit (st .unbounded) x) in
-          let d = not (test-bit (st .started) x) in
-          let e = test-bit (st .finished) x in
-          let r₁ = or-fails (a || b || c || d) e can in
-          let r₂ = or-fails (a || b || c) d (r₁ .0) in
-          let r₃ = or-fails (a || b) c (r₂ .0) in
-          let r₄ = or-fails a b (r₃ .0) in
-          let z : x ≢ 0 = eqb-false x 0 (r₄ .0) in
-          let l : x < count-of q = omega (arith, leb-false (st .n) x (r₄ .1), facts .count) in
-          record { not-source = z; exists = l; lasts = facts .open-map .stands x (positive z) l .0 (not-false (test-bit (st .unbounded) x) (r₃ .1)); started = not-false (test-bit (st .started) x) (r₂ .1); running = r₁ .1 }
-        where
-          positive : x ≢ 0 → 0 < x
-          positive z = go (same-or-not x 0)
-            where
-              go : (x ≡ 0) ⊎ (x ≢ 0) → 0 < x
-              go (inl e) = absurd (z e)
-              go (inr n) = omega arith
+    module _ (x : ℕ) (can : cannot-finish st x ≡ false) where
+      finishes : CanFinish q st x
+      finishes = can-finish x can
 
       abbrev next : State
       next = ended st x
 
-      -- What has finished now: what had, and x.
-      finished-now : (v : ℕ) → Finished next v → Finished st v ⊎ (v ≡ x)
-      unfolding ended
-      finished-now v h = go (or-split (test-bit (st .finished) v) (eqb v x) (sym (test-insert (st .finished) x v) ∙ h))
-        where
-          go : (test-bit (st .finished) v ≡ true) ⊎ (eqb v x ≡ true) → Finished st v ⊎ (v ≡ x)
-          go (inl t) = inl t
-          go (inr t) = inr (eqb-true v x t)
-
-      finished-still : (v : ℕ) → Finished st v → Finished next v
-      unfolding ended
-      finished-still v h = test-insert (st .finished) x v ∙ or-left (eqb v x) h
-
-      finished-own : Finished next x
-      unfolding ended
-      finished-own = test-insert (st .finished) x x ∙ or-right (test-bit (st .finished) x) (eq-eqb x x refl)
-
       own-tick : finish-tick next x ≡ st .tick
-      unfolding ended
-      own-tick = getD-set-same (st .finish) x (st .tick) 0 (omega (arith, finishes .exists, few-steps accepted, timely .finishes-size))
-
-      other-tick : (v : ℕ) → v ≢ x → finish-tick next v ≡ finish-tick st v
-      unfolding ended
-      other-tick v z = getD-set-other (st .finish) x v (st .tick) 0 z
+      own-tick = ended-own-tick st x (omega (arith, finishes .exists, few-steps accepted, timely .finishes-size))
 
       finished-other : (v : ℕ) → Finished st v → v ≢ x
       finished-other v h e = both-ways (subst (Finished st) e h) (finishes .running)
@@ -193,7 +156,7 @@ module _ {s : List ℕ} {allow : Bool} {q : Records} {w : ℕ} (accepted : Accep
       -- The reported durations of the others stay; so the planned ticks of steps whose members have all finished stay.
       others-reported : (a : ℕ) → Finished st a → reported next a ≡ reported st a
       unfolding ended
-      others-reported a h = ap (λ (y : ℕ). y - start-tick st a) (other-tick a (finished-other a h))
+      others-reported a h = ap (λ (y : ℕ). y - start-tick st a) (ended-other-tick st x a (finished-other a h))
 
       others-planned : (v : ℕ) → v < count-of q → ((a : ℕ) → in-start-set q a v ≡ true → Finished st a) → planned-tick q next v ≡ planned-tick q st v
       others-planned = planned-agrees accepted timely (reported next) others-reported
@@ -204,15 +167,15 @@ module _ {s : List ℕ} {allow : Bool} {q : Records} {w : ℕ} (accepted : Accep
         count = facts .count;
         open-map = facts .open-map;
         clock = facts .clock;
-        source = (facts .source .0, finished-still 0 (facts .source .1), facts .source .2, other-tick 0 (finished-other 0 (facts .source .1)) ∙ facts .source .3);
+        source = (facts .source .0, ended-still st x 0 (facts .source .1), facts .source .2, ended-other-tick st x 0 (finished-other 0 (facts .source .1)) ∙ facts .source .3);
         only-steps = facts .only-steps;
-        finished-started = λ v h. started v (finished-now v h);
-        finished-open = λ v h. lasts v (finished-now v h);
-        in-order = λ v h. ordered v (finished-now v h);
+        finished-started = λ v h. started v (ended-finished st x v h);
+        finished-open = λ v h. lasts v (ended-finished st x v h);
+        in-order = λ v h. ordered v (ended-finished st x v h);
         starts-past = facts .starts-past;
         finishes-past = λ v. past v (same-or-not v x);
         not-started = facts .not-started;
-        not-finished = λ v f. other-tick v (λ e. both-ways (subst (Finished (ended st x)) (sym e) finished-own) f) ∙ facts .not-finished v (not-passing (test-bit (st .finished) v) (λ t. both-ways (finished-still v t) f));
+        not-finished = λ v f. ended-other-tick st x v (λ e. both-ways (subst (Finished (ended st x)) (sym e) (ended-own st x)) f) ∙ facts .not-finished v (not-passing (test-bit (st .finished) v) (λ t. both-ways (ended-still st x v t) f));
       }
         where
           started : (v : ℕ) → Finished st v ⊎ (v ≡ x) → Started st v
@@ -224,12 +187,12 @@ module _ {s : List ℕ} {allow : Bool} {q : Records} {w : ℕ} (accepted : Accep
           lasts v (inr e) = inr (subst (λ (i : ℕ). delay-at (q .steps) i ≡ Open) (sym e) (finishes .lasts))
 
           ordered : (v : ℕ) → Finished st v ⊎ (v ≡ x) → start-tick st v ≤ finish-tick (ended st x) v
-          ordered v (inl h) = omega (arith, facts .in-order v h, other-tick v (finished-other v h))
+          ordered v (inl h) = omega (arith, facts .in-order v h, ended-other-tick st x v (finished-other v h))
           ordered v (inr e) = omega (arith, facts .starts-past v, ap (finish-tick (ended st x)) e, own-tick)
 
           past : (v : ℕ) → (v ≡ x) ⊎ (v ≢ x) → finish-tick (ended st x) v ≤ st .tick
           past v (inl e) = omega (arith, ap (finish-tick (ended st x)) e, own-tick)
-          past v (inr z) = omega (arith, other-tick v z, facts .finishes-past v)
+          past v (inr z) = omega (arith, ended-other-tick st x v z, facts .finishes-past v)
 
       next-timely : Timely q next
       unfolding ended
@@ -237,7 +200,7 @@ module _ {s : List ℕ} {allow : Bool} {q : Records} {w : ℕ} (accepted : Accep
         state = next-state;
         starts-size = timely .starts-size;
         finishes-size = length-set (st .finish) x (st .tick) ∙ timely .finishes-size;
-        members-finished = λ a v h i. finished-still a (timely .members-finished a v h i);
+        members-finished = λ a v h i. ended-still st x a (timely .members-finished a v h i);
         at-planned = λ v h. timely .at-planned v h ∙ sym (others-planned v (facts .only-steps v h) (λ a i. timely .members-finished a v h i));
       }
 
@@ -252,50 +215,23 @@ module _ {s : List ℕ} {allow : Bool} {q : Records} {w : ℕ} (accepted : Accep
           go : (v : ℕ) → v < count-of q → test-bit (ended st x .started) v ≡ false → DecidersFinished q (ended st x) v → (sheet-decides q x v ≡ true) ⊎ (sheet-decides q x v ≡ false) → ended st x .tick ≤ planned-tick q (ended st x) v
           go v b f D (inl k) =
               let t : ended st x .tick ≡ st .tick = unfold ended in refl in
-              omega (arith, t, own-tick, finished-term accepted next-timely x v finished-own, our-start-above accepted (reported (ended st x)) (reported-source accepted next-timely) x v b k)
+              omega (arith, t, own-tick, finished-term accepted next-timely x v (ended-own st x), our-start-above accepted (reported (ended st x)) (reported-source accepted next-timely) x v b k)
           go v b f D (inr n) =
               let t : ended st x .tick ≡ st .tick = unfold ended in refl in
               let f′ : test-bit (st .started) v ≡ false = unfold ended in f in
-              let D′ : DecidersFinished q st v = λ a k. had v n a k (finished-now a (D a k)) in
+              let D′ : DecidersFinished q st v = λ a k. had v n a k (ended-finished st x a (D a k)) in
               omega (arith, t, still v b f′ D′, others-planned v b (all-finished accepted timely v b D′))
 
     -- ## Every call
 
-    begun-already : (n unbounded : ℕ) (table : List ℕ) {g : Progress} → begin st n unbounded table ≡ given g → ⊥
-    unfolding begin begun
-    begun-already n unbounded table {g} h =
-        let rest = refuse-if (bad-count n) 2 (refuse-if (too-short table (n * n)) 14 (given (with-source (sweep (fresh n unbounded) table)))) in
-        both-ways (facts .source .0) (refuse-given (test-bit (st .started) 0) 16 rest g .0 h .0)
-
-    tick-keeps : {table : List ℕ} {g : Progress} → IsLent q table → tick st table ≡ given g → Invariant q (g .state)
-    unfolding tick
-    tick-keeps {table} {g} lent h =
-        let third = refuse-if (eqb (st .tick) 4294967295) 18 (given (sweep (ticked st) table)) in
-        let second = refuse-if (too-short table (st .n * st .n)) 14 third in
-        let r = refuse-given (not-running st) 15 second g .0 h in
-        let r₂ = refuse-given (too-short table (st .n * st .n)) 14 third g .0 (r .1) in
-        let r₃ = refuse-given (eqb (st .tick) 4294967295) 18 (given (sweep (ticked st) table)) g .0 (r₂ .1) in
-        subst (λ (y : Progress). Invariant q (y .state)) (given-same (r₃ .1)) (swept accepted lent (ticked-in-time (eqb-false (st .tick) 4294967295 (r₃ .0))))
-
-    finish-keeps : (x : ℕ) {table : List ℕ} {g : Progress} → IsLent q table → finish st x table ≡ given g → Invariant q (g .state)
-    unfolding finish
-    finish-keeps x {table} {g} lent h =
-        let third = refuse-if (cannot-finish st x) 17 (given (sweep (ended st x) table)) in
-        let second = refuse-if (too-short table (st .n * st .n)) 14 third in
-        let r = refuse-given (not-running st) 15 second g .0 h in
-        let r₂ = refuse-given (too-short table (st .n * st .n)) 14 third g .0 (r .1) in
-        let r₃ = refuse-given (cannot-finish st x) 17 (given (sweep (ended st x) table)) g .0 (r₂ .1) in
-        subst (λ (y : Progress). Invariant q (y .state)) (given-same (r₃ .1)) (swept accepted lent (ended-in-time x (r₃ .0)))
-
-    given-keeps : (c : Call) {table : List ℕ} {g : Progress} → IsLent q table → called st table c ≡ given g → Invariant q (g .state)
-    unfolding called
-    given-keeps (beginning n unbounded) {table} lent h = absurd (begun-already n unbounded table h)
-    given-keeps ticking lent h = tick-keeps lent h
-    given-keeps (finishing x) lent h = finish-keeps x lent h
+    given-keeps : {c : Call} {table : List ℕ} {g : Progress} → IsLent q table → Given st table c g → Invariant q (g .state)
+    given-keeps lent (begins-anew n unbounded e f h) = absurd (both-ways (facts .source .0) (unfold begun in f))
+    given-keeps lent (ticks-on e z h) = subst (λ (y : Progress). Invariant q (y .state)) (sym h) (swept accepted lent (ticked-in-time z))
+    given-keeps lent (ends x e f h) = subst (λ (y : Progress). Invariant q (y .state)) (sym h) (swept accepted lent (ended-in-time x f))
 
     pub call-keeps : (c : Call) {table : List ℕ} → IsLent q table → Invariant q (state-after st (called st table c))
     unfolding state-after
-    call-keeps c {table} lent = go (called st table c) (λ g h. given-keeps c lent h)
+    call-keeps c {table} lent = go (called st table c) (λ g h. given-keeps lent (call-gives st table c g h))
       where
         go : (o : Outcome Progress) → ((g : Progress) → o ≡ given g → Invariant q (g .state)) → Invariant q (state-after st o)
         go (given g) h = h g refl

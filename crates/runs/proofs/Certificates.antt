@@ -2,30 +2,27 @@
 --
 -- Take durations that are the reported ones where a step has finished, and longer than the tick where it has not. Our starts for these durations keep every link and wait, agree with the start ticks of
 -- steps that have started, and put every step that has not started after the tick. What they keep is then read off the ticks.
-use mathlib.Core.Path.{_≡_, refl, sym, ap, _∙_}
-use mathlib.Core.Bool.{Bool, true, false, cond, not, _&&_}
+use mathlib.Core.Path.{_≡_, refl, sym, _∙_}
+use mathlib.Core.Bool.{Bool, true, false, cond}
 use mathlib.Core.Logic.{_⊎_, inl, inr, _≢_}
-use mathlib.Core.List.{List, List·Memᴰ}
+use mathlib.Core.List.{List}
 use Prim.Native.Nat.{ℕ, zero, suc, _+_, _≤_, _<_}
 use native.Mathlib.Omega.{arith}
-use Rattle.definitions.specs.Basics.{any-below, test-bit}
+use Rattle.definitions.specs.Basics.{test-bit}
 use Rattle.definitions.specs.Bytes.{Records}
-use Rattle.definitions.specs.Links.{Constraint, sequencing, minimum, maximum, constraints, delay-at, duration-with, duration, Keeps}
+use Rattle.definitions.specs.Links.{Constraint, sequencing, minimum, maximum, delay-at, duration-with, duration, Keeps}
 use Rattle.definitions.specs.Answers.{count-of}
 use Rattle.definitions.specs.declared.State.{State}
 use Rattle.definitions.specs.declared.Delay.{Delay}
 use Rattle.definitions.specs.declared.Delay.the-variants.{Open, Fixed}
-use Rattle.laws.proofs.Bools.{bool-cases, both-ways, and-join, cond-true, cond-false}
-use Rattle.laws.proofs.Tests.{any-below-has, any-below-none}
-use Rattle.laws.proofs.Bools.{and-split}
-use borrow.Author.Tests.{not-true}
-use Rattle.demands.specs.Demands.{Accepted, KeptFor, sheet-decides, our-start, wait-link}
+use Rattle.laws.proofs.Bools.{bool-cases, cond-true, cond-false}
+use Rattle.demands.specs.Demands.{Accepted, sheet-decides, our-start, wait-link}
 use Rattle.demands.proofs.Edges.{Ends, sheet-ends}
 use Rattle.demands.proofs.Meaning.{wait-of}
 use Rattle.demands.proofs.OurStarts.{accepted-fits, kept-for}
-use Rattle.runs.specs.Runs.{Started, Finished, start-tick, finish-tick, reported, planned-tick, DecidersFinished, StateFor, AfterHolds, AtLeastHolds, AtMostHolds, Holds, Certified}
-use Rattle.runs.proofs.Sheets.{decider-below, our-start-above}
-use Rattle.runs.proofs.Invariants.{Timely, Invariant, reported-source, all-finished, planned-agrees}
+use Rattle.runs.specs.Runs.{Started, Finished, start-tick, reported, DecidersFinished, StateFor, AfterHolds, AtLeastHolds, AtMostHolds, Holds, Certified}
+use Rattle.runs.proofs.Sheets.{our-start-above}
+use Rattle.runs.proofs.Invariants.{Timely, Invariant, reported-source, deciders-or-one, all-finished, planned-agrees}
 use Rattle.runs.proofs.Calls.{still}
 
 -- The duration of a step is taken from the delays only where it is open and not step 0.
@@ -67,24 +64,11 @@ module _ {s : List ℕ} {allow : Bool} {q : Records} {w : ℕ} (accepted : Accep
 
   -- and put every step that has not started after the tick: one of its deciding steps outlasts the tick, or its planned tick is still to come.
   later-start : (v : ℕ) → v < count-of q → test-bit (st .started) v ≡ false → st .tick < our-start q outlasting v
-  later-start v b f = go (bool-cases (any-below unfinished (count-of q)))
+  later-start v b f = go (deciders-or-one accepted timely v b)
     where
-      unfinished : ℕ → Bool
-      unfinished a = sheet-decides q a v && not (test-bit (st .finished) a)
-
-      ended : any-below unfinished (count-of q) ≡ false → DecidersFinished q st v
-      ended n a k = by (bool-cases (test-bit (st .finished) a))
-        where
-          by : (test-bit (st .finished) a ≡ true) ⊎ (test-bit (st .finished) a ≡ false) → Finished st a
-          by (inl t) = t
-          by (inr e) = absurd (both-ways (and-join k (ap not e)) (any-below-none unfinished (count-of q) n a (decider-below accepted a v b k)))
-
-      go : (any-below unfinished (count-of q) ≡ true) ⊎ (any-below unfinished (count-of q) ≡ false) → st .tick < our-start q outlasting v
-      go (inl t) =
-          let r = any-below-has unfinished (count-of q) t in
-          let k = and-split (sheet-decides q (r .0) v) (not (test-bit (st .finished) (r .0))) (r .2) in
-          omega (arith, our-start-above accepted outlasting outlasting-source (r .0) v b (k .0), outlasting-running (r .0) (not-true (test-bit (st .finished) (r .0)) (k .1)))
-      go (inr n) = omega (arith, still accepted invariant v b f (ended n), planned-agrees accepted timely outlasting outlasting-finished v b (all-finished accepted timely v b (ended n)))
+      go : DecidersFinished q st v ⊎ ((a : ℕ) × (sheet-decides q a v ≡ true) × (test-bit (st .finished) a ≡ false)) → st .tick < our-start q outlasting v
+      go (inl D) = omega (arith, still accepted invariant v b f D, planned-agrees accepted timely outlasting outlasting-finished v b (all-finished accepted timely v b D))
+      go (inr r) = omega (arith, our-start-above accepted outlasting outlasting-source (r .0) v b (r .1), outlasting-running (r .0) (r .2))
 
   -- What starts no later than a step that has started has started.
   starts-before : (i j : ℕ) → i < count-of q → Started st j → our-start q outlasting i ≤ our-start q outlasting j → Started st i

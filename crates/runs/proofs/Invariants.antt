@@ -2,31 +2,26 @@
 --
 -- A step cannot be late. Offsets are at least 0, so the last of its deciding steps finishes at a tick that is not above the planned one; and the planned tick of a step that has started no longer changes,
 -- because all members of its start set have finished.
-use mathlib.Core.Path.{_≡_, refl, sym, ap, subst, _∙_}
-use mathlib.Core.Bool.{Bool, true, false, cond, not, _&&_, _||_}
-use mathlib.Core.Logic.{_⊎_, inl, inr, _≢_, _↔_}
+use mathlib.Core.Path.{_≡_, sym, ap, subst, _∙_}
+use mathlib.Core.Bool.{Bool, true, false, cond, not, _&&_}
+use mathlib.Core.Logic.{_⊎_, inl, inr, _≢_}
 use mathlib.Core.List.{List}
-use Prim.Native.Nat.{ℕ, zero, suc, _+_, _-_, _*_, _^_, _≤_, _<_}
+use Prim.Native.Nat.{ℕ, _+_, _-_, _*_, _≤_, _<_}
 use native.Mathlib.Omega.{arith}
-use native.Mathlib.Decide.{decLe, decLt}
-use lib.Dec.{eqb, leb, ltb}
-use lib.ListN.{length, getD, set, replicate, length-set, length-replicate}
-use lib.Seq.{getD-set-same, getD-set-other}
-use borrow.Author.Tests.{eqb-true, eqb-false, eq-eqb, ne-eqb, leb-true, leb-false, le-leb, ltb-true, lt-ltb, le-ltb, not-true, not-false}
-use Rattle.definitions.specs.Basics.{test-bit, given, refused}
+use lib.ListN.{length, getD}
+use borrow.Author.Tests.{not-true}
+use Rattle.definitions.specs.Basics.{any-below, test-bit}
 use Rattle.definitions.specs.Bytes.{Records}
-use Rattle.definitions.specs.Links.{delay-at}
 use Rattle.definitions.specs.Plan.{undecided}
 use Rattle.definitions.specs.Answers.{count-of}
-use Rattle.definitions.specs.Dispatcher.{entry, names, due, ready, start-ticks, Progress, sweep, fresh, ticked, ended}
+use Rattle.definitions.specs.Dispatcher.{entry, sweep}
 use Rattle.definitions.specs.declared.State.{State}
-use Rattle.definitions.specs.declared.Delay.the-variants.{Open}
-use Rattle.laws.proofs.Bools.{bool-cases, both-ways, and-split, and-join, or-split, or-left, or-right, not-passing, cond-true, cond-false, same-or-not}
-use Rattle.laws.proofs.Maps.{test-insert, test-pow, test-zero}
+use Rattle.laws.proofs.Bools.{bool-cases, both-ways, and-split, and-join, not-passing, cond-true, cond-false}
+use Rattle.laws.proofs.Tests.{any-below-has, any-below-none}
 use Rattle.demands.specs.Demands.{Accepted, in-start-set, sheet-offset, sheet-decides, our-start, term}
-use Rattle.runs.specs.Runs.{IsOpenMap, IsLent, Started, Finished, start-tick, finish-tick, reported, planned-tick, DecidersFinished, StateFor}
-use Rattle.runs.proofs.Sheets.{some-steps, few-steps, start-member-below, decider-member, decider-below, some-decider, member-decider, our-start-agrees, our-start-source, our-start-above, our-start-below, lent-entry, lent-apart}
-use Rattle.runs.proofs.Sweeps.{ready-says, ready-by, sweep-started, start-ticks-length, start-ticks-stay, start-ticks-new}
+use Rattle.runs.specs.Runs.{Starts, SweepFor, IsLent, Started, Finished, start-tick, finish-tick, reported, planned-tick, DecidersFinished, StateFor}
+use Rattle.runs.proofs.Sheets.{few-steps, decider-below, some-decider, member-decider, our-start-agrees, our-start-above, our-start-below, lent-entry, lent-apart}
+use Rattle.runs.proofs.Sweeps.{start-ticks-length, sweep-for}
 
 -- What holds before the sweep of a call and after it.
 pub record Timely (q : Records) (st : State) : Type 0 where
@@ -63,6 +58,24 @@ module _ {s : List ℕ} {allow : Bool} {q : Records} {w : ℕ} (accepted : Accep
     pub finished-term : (a v : ℕ) → Finished st a → term q (reported st) v a ≡ finish-tick st a + sheet-offset q a v
     finished-term a v f = omega (arith, timely .at-planned a (timely .state .finished-started a f), timely .state .in-order a f)
 
+    -- The deciding steps have all finished, or one has not. By search.
+    pub deciders-or-one : (v : ℕ) → v < count-of q → DecidersFinished q st v ⊎ ((a : ℕ) × (sheet-decides q a v ≡ true) × (test-bit (st .finished) a ≡ false))
+    deciders-or-one v b = go (bool-cases (any-below unfinished (count-of q)))
+      where
+        unfinished : ℕ → Bool
+        unfinished a = sheet-decides q a v && not (test-bit (st .finished) a)
+
+        done : any-below unfinished (count-of q) ≡ false → (a : ℕ) → sheet-decides q a v ≡ true → (test-bit (st .finished) a ≡ true) ⊎ (test-bit (st .finished) a ≡ false) → Finished st a
+        done n a k (inl t) = t
+        done n a k (inr f) = absurd (both-ways (and-join k (ap not f)) (any-below-none unfinished (count-of q) n a (decider-below accepted a v b k)))
+
+        go : (any-below unfinished (count-of q) ≡ true) ⊎ (any-below unfinished (count-of q) ≡ false) → DecidersFinished q st v ⊎ ((a : ℕ) × (sheet-decides q a v ≡ true) × (test-bit (st .finished) a ≡ false))
+        go (inl t) =
+            let r = any-below-has unfinished (count-of q) t in
+            let k = and-split (sheet-decides q (r .0) v) (not (test-bit (st .finished) (r .0))) (r .2) in
+            inr (r .0, k .0, not-true (test-bit (st .finished) (r .0)) (k .1))
+        go (inr n) = inl (λ a k. done n a k (bool-cases (test-bit (st .finished) a)))
+
     -- Where the deciding steps have finished, all members have.
     pub all-finished : (v : ℕ) → v < count-of q → DecidersFinished q st v → (a : ℕ) → in-start-set q a v ≡ true → Finished st a
     all-finished v b D a h =
@@ -89,6 +102,10 @@ module _ {s : List ℕ} {allow : Bool} {q : Records} {w : ℕ} (accepted : Accep
     abbrev after : State
     after = sweep st table .state
 
+    -- The rule, in document 01's words.
+    rule : SweepFor st table
+    rule = sweep-for st table (omega (arith, timely .starts-size, facts .count, few-steps accepted))
+
     -- A row of the plan names the deciding steps, with their offsets.
     entry-of : (v a : ℕ) → v < count-of q → a < count-of q → entry st table v a ≡ cond (sheet-decides q a v) (sheet-offset q a v) undecided
     unfolding entry
@@ -97,79 +114,64 @@ module _ {s : List ℕ} {allow : Bool} {q : Records} {w : ℕ} (accepted : Accep
     entry-decides : (v a : ℕ) → v < count-of q → sheet-decides q a v ≡ true → entry st table v a ≡ sheet-offset q a v
     entry-decides v a b h = entry-of v a b (decider-below accepted a v b h) ∙ cond-true (sheet-offset q a v) undecided h
 
-    names-decides : (v a : ℕ) → v < count-of q → sheet-decides q a v ≡ true → names st table v a ≡ true
-    unfolding names
-    names-decides v a b h = ap not (ne-eqb (entry st table v a) undecided (λ e. omega (arith, e, entry-decides v a b h, lent-apart accepted lent v a b h)))
+    decides-named : (v a : ℕ) → v < count-of q → sheet-decides q a v ≡ true → entry st table v a ≢ undecided
+    decides-named v a b h e = omega (arith, e, entry-decides v a b h, lent-apart accepted lent v a b h)
 
-    decides-names : (v a : ℕ) → v < count-of q → a < count-of q → names st table v a ≡ true → sheet-decides q a v ≡ true
-    unfolding names
-    decides-names v a b c h = go (bool-cases (sheet-decides q a v))
+    named-decides : (v a : ℕ) → v < count-of q → a < count-of q → entry st table v a ≢ undecided → sheet-decides q a v ≡ true
+    named-decides v a b c z = go (bool-cases (sheet-decides q a v))
       where
         go : (sheet-decides q a v ≡ true) ⊎ (sheet-decides q a v ≡ false) → sheet-decides q a v ≡ true
         go (inl t) = t
-        go (inr f) = absurd (both-ways (eq-eqb (entry st table v a) undecided (entry-of v a b c ∙ cond-false (sheet-offset q a v) undecided f)) (not-true (eqb (entry st table v a) undecided) h))
+        go (inr f) = absurd (z (entry-of v a b c ∙ cond-false (sheet-offset q a v) undecided f))
 
-    -- A ready step: its deciding steps have finished, and its planned tick is the tick.
-    ready-finished : (v : ℕ) → v < count-of q → ready st table v ≡ true → (a : ℕ) → sheet-decides q a v ≡ true → Finished st a × (finish-tick st a + sheet-offset q a v ≤ st .tick)
-    unfolding due
-    ready-finished v b h a k =
-        let c : a < st .n = omega (arith, decider-below accepted a v b k, facts .count) in
-        let r = and-split (test-bit (st .finished) a) (leb (getD (st .finish) a 0 + entry st table v a) (st .tick)) (ready-says st table v h .1 a c (names-decides v a b k)) in
-        (r .0, omega (arith, leb-true (getD (st .finish) a 0 + entry st table v a) (st .tick) (r .1), entry-decides v a b k))
+    below : (v : ℕ) → v < st .n → v < count-of q
+    below v b = omega (arith, facts .count)
 
-    ready-planned : (v : ℕ) → v < count-of q → ready st table v ≡ true → planned-tick q st v ≡ st .tick
-    ready-planned v b h =
-        let low : planned-tick q st v ≤ st .tick = our-start-below accepted (reported st) (reported-source timely) v (st .tick) b (λ a k. let r = ready-finished v b h a k in omega (arith, r .1, finished-term timely a v (r .0))) in
-        let high : st .tick ≤ planned-tick q st v = before .in-time v b (ready-says st table v h .0) (λ a k. ready-finished v b h a k .0) in
+    -- A step that starts: its deciding steps have finished, and its planned tick is the tick.
+    starts-decided : (v : ℕ) → Starts st table v → (a : ℕ) → sheet-decides q a v ≡ true → Finished st a × (finish-tick st a + sheet-offset q a v ≤ st .tick)
+    starts-decided v S a k =
+        let b = below v (S .exists) in
+        let r = S .each a (omega (arith, decider-below accepted a v b k, facts .count)) (decides-named v a b k) in
+        (r .0, omega (arith, r .1, entry-decides v a b k))
+
+    starts-planned : (v : ℕ) → Starts st table v → planned-tick q st v ≡ st .tick
+    starts-planned v S =
+        let b = below v (S .exists) in
+        let low : planned-tick q st v ≤ st .tick = our-start-below accepted (reported st) (reported-source timely) v (st .tick) b (λ a k. let r = starts-decided v S a k in omega (arith, r .1, finished-term timely a v (r .0))) in
+        let high : st .tick ≤ planned-tick q st v = before .in-time v b (S .not-yet) (λ a k. starts-decided v S a k .0) in
         omega arith
 
-    -- And a step that has not started is ready where its deciding steps have finished and its planned tick is not above the tick.
-    planned-ready : (v : ℕ) → v < count-of q → test-bit (st .started) v ≡ false → DecidersFinished q st v → planned-tick q st v ≤ st .tick → ready st table v ≡ true
-    unfolding due
-    planned-ready v b f D l =
+    -- And a step that has not started starts where its deciding steps have finished and its planned tick is not above the tick.
+    planned-starts : (v : ℕ) → v < count-of q → test-bit (st .started) v ≡ false → DecidersFinished q st v → planned-tick q st v ≤ st .tick → Starts st table v
+    planned-starts v b f D l =
         let r = some-decider accepted v b in
-        let c : r .0 < st .n = omega (arith, decider-below accepted (r .0) v b (r .1), facts .count) in
-        ready-by st table v f (r .0) c (names-decides v (r .0) b (r .1)) (λ a i k. each a (decides-names v a b (omega (arith, facts .count)) k))
+        record { exists = omega (arith, facts .count); not-yet = f; some = (r .0, omega (arith, decider-below accepted (r .0) v b (r .1), facts .count), decides-named v (r .0) b (r .1)); each = λ a c z. each a (named-decides v a b (below a c) z) }
       where
-        each : (a : ℕ) → sheet-decides q a v ≡ true → (test-bit (st .finished) a && leb (getD (st .finish) a 0 + entry st table v a) (st .tick)) ≡ true
-        each a k = and-join (D a k) (le-leb (getD (st .finish) a 0 + entry st table v a) (st .tick) (omega (arith, our-start-above accepted (reported st) (reported-source timely) a v b k, finished-term timely a v (D a k), entry-decides v a b k)))
+        each : (a : ℕ) → sheet-decides q a v ≡ true → Finished st a × (finish-tick st a + entry st table v a ≤ st .tick)
+        each a k = (D a k, omega (arith, our-start-above accepted (reported st) (reported-source timely) a v b k, finished-term timely a v (D a k), entry-decides v a b k))
 
     -- What the sweep does to a step: it had started, starts now, or has not started.
     data Step (v : ℕ) : Type 0 where
       earlier : Started st v → Started after v → start-tick after v ≡ start-tick st v → Step v
-      now : v < count-of q → ready st table v ≡ true → Started after v → start-tick after v ≡ st .tick → Step v
-      not-yet : test-bit (st .started) v ≡ false → (v < count-of q → ready st table v ≡ false) → test-bit (after .started) v ≡ false → start-tick after v ≡ start-tick st v → Step v
+      now : Starts st table v → Started after v → start-tick after v ≡ st .tick → Step v
+      not-yet : test-bit (st .started) v ≡ false → ¬ Starts st table v → test-bit (after .started) v ≡ false → start-tick after v ≡ start-tick st v → Step v
 
     kept : (v : ℕ) → Started st v → Started after v × (start-tick after v ≡ start-tick st v)
-    unfolding sweep
-    kept v h =
-        (sweep-started st table v ∙ or-left (ltb v (st .n) && ready st table v) h,
-        start-ticks-stay st table (st .n) v (inl (not-passing (ready st table v) (λ r. both-ways h (ready-says st table v r .0)))))
+    kept v h = (rule .started v .1 (inl h), rule .others v (λ S. both-ways h (S .not-yet)))
 
     step-of : (v : ℕ) → Step v
-    unfolding sweep
-    step-of v = by-started (bool-cases (test-bit (st .started) v))
+    step-of v = go (bool-cases (test-bit (sweep st table .map) v)) (bool-cases (test-bit (st .started) v))
       where
-        waits : test-bit (st .started) v ≡ false → (ltb v (st .n) && ready st table v) ≡ false → test-bit (sweep st table .state .started) v ≡ false
-        waits f g = not-passing (test-bit (sweep st table .state .started) v) (λ t. none (or-split (test-bit (st .started) v) (ltb v (st .n) && ready st table v) (sym (sweep-started st table v) ∙ t)))
-          where
-            none : (test-bit (st .started) v ≡ true) ⊎ ((ltb v (st .n) && ready st table v) ≡ true) → ⊥
-            none (inl t) = both-ways t f
-            none (inr t) = both-ways t g
+        none : test-bit (st .started) v ≡ false → ¬ Starts st table v → Started st v ⊎ Starts st table v → ⊥
+        none f n (inl t) = both-ways t f
+        none f n (inr S) = n S
 
-        by-ready : test-bit (st .started) v ≡ false → (ready st table v ≡ true) ⊎ (ready st table v ≡ false) → Dec (v < count-of q) → Step v
-        by-ready f (inl r) (yes b) =
-            let c : v < st .n = omega (arith, facts .count) in
-            now b r (sweep-started st table v ∙ or-right (test-bit (st .started) v) (and-join (lt-ltb v (st .n) c) r)) (start-ticks-new st table (st .n) v (omega (arith, timely .starts-size, facts .count, few-steps accepted)) c r)
-        by-ready f (inl r) (no b) =
-            let c : st .n ≤ v = omega (arith, facts .count) in
-            not-yet f (λ l. absurd (b l)) (waits f (not-passing (ltb v (st .n) && ready st table v) (λ t. both-ways (and-split (ltb v (st .n)) (ready st table v) t .0) (le-ltb v (st .n) c)))) (start-ticks-stay st table (st .n) v (inr c))
-        by-ready f (inr r) b =
-            not-yet f (λ l. r) (waits f (not-passing (ltb v (st .n) && ready st table v) (λ t. both-ways (and-split (ltb v (st .n)) (ready st table v) t .1) r))) (start-ticks-stay st table (st .n) v (inl r))
-
-        by-started : (test-bit (st .started) v ≡ true) ⊎ (test-bit (st .started) v ≡ false) → Step v
-        by-started (inl t) = let k = kept v t in earlier t (k .0) (k .1)
-        by-started (inr f) = by-ready f (bool-cases (ready st table v)) (decLt v (count-of q))
+        go : (test-bit (sweep st table .map) v ≡ true) ⊎ (test-bit (sweep st table .map) v ≡ false) → (test-bit (st .started) v ≡ true) ⊎ (test-bit (st .started) v ≡ false) → Step v
+        go (inl m) k = let S = rule .map v .0 m in now S (rule .started v .1 (inr S)) (rule .now v S)
+        go (inr m) (inl t) = let k = kept v t in earlier t (k .0) (k .1)
+        go (inr m) (inr f) =
+            let n : ¬ Starts st table v = λ S. both-ways (rule .map v .1 S) m in
+            not-yet f n (not-passing (test-bit (after .started) v) (λ t. none f n (rule .started v .0 t))) (rule .others v n)
 
     -- No reported duration changes: a step that starts now has not finished.
     same-reported : (a : ℕ) → reported after a ≡ reported st a
@@ -178,10 +180,10 @@ module _ {s : List ℕ} {allow : Bool} {q : Records} {w : ℕ} (accepted : Accep
       where
         go : Step a → finish-tick st a - start-tick after a ≡ finish-tick st a - start-tick st a
         go (earlier h k e) = ap (λ (x : ℕ). finish-tick st a - x) e
-        go (now b r k e) =
-            let z : finish-tick st a ≡ 0 = facts .not-finished a (not-passing (test-bit (st .finished) a) (λ f. both-ways (facts .finished-started a f) (ready-says st table a r .0))) in
+        go (now S k e) =
+            let z : finish-tick st a ≡ 0 = facts .not-finished a (not-passing (test-bit (st .finished) a) (λ f. both-ways (facts .finished-started a f) (S .not-yet))) in
             omega arith
-        go (not-yet f r k e) = ap (λ (x : ℕ). finish-tick st a - x) e
+        go (not-yet f n k e) = ap (λ (x : ℕ). finish-tick st a - x) e
 
     same-planned : (v : ℕ) → v < count-of q → planned-tick q after v ≡ planned-tick q st v
     same-planned v b = our-start-agrees accepted (reported after) (reported st) v b (λ a i. same-reported a)
@@ -205,18 +207,18 @@ module _ {s : List ℕ} {allow : Bool} {q : Records} {w : ℕ} (accepted : Accep
       where
         only : (v : ℕ) → Started (sweep st table .state) v → Step v → v < count-of q
         only v h (earlier t k e) = facts .only-steps v t
-        only v h (now b r k e) = b
-        only v h (not-yet f r k e) = absurd (both-ways h k)
+        only v h (now S k e) = below v (S .exists)
+        only v h (not-yet f n k e) = absurd (both-ways h k)
 
         past : (v : ℕ) → Step v → start-tick (sweep st table .state) v ≤ st .tick
         past v (earlier t k e) = omega (arith, e, facts .starts-past v)
-        past v (now b r k e) = omega (arith, e)
-        past v (not-yet f r k e) = omega (arith, e, facts .starts-past v)
+        past v (now S k e) = omega (arith, e)
+        past v (not-yet f n k e) = omega (arith, e, facts .starts-past v)
 
         unset : (v : ℕ) → test-bit (sweep st table .state .started) v ≡ false → Step v → start-tick (sweep st table .state) v ≡ 0
         unset v h (earlier t k e) = absurd (both-ways k h)
-        unset v h (now b r k e) = absurd (both-ways k h)
-        unset v h (not-yet f r k e) = e ∙ facts .not-started v f
+        unset v h (now S k e) = absurd (both-ways k h)
+        unset v h (not-yet f n k e) = e ∙ facts .not-started v f
 
     -- Every step that a sweep starts, it starts at its planned tick, and it starts all that can start.
     pub swept : Invariant q (sweep st table .state)
@@ -234,15 +236,15 @@ module _ {s : List ℕ} {allow : Bool} {q : Records} {w : ℕ} (accepted : Accep
       where
         finishes : (a v : ℕ) → Started (sweep st table .state) v → in-start-set q a v ≡ true → Step v → Finished st a
         finishes a v h i (earlier t k e) = timely .members-finished a v t i
-        finishes a v h i (now b r k e) = all-finished timely v b (λ c j. ready-finished v b r c j .0) a i
-        finishes a v h i (not-yet f r k e) = absurd (both-ways h k)
+        finishes a v h i (now S k e) = all-finished timely v (below v (S .exists)) (λ c j. starts-decided v S c j .0) a i
+        finishes a v h i (not-yet f n k e) = absurd (both-ways h k)
 
         planned : (v : ℕ) → Started (sweep st table .state) v → Step v → start-tick (sweep st table .state) v ≡ planned-tick q (sweep st table .state) v
         planned v h (earlier t k e) = e ∙ timely .at-planned v t ∙ sym (same-planned v (facts .only-steps v t))
-        planned v h (now b r k e) = e ∙ sym (ready-planned v b r) ∙ sym (same-planned v b)
-        planned v h (not-yet f r k e) = absurd (both-ways h k)
+        planned v h (now S k e) = e ∙ sym (starts-planned v S) ∙ sym (same-planned v (below v (S .exists)))
+        planned v h (not-yet f n k e) = absurd (both-ways h k)
 
         left : (v : ℕ) → v < count-of q → DecidersFinished q st v → planned-tick q st v ≤ st .tick → Step v → Started (sweep st table .state) v
         left v b D l (earlier t k e) = k
-        left v b D l (now c r k e) = k
-        left v b D l (not-yet f r k e) = absurd (both-ways (planned-ready v b f D l) (r b))
+        left v b D l (now S k e) = k
+        left v b D l (not-yet f n k e) = absurd (n (planned-starts v b f D l))

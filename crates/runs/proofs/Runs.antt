@@ -1,11 +1,18 @@
 -- The theorems: one for each statement of specs/Runs.antt, in its order.
-use mathlib.Core.Path.{_≡_}
-use Prim.Native.Nat.{ℕ}
 use native.Mathlib.Omega.{arith}
-use Rattle.runs.specs.Runs.{PlannedTicks, RunStates, Certificate}
+use Rattle.runs.specs.Runs.{SweepsMeant, PlannedTicks, RunStates, RunAnswers, HistoryKept, BeginNamed, NothingStuck, Certificate, RunsMet}
 use Rattle.runs.proofs.Sheets.{decider-member}
+use Rattle.runs.proofs.Sweeps.{sweep-for}
 use Rattle.runs.proofs.Calls.{run-keeps}
+use Rattle.runs.proofs.Answers.{answers-for}
+use Rattle.runs.proofs.History.{begin-names, history-for}
+use Rattle.runs.proofs.Waiting.{waits-on}
 use Rattle.runs.proofs.Certificates.{certified}
+use Rattle.runs.proofs.Examples.{stand-runs}
+
+-- The tests of the rule, one by one.
+pub sweeps-meant : SweepsMeant
+sweeps-meant = sweep-for
 
 -- By the invariant: the members of a started step have finished, and no step that can start is left.
 pub planned-ticks : PlannedTicks
@@ -18,6 +25,25 @@ planned-ticks s allow q w accepted st run v b =
 pub run-states : RunStates
 run-states s allow q w accepted st run = run-keeps accepted run .timely .state
 
+-- In a run neither 15 nor 14 applies.
+pub run-answers : RunAnswers
+run-answers s allow q w accepted st run = answers-for accepted (run-keeps accepted run)
+
+-- From the rule of one call.
+pub history-kept : HistoryKept
+history-kept s allow q w accepted st run = history-for accepted (run-keeps accepted run)
+
+pub begin-named : BeginNamed
+begin-named = begin-names
+
+-- By induction along start sets.
+pub nothing-stuck : NothingStuck
+nothing-stuck s allow q w accepted st run = waits-on accepted (run-keeps accepted run)
+
 -- Our starts for durations that outlast the tick keep every link, and the ticks agree with them.
 pub certificate : Certificate
 certificate s allow q w accepted st run = certified accepted (run-keeps accepted run)
+
+-- Computed, on the stand sheet.
+pub runs-met : RunsMet
+runs-met = stand-runs

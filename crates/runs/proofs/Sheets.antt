@@ -1,26 +1,28 @@
 -- What runs use of an accepted sheet: its start sets, deciding sets and starts, and the table as it is lent.
-use mathlib.Core.Path.{_≡_, refl, sym, ap, subst, _∙_}
-use mathlib.Core.Bool.{Bool, true, false, cond}
-use mathlib.Core.Logic.{_⊎_, inl, inr, _↔_}
+use mathlib.Core.Path.{_≡_, sym, ap, _∙_}
+use mathlib.Core.Bool.{Bool, true, cond}
+use mathlib.Core.Logic.{_⊎_, inl, inr, _≢_, _↔_}
 use mathlib.Core.List.{List}
 use Prim.Native.Nat.{ℕ, suc, _+_, _*_, _≤_, _<_}
 use native.Mathlib.Omega.{arith}
 use native.Mathlib.Nat.{mul-le-mul-right, suc-mul}
-use lib.ListN.{getD, length, take, length-take}
+use lib.ListN.{getD, length, length-take}
 use lib.Seq.{getD-take}
-use Rattle.definitions.specs.Basics.{largest}
 use Rattle.definitions.specs.Bytes.{Records}
-use Rattle.definitions.specs.Links.{members, delay-at}
-use Rattle.definitions.specs.Anchors.{InAnchorSet, WellPosed}
-use Rattle.definitions.specs.Plan.{plan-table, undecided}
-use Rattle.definitions.specs.Answers.{count-of, edges-of, serialized-of}
+use Rattle.definitions.specs.Links.{After, Forward, members, delay-at}
+use Rattle.definitions.specs.declared.Delay.the-variants.{Open}
+use Rattle.definitions.specs.Anchors.{InAnchorSet, WellPosed, chain, is-source}
+use Rattle.definitions.specs.Plan.{undecided}
+use Rattle.definitions.specs.Answers.{count-of, serialized-of}
 use Rattle.laws.proofs.Tests.{largest-above, largest-below}
-use Rattle.theory.specs.Graphs.{Shape, Well}
+use Rattle.theory.specs.Graphs.{Well}
 use Rattle.theory.proofs.Reachability.{in-anchor-set-iff}
 use Rattle.theory.proofs.DecidingSets.{decides-iff}
 use Rattle.theory.proofs.Plans.{plan-well, plan-posed}
-use Rattle.theory.proofs.Walks.{member-below}
+use Rattle.theory.proofs.AnchorOrder.{anchor-induct}
+use Rattle.theory.proofs.Walks.{chain-after, member-below}
 use Rattle.demands.specs.Demands.{Accepted, in-start-set, sheet-offset, sheet-decides, our-start, term}
+use Rattle.demands.proofs.Meaning.{meant-for}
 use Rattle.demands.proofs.OurStarts.{accepted-fits, accepted-well}
 use Rattle.demands.proofs.Planning.{deciding-for, plan-for, start-rule-for}
 use Rattle.runs.specs.Runs.{IsLent}
@@ -71,6 +73,21 @@ module _ {s : List ℕ} {allow : Bool} {q : Records} {w : ℕ} (accepted : Accep
       go c (inl e) = inl e
       go c (inr i) = inr (member a c .1 i)
 
+  -- A member of a member's start set is a member. What holds of a step once it holds of the members of its start set, but step 0, holds of every step.
+  pub start-member-trans : (a b v : ℕ) → in-start-set q a b ≡ true → in-start-set q b v ≡ true → in-start-set q a v ≡ true
+  start-member-trans a b v h k = member a v .1 (StartSets.member-trans well (member a b .0 h) (member b v .0 k))
+
+  pub start-set-induct : (P : ℕ → Type 0) → ((v : ℕ) → v < count-of q → ((a : ℕ) → a < count-of q → a ≢ 0 → in-start-set q a v ≡ true → P a) → P v) → (v : ℕ) → v < count-of q → P v
+  start-set-induct P each = anchor-induct (count-of q) (Forward (members (serialized-of q))) (λ a u. well .acyclic a (chain-after u)) P (λ v b ih. each v b (λ a c z h. ih a c (chained z (member a v .0 h))))
+    where
+      chained : {a v : ℕ} → a ≢ 0 → InAnchorSet (members (serialized-of q)) a v → After (Forward (members (serialized-of q))) a v
+      chained z (is-source e) = absurd (z e)
+      chained z (chain u) = u
+
+  -- A member other than step 0 is open.
+  pub member-open : (a v : ℕ) → in-start-set q a v ≡ true → (a ≡ 0) ⊎ (delay-at (q .steps) a ≡ Open)
+  member-open = meant-for (accepted-fits accepted) .others-open
+
   -- Durations that agree on the start set of v give the same start of v.
   pub our-start-agrees : (d d′ : ℕ → ℕ) (v : ℕ) → v < count-of q → ((a : ℕ) → in-start-set q a v ≡ true → d a ≡ d′ a) → our-start q d v ≡ our-start q d′ v
   our-start-agrees d d′ v b same = StartSets.start-agrees well d d′ v b (λ a i. same a (member a v .1 i))
@@ -95,6 +112,9 @@ module _ {s : List ℕ} {allow : Bool} {q : Records} {w : ℕ} (accepted : Accep
         sym (getD-take (count-of q * count-of q) table (v * count-of q + a) 0 (cell-below v a b c))
         ∙ ap (λ (l : List ℕ). getD l (v * count-of q + a) 0) (lent .plan)
         ∙ plan-for accepted .entry v a b c
+
+    pub lent-long : count-of q * count-of q ≤ length table
+    lent-long = omega (arith, length-take (count-of q * count-of q) table, ap length (lent .plan), plan-for accepted .size)
 
     pub lent-apart : (v a : ℕ) → v < count-of q → sheet-decides q a v ≡ true → sheet-offset q a v < undecided
     lent-apart = plan-for accepted .apart

@@ -1,6 +1,5 @@
 -- Start sets on a list of edges that can be scheduled: a start depends on the delays of the members alone, and each member decides or stands before one that decides.
 use mathlib.Core.Path.{_∙_, _≡_, ap, refl, subst, sym}
-use mathlib.Core.Bool.{true}
 use mathlib.Core.Logic.{_≢_, _⊎_, inl, inr}
 use mathlib.Core.List.{List}
 use Prim.Native.Nat.{_+_, _<_, ℕ}

@@ -5,35 +5,22 @@
 use mathlib.Core.Path.{_≡_}
 use mathlib.Core.Bool.{Bool, true, false}
 use mathlib.Core.Logic.{_⊎_, _≢_, _↔_}
-use mathlib.Core.List.{List, List·Memᴰ}
+use mathlib.Core.List.{List, [], _∷_, List·Memᴰ}
 use Prim.Native.Nat.{ℕ, _+_, _-_, _*_, _≤_, _<_}
 use lib.ListN.{getD, take, length}
 use Rattle.definitions.specs.Basics.{test-bit, given, refused}
 use Rattle.definitions.specs.Bytes.{Records}
 use Rattle.definitions.specs.Links.{Constraint, sequencing, minimum, maximum, constraints, delay-at, duration}
 use Rattle.definitions.specs.Waits.{WaitPair}
-use Rattle.definitions.specs.Plan.{plan-table}
+use Rattle.definitions.specs.Plan.{plan-table, undecided}
 use Rattle.definitions.specs.Answers.{count-of, serialized-of}
-use Rattle.definitions.specs.Dispatcher.{Progress, begin, Call, called, state-after}
+use Rattle.definitions.specs.Dispatcher.{entry, Progress, sweep, begin, ticked, tick, ended, finish, Call, beginning, ticking, finishing, called, state-after, map-after}
+use Rattle.definitions.specs.Worked.{stand, stand-table, idle}
 use Rattle.definitions.specs.declared.State.{State}
 use Rattle.definitions.specs.declared.Delay.the-variants.{Open}
-use Rattle.demands.specs.Demands.{Accepted, sheet-decides, our-start, sheet-waits, wait-link, WorkedBytes}
+use Rattle.demands.specs.Demands.{Accepted, in-start-set, sheet-decides, our-start, sheet-waits, wait-link}
 
--- ## A run
-
--- The sheet's open map: bit i stands exactly if step i is open. "Its bit 0 counts for nothing", and "steps numbered N or more do not exist": these bits are free.
-pub record IsOpenMap (q : Records) (unbounded : ℕ) : Type 0 where
-  pub stands : (i : ℕ) → 0 < i → i < count-of q → (test-bit unbounded i ≡ true) ↔ (delay-at (q .steps) i ≡ Open)
-
--- The sheet's table, as it is lent: its first N × N numbers are the plan. It may be longer, and another one at each call.
-pub record IsLent (q : Records) (table : List ℕ) : Type 0 where
-  pub plan : take (count-of q * count-of q) table ≡ plan-table (count-of q) (serialized-of q)
-
--- "In a run begun with the sheet's N and open map and lent its table at each call." It begins with a Begin that is not refused, on any state; after it come any calls, refused ones among them: `Run q st`
--- says that st is a state of such a run. A refused call leaves the state as given (`state-after`).
-pub data Run (q : Records) : State → Type 0 where
-  begins : {st : State} (before : State) (unbounded : ℕ) (table : List ℕ) (g : Progress) → IsOpenMap q unbounded → IsLent q table → begin before (count-of q) unbounded table ≡ given g → st ≡ g .state → Run q st
-  goes-on : {st before : State} → Run q before → (c : Call) (table : List ℕ) → IsLent q table → st ≡ state-after before (called before table c) → Run q st
+-- ## The rule of one call
 
 -- Which steps have started and finished, and when.
 abbrev pub Started : State → ℕ → Type 0
@@ -48,9 +35,45 @@ start-tick st v = getD (st .start) v 0
 abbrev pub finish-tick : State → ℕ → ℕ
 finish-tick st v = getD (st .finish) v 0
 
+-- "After each, a step not yet started starts if its row names at least one step, and each named step has finished, its finish tick plus its offset not above the tick." st is the state in which the tick has
+-- grown, or the step has finished. "On a table from anywhere this same rule holds; a row that names none never starts. Steps numbered N or more do not exist."
+pub record Starts (st : State) (table : List ℕ) (v : ℕ) : Type 0 where
+  pub exists : v < st .n
+  pub not-yet : test-bit (st .started) v ≡ false
+  pub some : (a : ℕ) × (a < st .n) × (entry st table v a ≢ undecided)
+  pub each : (a : ℕ) → a < st .n → entry st table v a ≢ undecided → Finished st a × (finish-tick st a + entry st table v a ≤ st .tick)
+
+-- "Each call returns a 64-bit map of the steps it started." These have started then, at this tick; of all others nothing changes. For any state with as many start ticks as steps, and any table. Proof:
+-- sweeps-meant.
+pub record SweepFor (st : State) (table : List ℕ) : Type 0 where
+  pub map : (v : ℕ) → (test-bit (sweep st table .map) v ≡ true) ↔ Starts st table v
+  pub started : (v : ℕ) → Started (sweep st table .state) v ↔ (Started st v ⊎ Starts st table v)
+  pub now : (v : ℕ) → Starts st table v → start-tick (sweep st table .state) v ≡ st .tick
+  pub others : (v : ℕ) → ¬ Starts st table v → start-tick (sweep st table .state) v ≡ start-tick st v
+
+abbrev pub SweepsMeant : Type 0
+SweepsMeant = (st : State) (table : List ℕ) → st .n ≤ length (st .start) → SweepFor st table
+
+-- ## A run
+
+-- The sheet's open map: bit i stands exactly if step i is open. "Its bit 0 counts for nothing", and "steps numbered N or more do not exist": these bits are free.
+pub record IsOpenMap (q : Records) (unbounded : ℕ) : Type 0 where
+  pub stands : (i : ℕ) → 0 < i → i < count-of q → (test-bit unbounded i ≡ true) ↔ (delay-at (q .steps) i ≡ Open)
+
+-- The sheet's table, as it is lent: its first N × N numbers are the plan. It may be longer, and another one at each call.
+pub record IsLent (q : Records) (table : List ℕ) : Type 0 where
+  pub plan : take (count-of q * count-of q) table ≡ plan-table (count-of q) (serialized-of q)
+
+-- "In a run begun with the sheet's N and open map and lent its table at each call." It begins with a Begin that is not refused, on any state that has not begun; after it come any calls, refused ones among them: `Run q st`
+-- says that st is a state of such a run. A refused call leaves the state as given (`state-after`).
+pub data Run (q : Records) : State → Type 0 where
+  begins : {st : State} (before : State) (unbounded : ℕ) (table : List ℕ) (g : Progress) → IsOpenMap q unbounded → IsLent q table → begin before (count-of q) unbounded table ≡ given g → st ≡ g .state → Run q st
+  goes-on : {st before : State} → Run q before → (c : Call) (table : List ℕ) → IsLent q table → st ≡ state-after before (called before table c) → Run q st
+
 -- ## The planned tick
 
--- "A reported duration is finish tick less start tick." The subtraction stops at 0: ticks are 0 until then, so a step that has not finished counts as 0. No planned tick that is spoken of depends on it.
+-- "A reported duration is finish tick less start tick." The subtraction stops at 0: ticks are 0 until then, so a step that has not finished counts as 0. No planned tick depends on it
+-- once the deciding steps have finished, since all steps of the start set have finished then.
 abbrev pub reported : State → ℕ → ℕ
 reported st a = finish-tick st a - start-tick st a
 
@@ -89,6 +112,54 @@ pub record StateFor (q : Records) (st : State) : Type 0 where
 abbrev pub RunStates : Type 0
 RunStates = (s : List ℕ) (allow : Bool) (q : Records) (w : ℕ) → Accepted s allow q w → (st : State) → Run q st → StateFor q st
 
+-- "17. Finish of a step that is not open, is 0, has not started, or has finished." The others can finish.
+pub record CanFinish (q : Records) (st : State) (x : ℕ) : Type 0 where
+  pub exists : x < count-of q
+  pub not-source : x ≢ 0
+  pub lasts : delay-at (q .steps) x ≡ Open
+  pub started : Started st x
+  pub running : test-bit (st .finished) x ≡ false
+
+-- No other call of a run is refused than Begin (16), a Tick at the clock's end (18), and a Finish of a step that cannot finish (17). So a hand's finish is taken at every tick. Proof: run-answers.
+pub record AnswersFor (q : Records) (st : State) (table : List ℕ) : Type 0 where
+  pub begins-never : (n unbounded : ℕ) → begin st n unbounded table ≡ refused 16
+  pub ticks : st .tick ≢ 4294967295 → tick st table ≡ given (sweep (ticked st) table)
+  pub clock-end : st .tick ≡ 4294967295 → tick st table ≡ refused 18
+  pub finishes : (x : ℕ) → CanFinish q st x → finish st x table ≡ given (sweep (ended st x) table)
+  pub finishes-never : (x : ℕ) → ¬ CanFinish q st x → finish st x table ≡ refused 17
+
+abbrev pub RunAnswers : Type 0
+RunAnswers =
+    (s : List ℕ) (allow : Bool) (q : Records) (w : ℕ) → Accepted s allow q w → (st : State) → Run q st → (table : List ℕ) → IsLent q table → AnswersFor q st table
+
+-- What a call of a run changes. The start tick of a step is the tick of the call whose map named it, its finish tick is the tick at which its Finish was taken, and no such tick changes later; only a Tick moves
+-- the clock, by one. That holds of every call, whatever table it is lent. The map of the Begin names what has started then, at tick 0. Proofs: history-kept, begin-named.
+pub record HistoryFor (st : State) (c : Call) (map : ℕ) (after : State) : Type 0 where
+  pub named : (v : ℕ) → (test-bit map v ≡ true) ↔ ((test-bit (st .started) v ≡ false) × Started after v)
+  pub starts-now : (v : ℕ) → test-bit (st .started) v ≡ false → Started after v → start-tick after v ≡ after .tick
+  pub starts-kept : (v : ℕ) → Started st v → Started after v × (start-tick after v ≡ start-tick st v)
+  pub finishes-now : (v : ℕ) → test-bit (st .finished) v ≡ false → Finished after v → (c ≡ finishing v) × (finish-tick after v ≡ after .tick)
+  pub finishes-kept : (v : ℕ) → Finished st v → Finished after v × (finish-tick after v ≡ finish-tick st v)
+  pub clock : (after .tick ≡ st .tick) ⊎ ((c ≡ ticking) × (after .tick ≡ st .tick + 1))
+
+abbrev pub HistoryKept : Type 0
+HistoryKept =
+    (s : List ℕ) (allow : Bool) (q : Records) (w : ℕ) → Accepted s allow q w → (st : State) → Run q st → (c : Call) (table : List ℕ) → HistoryFor st c (map-after (called st table c)) (state-after st (called st table c))
+
+abbrev pub BeginNamed : Type 0
+BeginNamed =
+    (before : State) (n unbounded : ℕ) (table : List ℕ) (g : Progress) → begin before n unbounded table ≡ given g → (g .state .tick ≡ 0) × ((v : ℕ) → (test-bit (g .map) v ≡ true) ↔ Started (g .state) v)
+
+-- No run is stuck: a step that has not started waits for an open step of its start set that is at work, or for the clock to come to a planned tick, its own or that of a step of its start set. Proof:
+-- nothing-stuck.
+pub data WaitsOn (q : Records) (st : State) (v : ℕ) : Type 0 where
+  on-hand : (a : ℕ) → in-start-set q a v ≡ true → CanFinish q st a → WaitsOn q st v
+  on-clock : (u : ℕ) → (u ≡ v) ⊎ (in-start-set q u v ≡ true) → test-bit (st .started) u ≡ false → DecidersFinished q st u → st .tick < planned-tick q st u → WaitsOn q st v
+
+abbrev pub NothingStuck : Type 0
+NothingStuck =
+    (s : List ℕ) (allow : Bool) (q : Records) (w : ℕ) → Accepted s allow q w → (st : State) → Run q st → (v : ℕ) → v < count-of q → test-bit (st .started) v ≡ false → WaitsOn q st v
+
 -- ## The certificate
 
 -- After: where j has started, i has started before it or at the same tick, and the link's line holds of the ticks. Out of an open i other than step 0: i has finished, not after j's start.
@@ -120,3 +191,24 @@ pub record Certified (q : Records) (st : State) : Type 0 where
 
 abbrev pub Certificate : Type 0
 Certificate = (s : List ℕ) (allow : Bool) (q : Records) (w : ℕ) → Accepted s allow q w → (st : State) → Run q st → Certified q st
+
+-- ## The hypotheses are met
+
+-- The state after calls that are all lent one table.
+abbrev pub after-calls : State → List ℕ → List Call → State
+after-calls st table [] = st
+after-calls st table (c ∷ cs) = after-calls (state-after st (called st table c)) table cs
+
+-- A run of the stand sheet, begun on a state that has not begun, that starts all five steps, at the ticks given.
+pub record StandRun (calls : List Call) (starts : List ℕ) : Type 0 where
+  pub records : Records
+  pub accepted : Accepted (stand 2) false records 0
+  pub lent : IsLent records stand-table
+  pub run : Run records (after-calls idle stand-table (beginning 5 4 ∷ calls))
+  pub all-started : after-calls idle stand-table (beginning 5 4 ∷ calls) .started ≡ 31
+  pub ticks : take 5 (after-calls idle stand-table (beginning 5 4 ∷ calls) .start) ≡ starts
+
+-- "Run of it: Begin gives 7; Finish 2 gives 0; ticks give 8, 0, 16. A second Finish 2: 17." And a run in which the hand takes 10. Proof: runs-met.
+pub record RunsMet : Type 0 where
+  pub at-once : StandRun (finishing 2 ∷ ticking ∷ ticking ∷ ticking ∷ finishing 2 ∷ []) (0 ∷ 0 ∷ 0 ∷ 1 ∷ 3 ∷ [])
+  pub after-ten : StandRun (ticking ∷ ticking ∷ ticking ∷ ticking ∷ ticking ∷ ticking ∷ ticking ∷ ticking ∷ ticking ∷ ticking ∷ finishing 2 ∷ ticking ∷ ticking ∷ []) (0 ∷ 0 ∷ 0 ∷ 10 ∷ 12 ∷ [])
