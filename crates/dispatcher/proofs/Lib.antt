@@ -1,4 +1,3 @@
-pub mod Below
 pub mod RowLaws
 pub mod SweepLaws
 pub mod CallLaws

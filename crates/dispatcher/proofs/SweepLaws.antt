@@ -16,7 +16,7 @@ use Rattle.definitions.specs.Dispatcher.{entry, names, due, ready, starting, st
 use Rattle.definitions.specs.declared.State.{State}
 use Rattle.laws.proofs.Maps.{bits-below-lt}
 use Rattle.dispatcher.specs.Rows.{due-in, names-in, row-ready, ready-in}
-use Rattle.dispatcher.proofs.Below.{any-below-same, all-below-same}
+use Rattle.laws.proofs.Searches.{any-below-same, all-below-same}
 
 module _ (st : State) (table : List ℕ) where
   -- The code's test: row v by itself, with what it needs of the state.

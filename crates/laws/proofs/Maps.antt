@@ -13,6 +13,7 @@ use lib.Count.{ones, ones-cat, trailingZeros, under}
 use lib.Dec.{eqb, ltb}
 use lib.ListN.{length, length-append}
 use borrow.Author.Tests.{ltb-true, ltb-false, lt-ltb, le-ltb, eqb-true, eqb-false, eq-eqb, ne-eqb}
+use Rattle.laws.proofs.Tests.{any-below-has, any-below-none}
 use Rattle.definitions.specs.Basics.{any-below, select-below, test-bit, bits-below}
 
 -- The digit that `test-bit` reads.
@@ -287,30 +288,6 @@ test-within a b h = same-map (bitAnd a b) a (λ k. test-and a b k ∙ by k (test
     by k true e = h k e
     by k false e = refl
 
--- What the answer of `any-below` says: true, a number that passes. By induction on the bound.
-pub found-below : (f : ℕ → Bool) (n : ℕ) → any-below f n ≡ true → (k : ℕ) × (k < n) × (f k ≡ true)
-unfolding any-below
-found-below f zero e = absurd (false≢true e)
-found-below f (suc n) e = by (any-below f n) refl e (found-below f n)
-  where
-    by : (t : Bool) → any-below f n ≡ t → (t || f n) ≡ true → (any-below f n ≡ true → (k : ℕ) × (k < n) × (f k ≡ true)) → (k : ℕ) × (k < suc n) × (f k ≡ true)
-    by true q h ih = let w = ih q in (w .0, (let l : w .0 < n = w .1 in omega arith), w .2)
-    by false q h ih = (n, omega arith, h)
-
--- The other answer, by induction on the bound.
-pub none-below : (f : ℕ → Bool) (n k : ℕ) → any-below f n ≡ false → k < n → f k ≡ false
-unfolding any-below
-none-below f zero k e l = absurd (not-suc-le-zero l)
-none-below f (suc n) k e l = by (any-below f n) refl e (none-below f n k)
-  where
-    last : (t : Bool) → eqb k n ≡ t → f n ≡ false → (k < n → f k ≡ false) → f k ≡ false
-    last true q h ih = ap f (eqb-true k n q) ∙ h
-    last false q h ih = let p : k ≡ n → ⊥ = eqb-false k n q in ih (omega arith)
-
-    by : (t : Bool) → any-below f n ≡ t → (t || f n) ≡ false → (any-below f n ≡ false → k < n → f k ≡ false) → f k ≡ false
-    by true q h ih = absurd (true≢false h)
-    by false q h ih = last (eqb k n) refl h (ih q)
-
 -- Some number is a member exactly if the map is not 0: a member rules out 0, and a map with none is equal to 0.
 pub any-member : (n m : ℕ) → m < 2 ^ n → any-below (test-bit m) n ≡ not (eqb m 0)
 any-member n m h = by (any-below (test-bit m) n) refl
@@ -320,9 +297,9 @@ any-member n m h = by (any-below (test-bit m) n) refl
     full false e w = refl
 
     by : (t : Bool) → any-below (test-bit m) n ≡ t → t ≡ not (eqb m 0)
-    by true e = full (eqb m 0) refl (found-below (test-bit m) n e)
+    by true e = full (eqb m 0) refl (any-below-has (test-bit m) n e)
     by false e =
-        let z : m ≡ 0 = same-below n m 0 h (pow-pos n) (λ k l. none-below (test-bit m) n k e l ∙ sym (test-zero k)) in
+        let z : m ≡ 0 = same-below n m 0 h (pow-pos n) (λ k l. any-below-none (test-bit m) n e k l ∙ sym (test-zero k)) in
         sym (ap not (eq-eqb m 0 z))
 
 -- Two maps meet exactly if their intersection is not empty.

@@ -7,7 +7,7 @@ use native.Mathlib.Omega.{arith}
 use native.Mathlib.Numerals.{add-one}
 use lib.ListN.{length, getD, take}
 use lib.Seq.{take-suc}
-use Rattle.definitions.specs.Basics.{any, any-below}
+use Rattle.definitions.specs.Basics.{any, any-below, all-below}
 
 or-none : (b : Bool) → (b || false) ≡ b
 or-none true = refl
@@ -35,6 +35,12 @@ unfolding any-below
 any-below-same t u zero h = refl
 any-below-same t u (suc n) h =
     ap (λ (b : Bool). b || t n) (any-below-same t u n (λ k b. h k (omega arith))) ∙ ap (λ (b : Bool). any-below u n || b) (h n (omega arith))
+
+pub all-below-same : (t u : ℕ → Bool) (n : ℕ) → ((k : ℕ) → k < n → t k ≡ u k) → all-below t n ≡ all-below u n
+unfolding all-below
+all-below-same t u zero h = refl
+all-below-same t u (suc n) h =
+    ap (λ (b : Bool). b && t n) (all-below-same t u n (λ k b. h k (omega arith))) ∙ ap (λ (b : Bool). all-below u n && b) (h n (omega arith))
 
 -- One number more.
 pub any-below-more : (test : ℕ → Bool) (n : ℕ) → any-below test n ≡ false → test n ≡ false → any-below test (n + 1) ≡ false

@@ -15,7 +15,8 @@ use Rattle.definitions.specs.Plan.{undecided}
 use Rattle.definitions.specs.Dispatcher.{entry, names, due, ready, starting, start-ticks, sweep}
 use Rattle.definitions.specs.declared.State.{State}
 use Rattle.laws.proofs.Bools.{bool-cases, both-ways, not-passing, and-split, and-join, or-split, or-left, or-right, cond-true, cond-false}
-use Rattle.laws.proofs.Tests.{any-below-has, any-below-by, all-below-each, all-below-by, bits-below-at, last-or-below}
+use Rattle.laws.proofs.Maps.{test-bits-below}
+use Rattle.laws.proofs.Tests.{any-below-has, any-below-by, all-below-each, all-below-by, last-or-below}
 use Rattle.laws.proofs.Maps.{test-or}
 use Rattle.runs.specs.Runs.{Started, Finished, finish-tick, Starts, SweepFor}
 
@@ -44,7 +45,7 @@ module _ (st : State) (table : List ℕ) where
   -- The steps that have started after the sweep.
   sweep-started : (v : ℕ) → test-bit (sweep st table .state .started) v ≡ (test-bit (st .started) v || (ltb v (st .n) && ready st table v))
   unfolding sweep starting
-  sweep-started v = test-or (st .started) (bits-below (ready st table) (st .n)) v ∙ ap (λ (b : Bool). test-bit (st .started) v || b) (bits-below-at (ready st table) (st .n) v)
+  sweep-started v = test-or (st .started) (bits-below (ready st table) (st .n)) v ∙ ap (λ (b : Bool). test-bit (st .started) v || b) (test-bits-below (ready st table) (st .n) v)
 
   -- Start ticks: as many as before; those of ready steps below k are the tick, and the others stay.
   pub start-ticks-length : (k : ℕ) → length (start-ticks st table k) ≡ length (st .start)
@@ -123,7 +124,7 @@ module _ (st : State) (table : List ℕ) where
   pub sweep-for : st .n ≤ length (st .start) → SweepFor st table
   unfolding sweep starting
   sweep-for long = record {
-    map = λ v. (λ h. starts-iff v .0 (sym (bits-below-at (ready st table) (st .n) v) ∙ h), λ S. bits-below-at (ready st table) (st .n) v ∙ starts-iff v .1 S);
+    map = λ v. (λ h. starts-iff v .0 (sym (test-bits-below (ready st table) (st .n) v) ∙ h), λ S. test-bits-below (ready st table) (st .n) v ∙ starts-iff v .1 S);
     started = λ v. (λ h. either v (or-split (test-bit (st .started) v) (ltb v (st .n) && ready st table v) (sym (sweep-started v) ∙ h)), λ r. sweep-started v ∙ both v r);
     now = λ v S. start-ticks-new (st .n) v long (S .exists) (and-split (ltb v (st .n)) (ready st table v) (starts-iff v .1 S) .1);
     others = λ v n. start-ticks-stay (st .n) v (stays v n (decLt v (st .n)));

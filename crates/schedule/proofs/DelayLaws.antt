@@ -18,7 +18,8 @@ use Rattle.definitions.specs.declared.Delay.the-variants.{Open, Fixed}
 use Rattle.definitions.specs.declared.Operation.{Operation}
 use Rattle.laws.proofs.Maps.{test-zero}
 use Rattle.schedule.specs.Delays.{Judged, is-open, unbounded-at, above-limit}
-use Rattle.schedule.proofs.Loops.{any-below-same, getD-there}
+use Rattle.laws.proofs.Searches.{any-below-same}
+use Rattle.schedule.proofs.Loops.{getD-there}
 
 -- ---- lists
 

@@ -21,7 +21,8 @@ use Rattle.laws.proofs.Bools.{and-split}
 use Rattle.laws.proofs.Tests.{all-below-each, largest-below, largest-same, largest-same-test, tabulate-at, tabulate-length, tabulate-same}
 use Rattle.theory.proofs.FirstRows.{zeros-at}
 use Rattle.theory.proofs.StartTimes.{start-times-length}
-use Rattle.schedule.proofs.Loops.{put-rest, laid, laid-at, laid-past, any-below-same, and-guard, cond-guard, tabulate-list}
+use Rattle.laws.proofs.Searches.{any-below-same}
+use Rattle.schedule.proofs.Loops.{put-rest, laid, laid-at, laid-past, and-guard, cond-guard, tabulate-list}
 use Rattle.schedule.specs.Working.{Holds, Planned, Started, weight, member, overriding, deciding, entry-at, first-rows, term, start-at, next-row, row-after, Fits, cut-start}
 
 -- ---- by the branches of the code

@@ -105,12 +105,6 @@ put-rest {A} p l t y new a n e f g =
     let none : drop (length t - a) (drop a t) ≡ [] = ap₂ drop long rest ∙ drop-length l in
     ap₂ (λ (x z : List A). x ++ z) front (ap₂ (λ (x z : List A). x ++ z) (g ∙ ap (λ (x : List A). y ++ drop n x) mid) none ∙ append-nil (y ++ drop n l))
 
--- Tests that agree below n.
-pub any-below-same : (t u : ℕ → Bool) (n : ℕ) → ((k : ℕ) → k < n → t k ≡ u k) → any-below t n ≡ any-below u n
-unfolding any-below
-any-below-same t u zero h = refl
-any-below-same t u (suc n) h = ap₂ _||_ (any-below-same t u n (λ k b. h k (omega arith))) (h n (omega arith))
-
 -- What stands behind a test that fails does not matter.
 pub and-guard : (x l m : Bool) → (x ≡ true → l ≡ m) → (x && l) ≡ (x && m)
 and-guard true l m h = h refl

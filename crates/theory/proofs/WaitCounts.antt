@@ -11,7 +11,8 @@ use borrow.Author.Tests.{le-ltb, lt-ltb}
 use Rattle.definitions.specs.Basics.{bits-below, select-below, tabulate, test-bit}
 use Rattle.definitions.specs.Links.{Edge}
 use Rattle.definitions.specs.Waits.{wait-count, wait-list, wait-map, wait-maps, waits-for, waits-of}
-use Rattle.laws.proofs.Tests.{bits-below-at, tabulate-past}
+use Rattle.laws.proofs.Maps.{test-bits-below}
+use Rattle.laws.proofs.Tests.{tabulate-past}
 use Rattle.theory.specs.Counts.{count-below, standing-bits, sum-below}
 use Rattle.theory.proofs.WaitLists.{wait-map-bit, wait-maps-at}
 
@@ -117,7 +118,7 @@ module _ (n : ℕ) (es : List Edge) where
             past z = unfold wait-maps in tabulate-past (wait-map n es) 64 i 0 (omega arith)
 
             zero-bit : (k : ℕ) → test-bit 0 k ≡ false
-            zero-bit k = unfold bits-below in bits-below-at (λ x. true) 0 k ∙ ap (λ (t : Bool). t && true) (le-ltb k 0 (omega arith))
+            zero-bit k = unfold bits-below in test-bits-below (λ x. true) 0 k ∙ ap (λ (t : Bool). t && true) (le-ltb k 0 (omega arith))
 
     pub wait-count-bits : wait-count n es ≡ standing-bits (wait-maps n es)
     wait-count-bits =

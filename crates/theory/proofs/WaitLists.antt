@@ -14,7 +14,8 @@ use Rattle.definitions.specs.Links.{Edge, members, usable}
 use Rattle.definitions.specs.Rounds.{after-reaches}
 use Rattle.definitions.specs.Waits.{Wait, WaitPair, needs-waits, serialized, wait-count, wait-edge, wait-list, wait-map, wait-maps, waits-for, waits-of}
 use Rattle.laws.proofs.Bools.{and-join, and-split, both-ways, not-passing}
-use Rattle.laws.proofs.Tests.{any-by, any-has, bits-below-at, bits-below-small, flatMap-has, flatMap-only, mem-tabulate, select-below-has, select-below-only, tabulate-at, tabulate-mem}
+use Rattle.laws.proofs.Maps.{test-bits-below, bits-below-lt}
+use Rattle.laws.proofs.Tests.{any-by, any-has, flatMap-has, flatMap-only, mem-tabulate, select-below-has, select-below-only, tabulate-at, tabulate-mem}
 use Rattle.theory.specs.Graphs.{Shape, WaitEdge, Waited}
 use Rattle.theory.proofs.Reachability.{after-reaches-iff, dec-member, in-anchor-set-iff}
 use Rattle.theory.proofs.Serialization.{after-back, waited-shape, waited-well-posed}
@@ -154,7 +155,7 @@ module _ {n : ℕ} {es : List Edge} (shape : Shape n (members es)) where
 -- The maps: bit a of map i.
 pub wait-map-bit : (n : ℕ) (es : List Edge) (i a : ℕ) → test-bit (wait-map n es i) a ≡ (ltb a n && (ltb i n && waits-for n es a i))
 unfolding wait-map
-wait-map-bit n es i a = bits-below-at (λ x. ltb i n && waits-for n es x i) n a
+wait-map-bit n es i a = test-bits-below (λ x. ltb i n && waits-for n es x i) n a
 
 pub wait-map-iff : {n : ℕ} {es : List Edge} → Shape n (members es) → (i a : ℕ) → (test-bit (wait-map n es i) a ≡ true) ↔ Wait (members es) a i
 wait-map-iff {n} {es} shape i a = (found, test)
@@ -169,7 +170,7 @@ wait-map-iff {n} {es} shape i a = (found, test)
 
 pub wait-map-small : (n : ℕ) (es : List Edge) (i : ℕ) → wait-map n es i < 2 ^ n
 unfolding wait-map
-wait-map-small n es i = bits-below-small (λ a. ltb i n && waits-for n es a i) n
+wait-map-small n es i = bits-below-lt (λ a. ltb i n && waits-for n es a i) n
 
 pub wait-maps-at : (n : ℕ) (es : List Edge) (i : ℕ) → i < 64 → getD (wait-maps n es) i 0 ≡ wait-map n es i
 unfolding wait-maps
