@@ -13,7 +13,7 @@ use Rattle.definitions.specs.Basics.{test-bit, Outcome, given, refused}
 use Rattle.definitions.specs.Bytes.{Records}
 use Rattle.definitions.specs.Links.{delay-at}
 use Rattle.definitions.specs.Answers.{count-of}
-use Rattle.definitions.specs.Dispatcher.{Progress, begun, fresh, with-source, begin, ticked, tick, cannot-finish, ended, finish, Call, called, state-after}
+use Rattle.definitions.specs.Dispatcher.{Progress, begun, fresh, with-source, begin, ticked, cannot-finish, ended, Call, called, state-after}
 use Rattle.definitions.specs.declared.State.{State}
 use Rattle.definitions.specs.declared.Delay.the-variants.{Open}
 use Rattle.laws.proofs.Bools.{bool-cases, both-ways, or-left, or-right, not-passing, same-or-not}
@@ -25,7 +25,7 @@ use Rattle.runs.proofs.Sheets.{some-steps, few-steps, source-member, ou
 use Rattle.runs.proofs.Changes.{ended-finished, ended-still, ended-own, ended-own-tick, ended-other-tick, Given, begins-anew, ticks-on, ends, begin-gives, call-gives}
 use Rattle.runs.proofs.Invariants.{Timely, Invariant, NotLate, reported-source, finished-term, all-finished, planned-agrees, swept}
 
--- A row of refusals that ends in an answer: each test fails.
+-- Two tests of which neither passes.
 or-fails : (a b : Bool) → (a || b) ≡ false → (a ≡ false) × (b ≡ false)
 or-fails a b h = (not-passing a (λ t. both-ways (or-left b t) h), not-passing b (λ t. both-ways (or-right a t) h))
 
