@@ -21,6 +21,7 @@ use Rattle.definitions.specs.declared.Delay.the-variants.{Open, Fixed}
 use Rattle.laws.proofs.Bools.{or-split}
 use Rattle.laws.proofs.Tests.{all-each, all-below-each}
 use Rattle.demands.specs.Demands.{Accepted}
+use Rattle.runs.proofs.Laws.{same-truth}
 use Rattle.runs.specs.Runs.{IsOpenMap, IsLent, Run, begins, goes-on, after-calls, table-of, after-begin, WorkedRun, RunsMet}
 
 -- A sheet's records, and what its Begin gives.
@@ -47,11 +48,6 @@ is-open-iff : (x : Delay) → (is-open x ≡ true) ↔ (x ≡ Open)
 unfolding is-open
 is-open-iff Open = (λ h. refl, λ h. refl)
 is-open-iff (Fixed x) = (λ h. absurd (false≢true h), λ h. let c : _≡_ {A = ℕ} 0 1 = cc in absurd (omega arith))
-
-same-truth : (a b : Bool) → cond a b (not b) ≡ true → a ≡ b
-same-truth true b h = sym h
-same-truth false true h = h
-same-truth false false h = refl
 
 says-open : List ℕ → ℕ → ℕ → Bool
 says-open bytes unbounded i = eqb i 0 || cond (test-bit unbounded i) (is-open (delay-at (records-of bytes .steps) i)) (not (is-open (delay-at (records-of bytes .steps) i)))
