@@ -1,6 +1,6 @@
 -- Which calls of a run are refused: Begin always, Tick at the clock's end, Finish of a step that cannot finish.
 use mathlib.Core.Path.{_≡_, ap, _∙_}
-use mathlib.Core.Bool.{Bool, true, false, not, _||_, true≢false}
+use mathlib.Core.Bool.{Bool, true, false, not}
 use mathlib.Core.Logic.{_⊎_, inl, inr}
 use mathlib.Core.List.{List}
 use Prim.Native.Nat.{ℕ, _*_}
@@ -8,7 +8,7 @@ use native.Mathlib.Omega.{arith}
 use lib.Dec.{eqb}
 use lib.ListN.{length}
 use borrow.Author.Tests.{eq-eqb, ne-eqb, le-leb, lt-leb, le-ltb}
-use Rattle.definitions.specs.Basics.{Outcome, given, refused, refuse-if}
+use Rattle.definitions.specs.Basics.{given, refuse-if}
 use Rattle.definitions.specs.Bytes.{Records}
 use Rattle.definitions.specs.Answers.{too-short, bad-count}
 use Rattle.definitions.specs.Dispatcher.{sweep, begun, not-running, fresh, with-source, begin, ticked, tick, cannot-finish, ended, finish}
@@ -16,22 +16,10 @@ use Rattle.definitions.specs.declared.State.{State}
 use Rattle.laws.proofs.Bools.{bool-cases, and-join}
 use Rattle.demands.specs.Demands.{Accepted}
 use Rattle.runs.specs.Runs.{IsLent, StateFor, CanFinish, AnswersFor}
+use Rattle.runs.proofs.Laws.{not-zero, neither, passes-by, stops-at}
 use Rattle.runs.proofs.Sheets.{some-steps, few-steps, lent-long}
 use Rattle.runs.proofs.Invariants.{Invariant}
-use Rattle.runs.proofs.Calls.{not-zero, can-finish}
-
--- Two tests that fail; a refusal whose test fails, and one whose test passes.
-neither : {a b : Bool} → a ≡ false → b ≡ false → (a || b) ≡ false
-neither {a = false} h k = k
-neither {a = true} h k = absurd (true≢false h)
-
-passes-by : {A : Type 0} {b : Bool} (k : ℕ) (rest : Outcome A) → b ≡ false → refuse-if b k rest ≡ rest
-unfolding refuse-if
-passes-by k rest h = ap (λ b. refuse-if b k rest) h
-
-stops-at : {A : Type 0} {b : Bool} (k : ℕ) (rest : Outcome A) → b ≡ true → refuse-if b k rest ≡ refused k
-unfolding refuse-if
-stops-at k rest h = ap (λ b. refuse-if b k rest) h
+use Rattle.runs.proofs.Calls.{can-finish}
 
 module _ {s : List ℕ} {allow : Bool} {q : Records} {w : ℕ} (accepted : Accepted s allow q w) {st : State} (invariant : Invariant q st) where
   facts : StateFor q st

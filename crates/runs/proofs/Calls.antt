@@ -3,7 +3,7 @@ use mathlib.Core.Path.{_≡_, refl, sym, ap, subst, _∙_}
 use mathlib.Core.Bool.{Bool, true, false, not, _||_}
 use mathlib.Core.Logic.{_⊎_, inl, inr, _≢_}
 use mathlib.Core.List.{List}
-use Prim.Native.Nat.{ℕ, zero, suc, _+_, _-_, _≤_, _<_}
+use Prim.Native.Nat.{ℕ, _+_, _-_, _≤_, _<_}
 use native.Mathlib.Omega.{arith}
 use native.Mathlib.Decide.{decLe}
 use lib.Dec.{eqb, leb}
@@ -13,25 +13,18 @@ use Rattle.definitions.specs.Basics.{test-bit, Outcome, given, refused}
 use Rattle.definitions.specs.Bytes.{Records}
 use Rattle.definitions.specs.Links.{delay-at}
 use Rattle.definitions.specs.Answers.{count-of}
-use Rattle.definitions.specs.Dispatcher.{Progress, begun, fresh, with-source, begin, ticked, tick, cannot-finish, ended, finish, Call, called, state-after}
+use Rattle.definitions.specs.Dispatcher.{Progress, begun, fresh, with-source, begin, ticked, cannot-finish, ended, Call, called, state-after}
 use Rattle.definitions.specs.declared.State.{State}
 use Rattle.definitions.specs.declared.Delay.the-variants.{Open}
-use Rattle.laws.proofs.Bools.{bool-cases, both-ways, or-left, or-right, not-passing, same-or-not}
+use Rattle.laws.proofs.Bools.{bool-cases, both-ways, not-passing, same-or-not}
 use Rattle.laws.proofs.Maps.{test-pow}
 use Rattle.theory.proofs.FirstRows.{zeros-at}
 use Rattle.demands.specs.Demands.{Accepted, in-start-set, sheet-decides, our-start}
 use Rattle.runs.specs.Runs.{IsOpenMap, IsLent, Run, begins, goes-on, Started, Finished, start-tick, finish-tick, reported, planned-tick, DecidersFinished, StateFor, CanFinish}
+use Rattle.runs.proofs.Laws.{not-zero, or-fails}
 use Rattle.runs.proofs.Sheets.{some-steps, few-steps, source-member, our-start-source, our-start-above}
 use Rattle.runs.proofs.Changes.{ended-finished, ended-still, ended-own, ended-own-tick, ended-other-tick, Given, begins-anew, ticks-on, ends, begin-gives, call-gives}
 use Rattle.runs.proofs.Invariants.{Timely, Invariant, NotLate, reported-source, finished-term, all-finished, planned-agrees, swept}
-
--- A row of refusals that ends in an answer: each test fails.
-or-fails : (a b : Bool) → (a || b) ≡ false → (a ≡ false) × (b ≡ false)
-or-fails a b h = (not-passing a (λ t. both-ways (or-left b t) h), not-passing b (λ t. both-ways (or-right a t) h))
-
-pub not-zero : (x : ℕ) → x ≢ 0 → 0 < x
-not-zero zero z = absurd (z refl)
-not-zero (suc x) z = omega arith
 
 module _ {s : List ℕ} {allow : Bool} {q : Records} {w : ℕ} (accepted : Accepted s allow q w) where
   -- ## Begin

@@ -1,6 +1,6 @@
 -- What a call changes before its sweep, and what a call that is not refused gives. For any state and any table.
 use mathlib.Core.Path.{_≡_, refl, sym, _∙_}
-use mathlib.Core.Bool.{Bool, true, false}
+use mathlib.Core.Bool.{true, false}
 use mathlib.Core.Logic.{_⊎_, inl, inr, _≢_}
 use mathlib.Core.List.{List}
 use Prim.Native.Nat.{ℕ, _*_, _<_}
@@ -8,13 +8,13 @@ use lib.Dec.{eqb}
 use lib.ListN.{length}
 use lib.Seq.{getD-set-same, getD-set-other}
 use borrow.Author.Tests.{eqb-true, eqb-false, eq-eqb}
-use Rattle.definitions.specs.Basics.{test-bit, given, refuse-if}
+use Rattle.definitions.specs.Basics.{test-bit, given}
 use Rattle.definitions.specs.Answers.{too-short, bad-count}
 use Rattle.definitions.specs.Dispatcher.{Progress, sweep, begun, not-running, fresh, with-source, begin, ticked, tick, cannot-finish, ended, finish, Call, beginning, ticking, finishing, called}
 use Rattle.definitions.specs.declared.State.{State}
 use Rattle.laws.proofs.Bools.{or-split, or-left, or-right}
 use Rattle.laws.proofs.Maps.{test-insert}
-use Rattle.laws.proofs.Outcomes.{refuse-given, given-same}
+use Rattle.runs.proofs.Laws.{three-pass}
 use Rattle.runs.specs.Runs.{Finished, finish-tick}
 
 -- Finish x: what has finished then is what had, and x. Its finish tick is the tick, and the others stay.
@@ -48,14 +48,6 @@ pub data Given (st : State) (table : List ℕ) (c : Call) (g : Progress) : Type 
   begins-anew : (n unbounded : ℕ) → c ≡ beginning n unbounded → begun st ≡ false → g ≡ with-source (sweep (fresh n unbounded) table) → Given st table c g
   ticks-on : c ≡ ticking → st .tick ≢ 4294967295 → g ≡ sweep (ticked st) table → Given st table c g
   ends : (x : ℕ) → c ≡ finishing x → cannot-finish st x ≡ false → g ≡ sweep (ended st x) table → Given st table c g
-
--- A row of three refusals that gives an answer.
-three-pass : (a b c : Bool) (i j k : ℕ) (x g : Progress) → refuse-if a i (refuse-if b j (refuse-if c k (given x))) ≡ given g → (a ≡ false) × (c ≡ false) × (g ≡ x)
-three-pass a b c i j k x g h =
-    let r = refuse-given a i (refuse-if b j (refuse-if c k (given x))) g .0 h in
-    let r₂ = refuse-given b j (refuse-if c k (given x)) g .0 (r .1) in
-    let r₃ = refuse-given c k (given x) g .0 (r₂ .1) in
-    (r .0, r₃ .0, sym (given-same (r₃ .1)))
 
 pub begin-gives : (st : State) (n unbounded : ℕ) (table : List ℕ) (g : Progress) → begin st n unbounded table ≡ given g → g ≡ with-source (sweep (fresh n unbounded) table)
 unfolding begin

@@ -1,42 +1,45 @@
--- The hypotheses of the theorems are met: two runs of the stand sheet, computed.
+-- The hypotheses of the theorems are met: runs of the stand sheet and of two hands, computed.
 use mathlib.Core.Path.{_≡_, refl, sym, _∙_}
-use mathlib.Core.Bool.{Bool, true, false, false≢true}
-use mathlib.Core.Logic.{_↔_}
+use mathlib.Core.Bool.{Bool, true, false, cond, not, _||_, false≢true}
+use mathlib.Core.Logic.{_⊎_, inl, inr, _↔_}
 use mathlib.Core.List.{List, [], _∷_}
-use Prim.Native.Nat.{ℕ, zero, suc, _*_, _<_}
+use Prim.Native.Nat.{ℕ, _*_, _<_}
 use native.Mathlib.Omega.{arith}
-use lib.Dec.{ltb}
+use lib.Dec.{eqb, ltb}
 use lib.ListN.{take}
-use borrow.Author.Tests.{ltb-true}
-use Rattle.definitions.specs.Basics.{all, test-bit, Outcome, given, refused}
+use borrow.Author.Tests.{eqb-true, ltb-true}
+use Rattle.definitions.specs.Basics.{all, all-below, test-bit, Outcome, given, refused}
 use Rattle.definitions.specs.Bytes.{Records, read}
 use Rattle.definitions.specs.Links.{delay-at}
 use Rattle.definitions.specs.Plan.{plan-table}
 use Rattle.definitions.specs.Answers.{count-of, serialized-of, judged}
 use Rattle.definitions.specs.Dispatcher.{Progress, begin, Call, beginning, ticking, finishing, called, state-after}
-use Rattle.definitions.specs.Worked.{every-definition, stand, stand-table, idle}
+use Rattle.definitions.specs.Worked.{every-definition, stand, two-hands, idle}
 use Rattle.definitions.specs.declared.State.{State}
 use Rattle.definitions.specs.declared.Delay.{Delay}
 use Rattle.definitions.specs.declared.Delay.the-variants.{Open, Fixed}
-use Rattle.laws.proofs.Tests.{all-each}
+use Rattle.laws.proofs.Bools.{or-split}
+use Rattle.laws.proofs.Tests.{all-each, all-below-each}
 use Rattle.demands.specs.Demands.{Accepted}
-use Rattle.runs.specs.Runs.{IsOpenMap, IsLent, Run, begins, goes-on, after-calls, RunsMet}
+use Rattle.runs.proofs.Laws.{same-truth}
+use Rattle.runs.specs.Runs.{IsOpenMap, IsLent, Run, begins, goes-on, after-calls, table-of, after-begin, WorkedRun, RunsMet}
 
--- The stand sheet's records, and what its Begin gives.
+-- A sheet's records, and what its Begin gives.
 abbrev records-in : Outcome Records → Records
 records-in (given q) = q
 records-in (refused k) = record { steps = []; pairs = [] }
 
-abbrev stand-records : Records
-stand-records = records-in (read (stand 2))
+abbrev records-of : List ℕ → Records
+records-of bytes = records-in (read bytes)
 
 abbrev progress-in : Outcome Progress → Progress
 progress-in (given g) = g
 progress-in (refused k) = record { state = idle; map = 0 }
 
-abbrev stand-begun : Progress
-stand-begun = progress-in (begin idle 5 4 stand-table)
+abbrev begun-of : List ℕ → ℕ → ℕ → Progress
+begun-of bytes n unbounded = progress-in (begin idle n unbounded (table-of bytes n))
 
+-- Whether a step is open, and whether a map says so.
 is-open : Delay → Bool
 is-open Open = true
 is-open (Fixed x) = false
@@ -46,65 +49,62 @@ unfolding is-open
 is-open-iff Open = (λ h. refl, λ h. refl)
 is-open-iff (Fixed x) = (λ h. absurd (false≢true h), λ h. let c : _≡_ {A = ℕ} 0 1 = cc in absurd (omega arith))
 
--- All that is computed.
-record Computed : Type 0 where
-  bytes : all (λ b. ltb b 256) (stand 2) ≡ true
-  reads : read (stand 2) ≡ given stand-records
-  sound : judged (stand 2) false ≡ given 0
-  five : count-of stand-records ≡ 5
-  begin-given : begin idle (count-of stand-records) 4 stand-table ≡ given stand-begun
-  begin-called : stand-begun .state ≡ state-after idle (called idle stand-table (beginning 5 4))
-  table : take (count-of stand-records * count-of stand-records) stand-table ≡ plan-table (count-of stand-records) (serialized-of stand-records)
-  open-map : (k : ℕ) → k < 4 → test-bit 4 (suc k) ≡ is-open (delay-at (stand-records .steps) (suc k))
+says-open : List ℕ → ℕ → ℕ → Bool
+says-open bytes unbounded i = eqb i 0 || cond (test-bit unbounded i) (is-open (delay-at (records-of bytes .steps) i)) (not (is-open (delay-at (records-of bytes .steps) i)))
 
-computed : Computed
-unfolding every-definition called judged stand-table is-open
-computed = record {
-  bytes = refl;
-  reads = refl;
-  sound = refl;
-  five = refl;
-  begin-given = refl;
-  begin-called = refl;
-  table = refl;
-  open-map = below-four;
-}
-  where
-    below-four : (k : ℕ) → k < 4 → test-bit 4 (suc k) ≡ is-open (delay-at (stand-records .steps) (suc k))
-    below-four zero h = refl
-    below-four (suc zero) h = refl
-    below-four (suc (suc zero)) h = refl
-    below-four (suc (suc (suc zero))) h = refl
-    below-four (suc (suc (suc (suc k)))) h = absurd (omega arith)
-
-stand-accepted : Accepted (stand 2) false stand-records 0
-stand-accepted = record { sheet = record { bytes = λ b m. ltb-true b 256 (all-each (λ b. ltb b 256) (stand 2) (computed .bytes) b m); reads = computed .reads }; accepts = computed .sound }
-
-stand-lent : IsLent stand-records stand-table
-stand-lent = record { plan = computed .table }
-
-stand-opens : IsOpenMap stand-records 4
-stand-opens = record { stands = each }
-  where
-    each : (i : ℕ) → 0 < i → i < count-of stand-records → (test-bit 4 i ≡ true) ↔ (delay-at (stand-records .steps) i ≡ Open)
-    each zero h b = absurd (omega arith)
-    each (suc k) h b =
-        let e = computed .open-map k (omega (arith, computed .five)) in
-        let r = is-open-iff (delay-at (stand-records .steps) (suc k)) in
-        (λ t. r .0 (sym e ∙ t), λ o. e ∙ r .1 o)
+-- All that is computed of a sheet.
+record Computed (bytes : List ℕ) (verdict n unbounded : ℕ) : Type 0 where
+  small : all (λ b. ltb b 256) bytes ≡ true
+  reads : read bytes ≡ given (records-of bytes)
+  accepts : judged bytes true ≡ given verdict
+  opens : all-below (says-open bytes unbounded) (count-of (records-of bytes)) ≡ true
+  begin-given : begin idle (count-of (records-of bytes)) unbounded (table-of bytes n) ≡ given (begun-of bytes n unbounded)
+  begin-called : state-after idle (called idle (table-of bytes n) (beginning n unbounded)) ≡ begun-of bytes n unbounded .state
+  table : take (count-of (records-of bytes) * count-of (records-of bytes)) (table-of bytes n) ≡ plan-table (count-of (records-of bytes)) (serialized-of (records-of bytes))
 
 -- Calls that are all lent the sheet's table go on a run. Induction on the calls.
 calls-go-on : {q : Records} {st : State} (table : List ℕ) → IsLent q table → Run q st → (cs : List Call) → Run q (after-calls st table cs)
 calls-go-on table lent run [] = run
 calls-go-on table lent run (c ∷ cs) = calls-go-on table lent (goes-on run c table lent refl) cs
 
-stand-run : (cs : List Call) → Run stand-records (after-calls idle stand-table (beginning 5 4 ∷ cs))
-stand-run cs =
-    calls-go-on stand-table stand-lent (begins {st = state-after idle (called idle stand-table (beginning 5 4))} idle 4 stand-table stand-begun stand-opens stand-lent (computed .begin-given) (sym (computed .begin-called))) cs
+module _ {bytes : List ℕ} {verdict n unbounded : ℕ} (computed : Computed bytes verdict n unbounded) where
+  accepted : Accepted bytes true (records-of bytes) verdict
+  accepted = record { sheet = record { bytes = λ b m. ltb-true b 256 (all-each (λ b. ltb b 256) bytes (computed .small) b m); reads = computed .reads }; accepts = computed .accepts }
 
-pub stand-runs : RunsMet
-unfolding every-definition called stand-table
-stand-runs = record {
-  at-once = record { records = stand-records; accepted = stand-accepted; lent = stand-lent; run = stand-run (finishing 2 ∷ ticking ∷ ticking ∷ ticking ∷ finishing 2 ∷ []); all-started = refl; ticks = refl };
-  after-ten = record { records = stand-records; accepted = stand-accepted; lent = stand-lent; run = stand-run (ticking ∷ ticking ∷ ticking ∷ ticking ∷ ticking ∷ ticking ∷ ticking ∷ ticking ∷ ticking ∷ ticking ∷ finishing 2 ∷ ticking ∷ ticking ∷ []); all-started = refl; ticks = refl };
+  lent : IsLent (records-of bytes) (table-of bytes n)
+  lent = record { plan = computed .table }
+
+  open-map : IsOpenMap (records-of bytes) unbounded
+  open-map = record { stands = λ i h b. each i h (all-below-each (says-open bytes unbounded) (count-of (records-of bytes)) (computed .opens) i b) }
+    where
+      each : (i : ℕ) → 0 < i → says-open bytes unbounded i ≡ true → (test-bit unbounded i ≡ true) ↔ (delay-at (records-of bytes .steps) i ≡ Open)
+      each i h t = go (or-split (eqb i 0) (cond (test-bit unbounded i) (is-open (delay-at (records-of bytes .steps) i)) (not (is-open (delay-at (records-of bytes .steps) i)))) (unfold says-open in t))
+        where
+          go : (eqb i 0 ≡ true) ⊎ (cond (test-bit unbounded i) (is-open (delay-at (records-of bytes .steps) i)) (not (is-open (delay-at (records-of bytes .steps) i))) ≡ true) → (test-bit unbounded i ≡ true) ↔ (delay-at (records-of bytes .steps) i ≡ Open)
+          go (inl z) = absurd (omega (arith, eqb-true i 0 z))
+          go (inr s) =
+              let e = same-truth (test-bit unbounded i) (is-open (delay-at (records-of bytes .steps) i)) s in
+              let r = is-open-iff (delay-at (records-of bytes .steps) i) in
+              (λ t. r .0 (sym e ∙ t), λ o. e ∙ r .1 o)
+
+  run : (cs : List Call) → Run (records-of bytes) (after-begin bytes n unbounded cs)
+  run = calls-go-on (table-of bytes n) lent (begins {st = state-after idle (called idle (table-of bytes n) (beginning n unbounded))} idle unbounded (table-of bytes n) (begun-of bytes n unbounded) open-map lent (computed .begin-given) (computed .begin-called))
+
+  worked-run : (cs : List Call) (starts : List ℕ) → all-below (test-bit (after-begin bytes n unbounded cs .started)) n ≡ true → take n (after-begin bytes n unbounded cs .start) ≡ starts → WorkedRun bytes verdict n unbounded cs starts
+  worked-run cs starts started ticks = record { records = records-of bytes; accepted = accepted; lent = lent; run = run cs; all-started = started; ticks = ticks }
+
+stand-computed : Computed (stand 2) 0 5 4
+unfolding every-definition called judged is-open says-open
+stand-computed = record { small = refl; reads = refl; accepts = refl; opens = refl; begin-given = refl; begin-called = refl; table = refl }
+
+hands-computed : Computed two-hands 1 5 6
+unfolding every-definition called judged is-open says-open
+hands-computed = record { small = refl; reads = refl; accepts = refl; opens = refl; begin-given = refl; begin-called = refl; table = refl }
+
+pub examples : RunsMet
+unfolding every-definition called
+examples = record {
+  stand-at-once = worked-run stand-computed (finishing 2 ∷ ticking ∷ ticking ∷ ticking ∷ finishing 2 ∷ []) (0 ∷ 0 ∷ 0 ∷ 1 ∷ 3 ∷ []) refl refl;
+  stand-hand-ten = worked-run stand-computed (ticking ∷ ticking ∷ ticking ∷ ticking ∷ ticking ∷ ticking ∷ ticking ∷ ticking ∷ ticking ∷ ticking ∷ finishing 2 ∷ ticking ∷ ticking ∷ []) (0 ∷ 0 ∷ 0 ∷ 10 ∷ 12 ∷ []) refl refl;
+  two-hands-wait = worked-run hands-computed (finishing 1 ∷ ticking ∷ ticking ∷ ticking ∷ finishing 2 ∷ []) (0 ∷ 0 ∷ 0 ∷ 3 ∷ 3 ∷ []) refl refl;
 }

@@ -44,15 +44,9 @@ module _ {s : List ℕ} {allow : Bool} {q : Records} {w : ℕ} (accepted : Accep
   -- ## Any such state
 
   module _ {st : State} (timely : Timely q st) where
-    -- Step 0 is reported to last 0, and so is every step that has not finished.
+    -- Step 0 is reported to last 0.
     pub reported-source : reported st 0 ≡ 0
     reported-source = omega (arith, timely .state .source .3)
-
-    pub reported-unfinished : (a : ℕ) → test-bit (st .finished) a ≡ false → reported st a ≡ 0
-    reported-unfinished a f = omega (arith, timely .state .not-finished a f)
-
-    pub finished-below : (a : ℕ) → Finished st a → a < count-of q
-    finished-below a f = timely .state .only-steps a (timely .state .finished-started a f)
 
     -- The term of a step that has finished is its finish tick plus the offset.
     pub finished-term : (a v : ℕ) → Finished st a → term q (reported st) v a ≡ finish-tick st a + sheet-offset q a v

@@ -1,3 +1,4 @@
+pub mod Laws
 pub mod StartSets
 pub mod Sheets
 pub mod Sweeps

@@ -8,7 +8,7 @@ use Rattle.runs.proofs.Answers.{answers-for}
 use Rattle.runs.proofs.History.{begin-names, history-for}
 use Rattle.runs.proofs.Waiting.{waits-on}
 use Rattle.runs.proofs.Certificates.{certified}
-use Rattle.runs.proofs.Examples.{stand-runs}
+use Rattle.runs.proofs.Examples.{examples}
 
 -- The tests of the rule, one by one.
 pub sweeps-meant : SweepsMeant
@@ -33,6 +33,7 @@ run-answers s allow q w accepted st run = answers-for accepted (run-keeps accept
 pub history-kept : HistoryKept
 history-kept s allow q w accepted st run = history-for accepted (run-keeps accepted run)
 
+-- A Begin sets all anew, and then sweeps.
 pub begin-named : BeginNamed
 begin-named = begin-names
 
@@ -44,6 +45,6 @@ nothing-stuck s allow q w accepted st run = waits-on accepted (run-keeps accepte
 pub certificate : Certificate
 certificate s allow q w accepted st run = certified accepted (run-keeps accepted run)
 
--- Computed, on the stand sheet.
+-- Computed, on sheets of the worked table.
 pub runs-met : RunsMet
-runs-met = stand-runs
+runs-met = examples

@@ -7,15 +7,15 @@ use mathlib.Core.Bool.{Bool, true, false}
 use mathlib.Core.Logic.{_⊎_, _≢_, _↔_}
 use mathlib.Core.List.{List, [], _∷_, List·Memᴰ}
 use Prim.Native.Nat.{ℕ, _+_, _-_, _*_, _≤_, _<_}
-use lib.ListN.{getD, take, length}
-use Rattle.definitions.specs.Basics.{test-bit, given, refused}
+use lib.ListN.{getD, take, length, replicate}
+use Rattle.definitions.specs.Basics.{all-below, test-bit, given, refused}
 use Rattle.definitions.specs.Bytes.{Records}
 use Rattle.definitions.specs.Links.{Constraint, sequencing, minimum, maximum, constraints, delay-at, duration}
 use Rattle.definitions.specs.Waits.{WaitPair}
 use Rattle.definitions.specs.Plan.{plan-table, undecided}
-use Rattle.definitions.specs.Answers.{count-of, serialized-of}
+use Rattle.definitions.specs.Answers.{count-of, serialized-of, planned}
 use Rattle.definitions.specs.Dispatcher.{entry, Progress, sweep, begin, ticked, tick, ended, finish, Call, beginning, ticking, finishing, called, state-after, map-after}
-use Rattle.definitions.specs.Worked.{stand, stand-table, idle}
+use Rattle.definitions.specs.Worked.{stand, two-hands, idle}
 use Rattle.definitions.specs.declared.State.{State}
 use Rattle.definitions.specs.declared.Delay.the-variants.{Open}
 use Rattle.demands.specs.Demands.{Accepted, in-start-set, sheet-decides, our-start, sheet-waits, wait-link}
@@ -199,16 +199,25 @@ abbrev pub after-calls : State → List ℕ → List Call → State
 after-calls st table [] = st
 after-calls st table (c ∷ cs) = after-calls (state-after st (called st table c)) table cs
 
--- A run of the stand sheet, begun on a state that has not begun, that starts all five steps, at the ticks given.
-pub record StandRun (calls : List Call) (starts : List ℕ) : Type 0 where
-  pub records : Records
-  pub accepted : Accepted (stand 2) false records 0
-  pub lent : IsLent records stand-table
-  pub run : Run records (after-calls idle stand-table (beginning 5 4 ∷ calls))
-  pub all-started : after-calls idle stand-table (beginning 5 4 ∷ calls) .started ≡ 31
-  pub ticks : take 5 (after-calls idle stand-table (beginning 5 4 ∷ calls) .start) ≡ starts
+-- The plan of a sheet of n steps, written into a table of n × n numbers.
+abbrev pub table-of : List ℕ → ℕ → List ℕ
+table-of bytes n = planned bytes true (replicate (n * n) 0) .numbers
 
--- "Run of it: Begin gives 7; Finish 2 gives 0; ticks give 8, 0, 16. A second Finish 2: 17." And a run in which the hand takes 10. Proof: runs-met.
+-- The sheet is accepted with the verdict; a run of it, begun with n and the map on a state that has not begun and lent its table at each of the calls, starts all n steps, at the ticks given.
+abbrev pub after-begin : List ℕ → ℕ → ℕ → List Call → State
+after-begin bytes n unbounded calls = after-calls idle (table-of bytes n) (beginning n unbounded ∷ calls)
+
+pub record WorkedRun (bytes : List ℕ) (verdict n unbounded : ℕ) (calls : List Call) (starts : List ℕ) : Type 0 where
+  pub records : Records
+  pub accepted : Accepted bytes true records verdict
+  pub lent : IsLent records (table-of bytes n)
+  pub run : Run records (after-begin bytes n unbounded calls)
+  pub all-started : all-below (test-bit (after-begin bytes n unbounded calls .started)) n ≡ true
+  pub ticks : take n (after-begin bytes n unbounded calls .start) ≡ starts
+
+-- "Run of it: Begin gives 7; Finish 2 gives 0; ticks give 8, 0, 16. A second Finish 2: 17." A run in which the hand takes 10: "Stand sheet, hand 10: starts 0, 0, 0, 10, 12." And a run of two hands, in which step 3
+-- waits for hand 2. Proof: runs-met.
 pub record RunsMet : Type 0 where
-  pub at-once : StandRun (finishing 2 ∷ ticking ∷ ticking ∷ ticking ∷ finishing 2 ∷ []) (0 ∷ 0 ∷ 0 ∷ 1 ∷ 3 ∷ [])
-  pub after-ten : StandRun (ticking ∷ ticking ∷ ticking ∷ ticking ∷ ticking ∷ ticking ∷ ticking ∷ ticking ∷ ticking ∷ ticking ∷ finishing 2 ∷ ticking ∷ ticking ∷ []) (0 ∷ 0 ∷ 0 ∷ 10 ∷ 12 ∷ [])
+  pub stand-at-once : WorkedRun (stand 2) 0 5 4 (finishing 2 ∷ ticking ∷ ticking ∷ ticking ∷ finishing 2 ∷ []) (0 ∷ 0 ∷ 0 ∷ 1 ∷ 3 ∷ [])
+  pub stand-hand-ten : WorkedRun (stand 2) 0 5 4 (ticking ∷ ticking ∷ ticking ∷ ticking ∷ ticking ∷ ticking ∷ ticking ∷ ticking ∷ ticking ∷ ticking ∷ finishing 2 ∷ ticking ∷ ticking ∷ []) (0 ∷ 0 ∷ 0 ∷ 10 ∷ 12 ∷ [])
+  pub two-hands-wait : WorkedRun two-hands 1 5 6 (finishing 1 ∷ ticking ∷ ticking ∷ ticking ∷ finishing 2 ∷ []) (0 ∷ 0 ∷ 0 ∷ 3 ∷ 3 ∷ [])
