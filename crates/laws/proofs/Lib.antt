@@ -3,3 +3,5 @@ pub mod Tests
 pub mod Maps
 pub mod Arrays
 pub mod Parsers
+pub mod Lists
+pub mod Outcomes

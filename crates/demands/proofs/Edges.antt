@@ -1,0 +1,197 @@
+-- The edges of a sheet: what holds of each, and that start times keep a link exactly if they keep its edge. The sheet may be a rival's, of any length.
+use mathlib.Core.Path.{_≡_, refl, sym, ap, subst, _∙_}
+use mathlib.Core.Bool.{Bool, true, false, cond, not}
+use mathlib.Core.Logic.{_⊎_, inl, inr, _≢_, _↔_}
+use mathlib.Core.List.{List, [], _∷_, _++_, map, flatMap, List·Memᴰ, List·Memᴰ·head, List·Memᴰ·not-nil, List·Memᴰ·append-cases, List·Memᴰ·eq-of-singleton, Memᴰ·append-left, Memᴰ·append-right, Memᴰ·map, Memᴰ·of-map, Memᴰ·cast}
+use Prim.Native.Nat.{ℕ, zero, suc, _+_, _≤_, _<_}
+use native.Mathlib.Omega.{arith}
+use lib.Dec.{eqb}
+use lib.ListN.{length}
+use borrow.Author.Tests.{eqb-true, eq-eqb, ne-eqb}
+use Rattle.definitions.specs.Bytes.{Records}
+use Rattle.definitions.specs.Links.{Constraint, sequencing, minimum, maximum, sequencing-of, minimum-of, maximum-of, link-constraints, constraints, delay-at, duration-with, duration, Keeps, KeepsAll, Edge, sequencing-edge, edge-of, edges, Graph, members, _⊑_}
+use Rattle.definitions.specs.Rival.{Further, Extension}
+use Rattle.definitions.specs.Answers.{count-of, edges-of}
+use Rattle.definitions.specs.declared.Delay.{Delay}
+use Rattle.definitions.specs.declared.Delay.the-variants.{Open, Fixed}
+use Rattle.definitions.specs.declared.Operation.{Operation}
+use Rattle.definitions.specs.declared.Bound.{Bound}
+use Rattle.definitions.specs.declared.Bound.the-variants.{Absent, Ticks}
+use Rattle.definitions.specs.declared.Link.{Link}
+use Rattle.laws.proofs.Tests.{flatMap-has, flatMap-only}
+use Rattle.theory.specs.Graphs.{KeepsEdge, Schedule, Shape, Gains, Losses}
+use Rattle.demands.proofs.Reading.{Fits, LinkFits}
+
+-- Both ends of a link are steps.
+abbrev pub Ends : ℕ → Constraint → Type 0
+Ends n (sequencing i j) = (i < n) × (j < n)
+Ends n (minimum i j m) = (i < n) × (j < n)
+Ends n (maximum i j u) = (i < n) × (j < n)
+
+-- And its ticks are at most g.
+abbrev pub TicksWithin : ℕ → Constraint → Type 0
+TicksWithin g (sequencing i j) = Unit {0}
+TicksWithin g (minimum i j m) = m ≤ g
+TicksWithin g (maximum i j u) = u ≤ g
+
+-- What is true of every edge that a link is: its ends, no weight against its direction, and where it is counted.
+pub record EdgeFits (os : List Operation) (n : ℕ) (e : Edge) : Type 0 where
+  pub from-below : e .from < n
+  pub to-below : e .to < n
+  pub back-uncounted : e .back ≡ true → e .counted ≡ false
+  pub forward-lossless : e .back ≡ false → e .loss ≡ 0
+  pub counted-open : e .counted ≡ true → delay-at os (e .from) ≡ Open
+  pub counted-not-source : e .counted ≡ true → e .from ≢ 0
+
+false-true : {A : Type 0} → false ≡ true → A
+false-true e = let z : _≡_ {A = ℕ} 0 1 = cc in absurd (omega arith)
+
+sequencing-fits : (os : List Operation) (n i j : ℕ) (d : Delay) → delay-at os i ≡ d → i < n → j < n → EdgeFits os n (sequencing-edge d i j)
+unfolding sequencing-edge
+sequencing-fits os n i j (Fixed x) h a b =
+    record { from-below = a; to-below = b; back-uncounted = λ z. refl; forward-lossless = λ z. refl; counted-open = λ z. false-true z; counted-not-source = λ z. false-true z }
+sequencing-fits os n i j Open h a b =
+    record { from-below = a; to-below = b; back-uncounted = λ z. false-true z; forward-lossless = λ z. refl; counted-open = λ z. h; counted-not-source = λ z e. false-true (sym (ap not (eq-eqb i 0 e)) ∙ z) }
+
+edge-fits : (os : List Operation) (n : ℕ) (c : Constraint) → Ends n c → EdgeFits os n (edge-of os c)
+unfolding edge-of
+edge-fits os n (sequencing i j) h = sequencing-fits os n i j (delay-at os i) refl (h .0) (h .1)
+edge-fits os n (minimum i j m) h =
+    record { from-below = h .0; to-below = h .1; back-uncounted = λ z. refl; forward-lossless = λ z. refl; counted-open = λ z. false-true z; counted-not-source = λ z. false-true z }
+edge-fits os n (maximum i j u) h =
+    record { from-below = h .1; to-below = h .0; back-uncounted = λ z. refl; forward-lossless = λ z. false-true (sym z); counted-open = λ z. false-true z; counted-not-source = λ z. false-true z }
+
+-- An edge of a list of links is the edge of one of them.
+pub edge-link : (os : List Operation) (cs : List Constraint) (e : Edge) → members (edges os cs) e → (c : Constraint) × List·Memᴰ c cs × (edge-of os c ≡ e)
+unfolding edges
+edge-link os cs e m = Memᴰ·of-map (edge-of os) cs m
+
+pub link-edge : (os : List Operation) (cs : List Constraint) (c : Constraint) → List·Memᴰ c cs → members (edges os cs) (edge-of os c)
+unfolding edges
+link-edge os cs c m = Memᴰ·map (edge-of os) m
+
+pub all-fit : (os : List Operation) (n : ℕ) (cs : List Constraint) → ((c : Constraint) → List·Memᴰ c cs → Ends n c) → (e : Edge) → members (edges os cs) e → EdgeFits os n e
+all-fit os n cs ends e m =
+    let r = edge-link os cs e m in
+    subst (EdgeFits os n) (r .2) (edge-fits os n (r .0) (ends (r .0) (r .1)))
+
+pub edges-shape : (os : List Operation) (n : ℕ) (cs : List Constraint) → ((c : Constraint) → List·Memᴰ c cs → Ends n c) → Shape n (members (edges os cs))
+edges-shape os n cs ends = record { from-below = λ e m. all-fit os n cs ends e m .from-below; to-below = λ e m. all-fit os n cs ends e m .to-below; back-uncounted = λ e m. all-fit os n cs ends e m .back-uncounted; forward-lossless = λ e m. all-fit os n cs ends e m .forward-lossless }
+
+-- Start times keep a link exactly if they keep its edge: the edge is counted just where the duration is the delay. By the kind of link and the delay of its first step.
+module _ (os : List Operation) (d t : ℕ → ℕ) where
+  sequencing-keeps : (i j : ℕ) (x : Delay) → (t i + duration-with d i x ≤ t j) ↔ KeepsEdge d t (sequencing-edge x i j)
+  unfolding duration-with sequencing-edge
+  sequencing-keeps i j (Fixed x) = (λ h. omega arith, λ h. omega arith)
+  sequencing-keeps zero j Open = (λ h. omega arith, λ h. omega arith)
+  sequencing-keeps (suc i) j Open =
+      let c : eqb (suc i) 0 ≡ false = ne-eqb (suc i) 0 (λ e. omega arith) in
+      rw c (λ h. omega arith, λ h. omega arith)
+
+  pub link-keeps : (c : Constraint) → Keeps os d t c ↔ KeepsEdge d t (edge-of os c)
+  unfolding edge-of duration
+  link-keeps (sequencing i j) = sequencing-keeps i j (delay-at os i)
+  link-keeps (minimum i j m) = (λ h. omega arith, λ h. omega arith)
+  link-keeps (maximum i j u) = (λ h. omega arith, λ h. omega arith)
+
+  pub keeps-schedule : (cs : List Constraint) → KeepsAll os cs d t → Schedule (members (edges os cs)) d t
+  keeps-schedule cs K = record { starts = K .starts; keeps = λ e m. let r = edge-link os cs e m in subst (KeepsEdge d t) (r .2) (link-keeps (r .0) .0 (K .keeps (r .0) (r .1))) }
+
+  pub schedule-keeps : (cs : List Constraint) → Schedule (members (edges os cs)) d t → KeepsAll os cs d t
+  schedule-keeps cs S = record { starts = S .starts; keeps = λ c m. link-keeps c .1 (S .keeps (edge-of os c) (link-edge os cs c m)) }
+
+-- Gains and losses: of a fixed duration, or of the link's ticks.
+sequencing-gain : (g i j : ℕ) (x : Delay) → ((ticks : ℕ) → x ≡ Fixed ticks → ticks ≤ g) → (sequencing-edge x i j .gain ≤ g) × (sequencing-edge x i j .loss ≤ g)
+unfolding sequencing-edge
+sequencing-gain g i j (Fixed x) h = (h x refl, omega arith)
+sequencing-gain g i j Open h = (omega arith, omega arith)
+
+edge-weights : (os : List Operation) (g : ℕ) → ((i x : ℕ) → delay-at os i ≡ Fixed x → x ≤ g) → (c : Constraint) → TicksWithin g c → (edge-of os c .gain ≤ g) × (edge-of os c .loss ≤ g)
+unfolding edge-of
+edge-weights os g h (sequencing i j) w = sequencing-gain g i j (delay-at os i) (h i)
+edge-weights os g h (minimum i j m) w = (w, omega arith)
+edge-weights os g h (maximum i j u) w = (omega arith, w)
+
+-- A link record's links: on its pair, with its ticks.
+record LinkIs (n g : ℕ) (c : Constraint) : Type 0 where
+  ends : Ends n c
+  within : TicksWithin g c
+
+sequencing-is : (n g i j : ℕ) (b : Bool) (c : Constraint) → i < n → j < n → List·Memᴰ c (sequencing-of i j b) → LinkIs n g c
+unfolding sequencing-of
+sequencing-is n g i j true c a b m = subst (LinkIs n g) (sym (List·Memᴰ·eq-of-singleton m)) (record { ends = (a, b); within = tt })
+sequencing-is n g i j false c a b m = absurd (List·Memᴰ·not-nil m)
+
+minimum-is : (n g i j : ℕ) (x : Bound) (c : Constraint) → i < n → j < n → ((m : ℕ) → x ≡ Ticks m → m ≤ g) → List·Memᴰ c (minimum-of i j x) → LinkIs n g c
+unfolding minimum-of
+minimum-is n g i j (Ticks x) c a b h m = subst (LinkIs n g) (sym (List·Memᴰ·eq-of-singleton m)) (record { ends = (a, b); within = h x refl })
+minimum-is n g i j Absent c a b h m = absurd (List·Memᴰ·not-nil m)
+
+maximum-is : (n g i j : ℕ) (x : Bound) (c : Constraint) → i < n → j < n → ((m : ℕ) → x ≡ Ticks m → m ≤ g) → List·Memᴰ c (maximum-of i j x) → LinkIs n g c
+unfolding maximum-of
+maximum-is n g i j (Ticks x) c a b h m = subst (LinkIs n g) (sym (List·Memᴰ·eq-of-singleton m)) (record { ends = (a, b); within = h x refl })
+maximum-is n g i j Absent c a b h m = absurd (List·Memᴰ·not-nil m)
+
+record-is : (n : ℕ) (l : Link) (c : Constraint) → LinkFits n l → List·Memᴰ c (link-constraints l) → LinkIs n 65535 c
+unfolding link-constraints
+record-is n l c f m = go (List·Memᴰ·append-cases (sequencing-of (l .from) (l .to) (l .sequencing) ++ minimum-of (l .from) (l .to) (l .minimum)) m)
+  where
+    left : List·Memᴰ c (sequencing-of (l .from) (l .to) (l .sequencing)) ⊎ List·Memᴰ c (minimum-of (l .from) (l .to) (l .minimum)) → LinkIs n 65535 c
+    left (inl i) = sequencing-is n 65535 (l .from) (l .to) (l .sequencing) c (f .from-below) (f .to-below) i
+    left (inr i) = minimum-is n 65535 (l .from) (l .to) (l .minimum) c (f .from-below) (f .to-below) (f .minimum-few) i
+
+    go : List·Memᴰ c (sequencing-of (l .from) (l .to) (l .sequencing) ++ minimum-of (l .from) (l .to) (l .minimum)) ⊎ List·Memᴰ c (maximum-of (l .from) (l .to) (l .maximum)) → LinkIs n 65535 c
+    go (inl i) = left (List·Memᴰ·append-cases (sequencing-of (l .from) (l .to) (l .sequencing)) i)
+    go (inr i) = maximum-is n 65535 (l .from) (l .to) (l .maximum) c (f .from-below) (f .to-below) (f .maximum-few) i
+
+-- The edges of a sheet that has been read.
+module _ {q : Records} (fits : Fits q) where
+  sheet-link : (c : Constraint) → List·Memᴰ c (constraints (q .pairs)) → LinkIs (count-of q) 65535 c
+  unfolding constraints
+  sheet-link c m = let r = flatMap-only link-constraints (q .pairs) m in record-is (count-of q) (r .0) c (fits .links (r .0) (r .1)) (r .2)
+
+  pub sheet-ends : (c : Constraint) → List·Memᴰ c (constraints (q .pairs)) → Ends (count-of q) c
+  sheet-ends c m = sheet-link c m .ends
+
+  pub sheet-fits : (e : Edge) → members (edges-of q) e → EdgeFits (q .steps) (count-of q) e
+  unfolding edges-of
+  sheet-fits = all-fit (q .steps) (count-of q) (constraints (q .pairs)) sheet-ends
+
+  pub sheet-shape : Shape (count-of q) (members (edges-of q))
+  unfolding edges-of
+  sheet-shape = edges-shape (q .steps) (count-of q) (constraints (q .pairs)) sheet-ends
+
+  sheet-weights : (e : Edge) → members (edges-of q) e → (e .gain ≤ 65535) × (e .loss ≤ 65535)
+  unfolding edges-of
+  sheet-weights e m =
+      let r = edge-link (q .steps) (constraints (q .pairs)) e m in
+      subst (λ (x : Edge). (x .gain ≤ 65535) × (x .loss ≤ 65535)) (r .2) (edge-weights (q .steps) 65535 (fits .ticks) (r .0) (sheet-link (r .0) (r .1) .within))
+
+  pub sheet-gains : Gains (members (edges-of q)) 65535
+  sheet-gains e m = sheet-weights e m .0
+
+  pub sheet-losses : Losses (members (edges-of q)) 65535
+  sheet-losses e m = sheet-weights e m .1
+
+  -- A rival's sheet: its graph has the sheet's edges, and the shape of a sheet's.
+  module _ {fs : List Constraint} (extension : Extension (q .steps) (constraints (q .pairs)) fs) where
+    further-ends : (c : Constraint) → Further (count-of q) c → Ends (count-of q) c
+    further-ends (sequencing i j) h = h
+    further-ends (minimum i j m) h = h
+    further-ends (maximum i j u) h = absurd h
+
+    rival-ends : (c : Constraint) → List·Memᴰ c fs → Ends (count-of q) c
+    rival-ends c m = go (extension .only c m)
+      where
+        go : List·Memᴰ c (constraints (q .pairs)) ⊎ Further (count-of q) c → Ends (count-of q) c
+        go (inl i) = sheet-ends c i
+        go (inr h) = further-ends c h
+
+    pub rival-shape : Shape (count-of q) (members (edges (q .steps) fs))
+    rival-shape = edges-shape (q .steps) (count-of q) fs rival-ends
+
+    pub rival-above : members (edges-of q) ⊑ members (edges (q .steps) fs)
+    unfolding edges-of
+    rival-above e m =
+        let r = edge-link (q .steps) (constraints (q .pairs)) e m in
+        subst (members (edges (q .steps) fs)) (r .2) (link-edge (q .steps) fs (r .0) (extension .keeps-all (r .0) (r .1)))

@@ -1,0 +1,15 @@
+pub mod Reading
+pub mod Edges
+pub mod Judging
+pub mod Meaning
+pub mod Listing
+pub mod Orders
+pub mod DelayLists
+pub mod Calls
+pub mod Sheets
+pub mod Impossibility
+pub mod Verdicts
+pub mod OurStarts
+pub mod Planning
+pub mod Examples
+pub mod Demands

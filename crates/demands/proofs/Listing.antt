@@ -1,0 +1,112 @@
+-- The waits that are listed are those of document 01, and the maps and the count say the same as the list.
+use mathlib.Core.Path.{_≡_, refl, sym, ap, ap₂, _∙_}
+use mathlib.Core.Bool.{Bool, true, false, cond, not, _&&_}
+use mathlib.Core.Logic.{_⊎_, inl, inr, _≢_, _↔_}
+use mathlib.Core.List.{List, [], _∷_, List·Memᴰ, Memᴰ·cast, map, flatMap}
+use Prim.Native.Nat.{ℕ, zero, suc, _+_, _^_, _/_, _%_, _≤_, _<_}
+use native.Mathlib.Omega.{arith}
+use native.Mathlib.Decide.{decLt}
+use lib.Dec.{eqb, ltb}
+use lib.ListN.{length, getD, length-map}
+use lib.Pow.{pow-mono, pow-pos}
+use borrow.Author.Tests.{lt-ltb, le-ltb}
+use native.Mathlib.Nat.{zero-div}
+use Rattle.definitions.specs.Basics.{tabulate, select-below, test-bit, given}
+use Rattle.definitions.specs.Bytes.{Records}
+use Rattle.definitions.specs.Links.{Edge, members}
+use Rattle.definitions.specs.Rounds.{cell}
+use Rattle.definitions.specs.Waits.{Wait, WaitPair, waits-for, waits-of, wait-list, wait-map, wait-maps, wait-count}
+use Rattle.definitions.specs.Plan.{offset, decides}
+use Rattle.definitions.specs.Answers.{count-of, edges-of, judge-records, judged}
+use Rattle.definitions.specs.Output.{StartLine, Listing, lines-of, start-lines, list-records, listed}
+use Rattle.laws.proofs.Outcomes.{when-given-by}
+use Rattle.theory.proofs.Walks.{member-below}
+use Rattle.theory.proofs.DecidingSets.{decides-iff}
+use Rattle.demands.proofs.Meaning.{waits-shape}
+use Rattle.laws.proofs.Bools.{and-join, both-ways}
+use Rattle.laws.proofs.Tests.{tabulate-length, tabulate-past}
+use Rattle.theory.specs.Graphs.{Shape}
+use Rattle.theory.proofs.WaitLists.{wait-listed, listed-wait, wait-target-below, wait-map-bit, wait-map-iff, wait-map-small, wait-maps-at}
+use Rattle.theory.proofs.WaitCounts.{wait-count-bits}
+use Rattle.demands.specs.Demands.{Rising, WaitBefore, ListedFor, LinesFor, Accepted, LineBefore, sheet-lines, sheet-decides, sheet-offset, wait-pair, sheet-waits}
+use Rattle.demands.proofs.Reading.{Fits}
+use Rattle.demands.proofs.Edges.{sheet-shape}
+use Rattle.demands.proofs.Orders.{pairs-rising, pairs-has, pairs-only}
+
+-- No bit stands in 0.
+no-bits : (a : ℕ) → test-bit 0 a ≡ false
+unfolding test-bit
+no-bits a = rw (zero-div (2 ^ a))
+
+maps-past : (n : ℕ) (es : List Edge) (i : ℕ) → 64 ≤ i → cell (wait-maps n es) i ≡ 0
+unfolding wait-maps
+maps-past n es i h = tabulate-past (wait-map n es) 64 i 0 h
+
+-- They are the pairs that wait, in rising order.
+waits-rising : (n : ℕ) (es : List Edge) → Rising WaitBefore (wait-list n es)
+unfolding wait-list waits-of
+waits-rising n es = pairs-rising wait-pair (waits-for n es) n WaitBefore (λ i j k l h. h)
+
+-- The waits of a sheet.
+module _ {q : Records} (fits : Fits q) where
+  abbrev n : ℕ
+  n = count-of q
+
+  abbrev es : List Edge
+  es = edges-of q
+
+  pub listed-iff : (a i : ℕ) → List·Memᴰ (wait-pair a i) (sheet-waits q) ↔ Wait (members (edges-of q)) a i
+  listed-iff a i = (λ m. listed-wait (sheet-shape fits) m, λ w. wait-listed (sheet-shape fits) w)
+
+  maps-bits : (a i : ℕ) → Dec (i < 64) → (test-bit (cell (wait-maps n es) i) a ≡ true) ↔ List·Memᴰ (wait-pair a i) (sheet-waits q)
+  maps-bits a i (yes c) =
+      let r = wait-map-iff (sheet-shape fits) i a in
+      let l = listed-iff a i in
+      (λ h. l .1 (r .0 (ap (λ (m : ℕ). test-bit m a) (sym (wait-maps-at n es i c)) ∙ h)), λ m. ap (λ (x : ℕ). test-bit x a) (wait-maps-at n es i c) ∙ r .1 (l .0 m))
+  maps-bits a i (no c) =
+      (λ h. absurd (both-ways h (ap (λ (m : ℕ). test-bit m a) (maps-past n es i (omega arith)) ∙ no-bits a)),
+       λ m. absurd (omega (arith, wait-target-below (sheet-shape fits) (listed-iff a i .0 m), fits .few)))
+
+  maps-small : (i : ℕ) → Dec (i < 64) → cell (wait-maps n es) i < 2 ^ 64
+  maps-small i (yes c) = omega (arith, wait-maps-at n es i c, wait-map-small n es i, pow-mono (fits .few))
+  maps-small i (no c) = omega (arith, maps-past n es i (omega arith))
+
+  pub listed-for : ListedFor q
+  unfolding wait-maps wait-count
+  listed-for = record { listed = listed-iff; order = waits-rising n es; maps-size = tabulate-length (wait-map n es) 64; maps-small = λ i. maps-small i (decLt i 64); maps-bits = λ a i. maps-bits a i (decLt i 64); count-list = refl; count-maps = wait-count-bits n es (fits .few) }
+
+-- Start lines are the pairs of a step and one that decides it, in rising order. One that decides is a member of a start set, and so a step.
+line-of : (n : ℕ) (es : List Edge) (i a : ℕ) → StartLine
+line-of n es i a = record { step = i; decider = a; ticks = offset n es a i }
+
+module _ {n : ℕ} {es : List Edge} (shape : Shape n (members es)) where
+  lines-iff : (i a ticks : ℕ) → List·Memᴰ (record { step = i; decider = a; ticks = ticks }) (start-lines n es) ↔ ((i < n) × (decides n es a i ≡ true) × (ticks ≡ offset n es a i))
+  unfolding start-lines lines-of line-of
+  lines-iff i a ticks = (only, λ r. has (r .0) (r .1) (r .2))
+    where
+      only : List·Memᴰ (record { step = i; decider = a; ticks = ticks }) (start-lines n es) → (i < n) × (decides n es a i ≡ true) × (ticks ≡ offset n es a i)
+      only m =
+          let r = pairs-only (line-of n es) (λ j b. decides n es b j) n m in
+          let si : r .0 ≡ i = ap (λ (l : StartLine). l .step) (r .4) in
+          let sa : r .1 ≡ a = ap (λ (l : StartLine). l .decider) (r .4) in
+          (omega (arith, r .2), sym (ap₂ (λ (b j : ℕ). decides n es b j) sa si) ∙ r .3, sym (ap (λ (l : StartLine). l .ticks) (r .4)) ∙ ap₂ (λ (b j : ℕ). offset n es b j) sa si)
+
+      has : i < n → decides n es a i ≡ true → ticks ≡ offset n es a i → List·Memᴰ (record { step = i; decider = a; ticks = ticks }) (start-lines n es)
+      has b h e =
+          let inside : a < n = member-below shape b (decides-iff shape a i b .0 h .inside) in
+          Memᴰ·cast (ap (λ (t : ℕ). record { step = i; decider = a; ticks = t }) e) (pairs-has (line-of n es) (λ j b. decides n es b j) n i a b inside h)
+
+  lines-rising : Rising LineBefore (start-lines n es)
+  unfolding start-lines lines-of line-of
+  lines-rising = pairs-rising (line-of n es) (λ j b. decides n es b j) n LineBefore (λ i j k l h. h)
+
+pub lines-for : {s : List ℕ} {allow : Bool} {q : Records} {v : ℕ} → Fits q → Accepted s allow q v → LinesFor s allow q v
+unfolding listed list-records judged
+lines-for {s} {allow} {q} {v} fits accepted =
+    let shape = waits-shape fits in
+    let judges = sym (when-given-by (λ q. judge-records q allow) (accepted .sheet .reads)) ∙ accepted .accepts in
+    record {
+      listing = when-given-by (λ q. list-records q allow) (accepted .sheet .reads) ∙ when-given-by (λ v. given (record { verdict = v; waits = sheet-waits q; starts = sheet-lines q })) judges;
+      lines = lines-iff shape;
+      order = lines-rising shape;
+    }

@@ -1,0 +1,91 @@
+-- The tests that the definitions compute are the relations of document 01, for the edges of a sheet as sent and with its waits in.
+use mathlib.Core.Path.{_≡_, refl, sym, ap, subst, _∙_}
+use mathlib.Core.Bool.{Bool, true, false, cond, not, _&&_, _||_}
+use mathlib.Core.Logic.{_⊎_, inl, inr, _≢_, _↔_}
+use mathlib.Core.List.{List, [], _∷_, List·Memᴰ}
+use Prim.Native.Nat.{ℕ, zero, suc, _+_, _≤_, _<_}
+use native.Mathlib.Omega.{arith}
+use lib.Dec.{eqb, ltb}
+use lib.ListN.{length}
+use borrow.Author.Tests.{not-true, not-false, eq-eqb}
+use Rattle.definitions.specs.Basics.{any, any-below, all-below}
+use Rattle.definitions.specs.Bytes.{Records, read}
+use Rattle.definitions.specs.Links.{Edge, Graph, members, Forward, Walk, stop, step, Joined, After, forwards, delay-at}
+use Rattle.definitions.specs.Rounds.{reaches, after-reaches}
+use Rattle.definitions.specs.Anchors.{InAnchorSet, is-source, chain, in-anchor-set, well-posed}
+use Rattle.definitions.specs.Waits.{serialized}
+use Rattle.definitions.specs.Answers.{closes-circle, unreached, count-of, edges-of, serialized-of}
+use Rattle.definitions.specs.declared.Delay.the-variants.{Open}
+use Rattle.laws.proofs.Bools.{bool-cases, both-ways, not-passing, or-left}
+use Rattle.laws.proofs.Tests.{any-has, any-by, any-below-has, any-below-by}
+use Rattle.theory.specs.Graphs.{Shape, Rooted, ForwardAcyclic, WaitEdge}
+use Rattle.theory.proofs.Walks.{walk-to, joined-mono, chain-after}
+use Rattle.theory.proofs.Reachability.{forwards-mem, mem-forwards, forwards-shape, reaches-iff, after-reaches-iff, in-anchor-set-iff, well-posed-iff}
+use Rattle.theory.proofs.Serialization.{after-back, wait-after}
+use Rattle.theory.proofs.WaitLists.{serialized-waited, serialized-shape}
+use Rattle.demands.specs.Demands.{IsSheet, Meant, MeantFor, in-start-set}
+use Rattle.demands.proofs.Reading.{Fits, read-fits}
+use Rattle.demands.proofs.Edges.{EdgeFits, sheet-shape, sheet-fits}
+
+module _ {n : ℕ} {es : List Edge} (some : 0 < n) (shape : Shape n (members es)) where
+  -- A chain of forward links, by test.
+  forward-reaches : {x : ℕ} → x < n → (v : ℕ) → (reaches n (forwards es) x v ≡ true) ↔ Joined (Forward (members es)) x v
+  forward-reaches b v =
+      let r = reaches-iff (forwards-shape shape) b v in
+      (λ h. joined-mono (mem-forwards es) (r .0 h), λ J. r .1 (joined-mono (forwards-mem es) J))
+
+  -- A circle is an edge and a chain from its end to its start; and a closed walk of at least one edge ends with such an edge.
+  circle-walk : closes-circle n es ≡ true → (x : ℕ) × (k : ℕ) × (g : ℕ) × (l : ℕ) × Walk (Forward (members es)) x x (suc k) g l
+  unfolding closes-circle
+  circle-walk h =
+      let r = any-has (λ e. reaches n (forwards es) (e .to) (e .from)) (forwards es) h in
+      let m = mem-forwards es (r .0) (r .1) in
+      let J = forward-reaches (shape .to-below (r .0) (m .0)) (r .0 .from) .0 (r .2) in
+      (r .0 .to, J .k, J .p + r .0 .gain, J .q + r .0 .loss, step (J .walk) (r .0) m refl refl refl refl refl)
+
+  walk-circle : {x y k g l : ℕ} → x ≡ y → Walk (Forward (members es)) x y (suc k) g l → closes-circle n es ≡ true
+  unfolding closes-circle
+  walk-circle h (stop e hk hp hq) = absurd (omega arith)
+  walk-circle {x} {y} h (step {y = z} {k = k₀} {p = p₀} {q = q₀} w e m f o hk hp hq) =
+      any-by
+      (λ e. reaches n (forwards es) (e .to) (e .from))
+      (forwards es)
+      (forwards-mem es e m)
+      (forward-reaches (shape .to-below e (m .0)) (e .from) .1 (record { k = k₀; p = p₀; q = q₀; walk = subst (λ (i : ℕ). Walk (Forward (members es)) i (e .from) k₀ p₀ q₀) (h ∙ sym o) (walk-to w (sym f) refl refl refl) }))
+
+  pub meant : Meant n es
+  unfolding unreached
+  meant = record {
+    walks = λ x v b. reaches-iff shape b v;
+    after-walks = after-reaches-iff shape;
+    start-sets = in-anchor-set-iff shape;
+    sound = well-posed-iff shape;
+    circle = (circle-walk, λ r. walk-circle refl (r .4));
+    reached = (
+      λ h. let r = any-below-has (λ v. not (reaches n (forwards es) 0 v)) n h in (r .0, r .1, λ J. both-ways (forward-reaches some (r .0) .1 J) (not-true (reaches n (forwards es) 0 (r .0)) (r .2))),
+      λ r. any-below-by (λ v. not (reaches n (forwards es) 0 v)) n (r .1) (ap not (not-passing (reaches n (forwards es) 0 (r .0)) (λ t. r .2 (forward-reaches some (r .0) .0 t)))),
+    );
+  }
+
+-- A step from whose end a walk goes is open: the walk's first edge is counted.
+pub after-open : {q : Records} {a v : ℕ} → Fits q → After (members (edges-of q)) a v → delay-at (q .steps) a ≡ Open
+after-open {q} fits w =
+    let e = w .walk .edge in
+    subst (λ (i : ℕ). delay-at (q .steps) i ≡ Open) (w .walk .leaves) (sheet-fits fits e (w .walk .mem) .counted-open (w .walk .counts))
+
+-- The sheet with its waits in has the shape of a sheet.
+module _ {q : Records} (fits : Fits q) where
+  pub waits-shape : Shape (count-of q) (members (serialized-of q))
+  unfolding serialized-of
+  waits-shape = serialized-shape (sheet-shape fits)
+
+  -- A member of a start set is step 0 or open, waits or not: a walk over waits stands for one of the sheet as sent.
+  member-open : {a v : ℕ} → InAnchorSet (members (serialized-of q)) a v → (a ≡ 0) ⊎ (delay-at (q .steps) a ≡ Open)
+  unfolding serialized-of
+  member-open (is-source e) = inl e
+  member-open (chain c) = inr (after-open fits (after-back (serialized-waited (sheet-shape fits)) (chain-after c .walk)))
+
+  pub meant-for : MeantFor q
+  meant-for =
+      let S = in-anchor-set-iff waits-shape in
+      record { as-sent = meant (fits .some) (sheet-shape fits); with-waits = meant (fits .some) waits-shape; source = λ v. S 0 v .1 (is-source refl); others-open = λ a v h. member-open (S a v .0 h) }

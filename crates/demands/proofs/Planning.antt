@@ -1,0 +1,193 @@
+-- The plan of an accepted sheet: its verdict and waits, offsets, starts, deciding sets and table are those of document 01.
+use mathlib.Core.Path.{_≡_, refl, sym, ap, subst, _∙_}
+use mathlib.Core.Bool.{Bool, true, false, cond, not, _&&_}
+use mathlib.Core.Logic.{_⊎_, inl, inr, _≢_, _↔_}
+use mathlib.Core.List.{List, [], _∷_, List·Memᴰ, List·Memᴰ·head, List·Memᴰ·not-nil}
+use Prim.Native.Nat.{ℕ, zero, suc, _+_, _*_, _≤_, _<_}
+use native.Mathlib.Omega.{arith}
+use native.Mathlib.Decide.{decLt}
+use lib.Dec.{ltb}
+use lib.ListN.{length, getD, List·getD-eq-default}
+use borrow.Author.Tests.{ltb-false, le-ltb}
+use Rattle.definitions.specs.Basics.{any-below, largest}
+use Rattle.definitions.specs.Bytes.{Records}
+use Rattle.definitions.specs.Links.{Edge, members, Forward, Walk, After, delay-at}
+use Rattle.definitions.specs.Rounds.{cell}
+use Rattle.definitions.specs.Anchors.{InAnchorSet, is-source, WellPosed, in-anchor-set}
+use Rattle.definitions.specs.Waits.{Wait, WaitPair, wait-list, wait-count, needs-waits, serialized}
+use Rattle.definitions.specs.Plan.{Offset, offset, start-times, overrides, decides, plan-entry, plan-table, delays}
+use Rattle.definitions.specs.Answers.{count-of, edges-of, serialized-of}
+use Rattle.definitions.specs.declared.Delay.the-variants.{Open}
+use Rattle.laws.proofs.Bools.{bool-cases, both-ways, and-join, not-passing}
+use Rattle.laws.proofs.Tests.{any-below-has, any-below-by}
+use Rattle.theory.specs.Graphs.{Shape, Well, Acyclic, Relative, Decides, Overrides, sole-delay}
+use Rattle.theory.proofs.Walks.{member-below, chain-after}
+use Rattle.theory.proofs.Reachability.{in-anchor-set-iff, dec-member}
+use Rattle.theory.proofs.WaitLists.{needs-waits-iff}
+use Rattle.theory.proofs.SoleDelays.{sole-delay-source}
+use Rattle.theory.proofs.StartTimes.{relative-all, start-times-length, start-times-source, start-times-rule}
+use Rattle.theory.proofs.DecidingSets.{overrides-iff, decides-iff}
+use Rattle.theory.proofs.PlanTables.{plan-table-length, plan-table-at, plan-table-row}
+use Rattle.theory.proofs.Plans.{plan-some, plan-well, plan-posed, plan-forward-acyclic, plan-wait-other, plan-wait-not-source, plan-relative, plan-enough, plan-offset-limit, plan-start-limit-64, plan-strict, plan-deciding-least}
+use Rattle.demands.specs.Demands.{Accepted, IsDelayList, in-start-set, sheet-offset, sheet-decides, our-start, term, sheet-waits, wait-pair, WaitsFor, OffsetFor, StartRuleFor, GivesStart, Needed, LeftOut, DecidingFor, PlanFor}
+use Rattle.demands.proofs.Reading.{Fits}
+use Rattle.demands.proofs.Edges.{sheet-shape, sheet-gains}
+use Rattle.demands.proofs.Meaning.{waits-shape, meant-for}
+use Rattle.demands.proofs.Listing.{listed-iff}
+use Rattle.demands.proofs.DelayLists.{list-within, limit-most, source-zero, sole-list, sole-delays, sole-allowed}
+use Rattle.demands.proofs.Sheets.{not-8}
+use Rattle.demands.proofs.OurStarts.{accepted-fits, accepted-passes, accepted-verdict, accepted-well, verdict-zero}
+
+-- Waits are needed exactly if the list of waits is not empty.
+needs-none : (n : ℕ) (es : List Edge) → (needs-waits n es ≡ false) ↔ (wait-list n es ≡ [])
+unfolding needs-waits wait-count
+needs-none n es = (λ h. empty (wait-list n es) (ltb-false 0 (length (wait-list n es)) h), λ h. le-ltb 0 (length (wait-list n es)) (omega (arith, ap length h)))
+  where
+    empty : (l : List WaitPair) → length l ≤ 0 → l ≡ []
+    empty [] h = refl
+    empty (w ∷ l) h = absurd (omega arith)
+
+module _ {s : List ℕ} {allow : Bool} {q : Records} {v : ℕ} (accepted : Accepted s allow q v) where
+  abbrev n : ℕ
+  n = count-of q
+
+  fits : Fits q
+  fits = accepted-fits accepted
+
+  well : Well n (members (edges-of q))
+  well = accepted-well accepted
+
+  unneeded : (v ≡ 0) ↔ (needs-waits n (edges-of q) ≡ false)
+  unneeded =
+      let r = verdict-zero (needs-waits n (edges-of q)) in
+      (λ h. r .0 (accepted-verdict accepted ∙ h), λ h. sym (accepted-verdict accepted) ∙ r .1 h)
+
+  pub waits-for-sheet : WaitsFor q v
+  unfolding serialized-of
+  waits-for-sheet =
+      let sound = needs-waits-iff (sheet-shape fits) in
+      let none = needs-none n (edges-of q) in
+      record {
+        verdicts = verdict-of (needs-waits n (edges-of q)) (accepted-verdict accepted);
+        sound = (λ h. sound .0 (unneeded .0 h), λ h. unneeded .1 (sound .1 h));
+        none = (λ h. none .0 (unneeded .0 h), λ h. unneeded .1 (none .1 h));
+        itself = λ a m. plan-wait-other well (listed-iff fits a a .0 m) refl;
+        source = λ a m. plan-wait-not-source well (listed-iff fits a 0 .0 m) refl;
+        then-sound = plan-posed well;
+        then-no-circle = plan-forward-acyclic well (not-8 (fits .some) (sheet-shape fits) (accepted-passes accepted .no-circle));
+        then-no-gain = λ x k g l w. plan-well well .never .closed w;
+      }
+    where
+      verdict-of : (b : Bool) → cond b 1 0 ≡ v → (v ≡ 0) ⊎ (v ≡ 1)
+      verdict-of true e = inr (sym e)
+      verdict-of false e = inl (sym e)
+
+  -- Start sets, by test.
+  shape : Shape n (members (serialized-of q))
+  shape = waits-shape fits
+
+  member : (a i : ℕ) → (in-start-set q a i ≡ true) ↔ InAnchorSet (members (serialized-of q)) a i
+  member = in-anchor-set-iff shape
+
+  acyclic : Acyclic (Forward (members (serialized-of q)))
+  unfolding serialized-of
+  acyclic a w = plan-well well .acyclic a (chain-after w)
+
+  -- Our starts are the largest of the terms: none is above, and one is met.
+  relative : (d : ℕ → ℕ) → d 0 ≡ 0 → Relative n (members (serialized-of q)) d (our-start q d) (sheet-offset q)
+  unfolding serialized-of
+  relative d d0 = relative-all (plan-relative well d d0)
+
+  offset-most : (a i : ℕ) → i < n → in-start-set q a i ≡ true → sheet-offset q a i ≤ 4128705
+  unfolding serialized-of
+  offset-most a i b h = plan-offset-limit well (sheet-gains fits) (fits .few) a i b (member a i .0 h)
+
+  pub offset-for : (a i : ℕ) → i < n → in-start-set q a i ≡ true → OffsetFor q a i
+  offset-for a i b h = record { heaviest = relative (λ x. 0) refl .offsets a i b (member a i .0 h); small = offset-most a i b h }
+
+  -- A list's durations are within the limit, and past its end 0.
+  starts-most : (list : List ℕ) → IsDelayList q list → (i : ℕ) → Dec (i < n) → our-start q (delays list) i ≤ 64 * (16777215 + 4128705)
+  unfolding serialized-of
+  starts-most list L i (no c) = omega (arith, List·getD-eq-default (start-times n (serialized-of q) (delays list)) 0 {n = i} (omega (arith, start-times-length n (serialized-of q) (delays list))))
+  starts-most list L i (yes c) =
+      plan-start-limit-64 well (sheet-gains fits) (fits .few) (delays list) (source-zero (q .steps) list (fits .some) (L .within)) (λ a b. omega (arith, list-within (q .steps) list (L .within) a b, limit-most a (delay-at (q .steps) a))) i c
+
+  pub start-rule-for : StartRuleFor q
+  start-rule-for = record { source = λ d. start-times-source shape d; rule = λ d i b. start-times-rule shape d acyclic (suc i) b (λ e. omega arith); small = λ list L i. starts-most list L i (decLt i n) }
+
+  module _ (i : ℕ) (inside : i < n) where
+    decided : (a : ℕ) → (sheet-decides q a i ≡ true) ↔ Decides (members (serialized-of q)) (sheet-offset q) a i
+    decided a = decides-iff shape a i inside
+
+    decided-member : (a : ℕ) → sheet-decides q a i ≡ true → in-start-set q a i ≡ true
+    decided-member a h = member a i .1 (decided a .0 h .inside)
+
+    enough : (d : ℕ → ℕ) → d 0 ≡ 0 → our-start q d i ≡ largest (λ a. sheet-decides q a i) (term q d i) n
+    unfolding serialized-of
+    enough d d0 = plan-enough well d d0 i inside
+
+    some : (a : ℕ) × (sheet-decides q a i ≡ true)
+    unfolding serialized-of
+    some = let r = plan-some well i inside in (r .0, r .2)
+
+    deciding-part : GivesStart q i (λ a. sheet-decides q a i)
+    deciding-part = record { some = some; within = decided-member; same = λ list L. enough (delays list) (source-zero (q .steps) list (fits .some) (L .within)) }
+
+    below : (a : ℕ) → in-start-set q a i ≡ true → a < n
+    below a h = member-below shape inside (member a i .0 h)
+
+    -- The list that shows the member a.
+    shows : (a : ℕ) → in-start-set q a i ≡ true → IsDelayList q (sole-list n a)
+    shows a h = sole-allowed q a (below a h) (meant-for fits .others-open a i h)
+
+    smallest : (part : ℕ → Bool) → GivesStart q i part → (a : ℕ) → sheet-decides q a i ≡ true → part a ≡ true
+    unfolding serialized-of
+    smallest part P a h =
+        let m = decided-member a h in
+        let b = P .some .0 in
+        let same : our-start q (sole-delay 16777215 a) i ≡ largest part (term q (sole-delay 16777215 a) i) n = subst (λ (d : ℕ → ℕ). our-start q d i ≡ largest part (term q d i) n) (sole-delays n a (below a m)) (P .same (sole-list n a) (shows a m)) in
+        plan-deciding-least well (sheet-gains fits) (fits .few) part a i inside (P .within) (any-below-by part n (below b (P .within b (P .some .1))) (P .some .1)) same h
+
+    needed-by : (a : ℕ) → sheet-decides q a i ≡ true → Needed q a i
+    unfolding serialized-of
+    needed-by a h =
+        let m = decided-member a h in
+        record { list = sole-list n a; allowed = shows a m; alone = λ b other k. subst (λ (d : ℕ → ℕ). term q d i b < term q d i a) (sym (sole-delays n a (below a m))) (plan-strict well (sheet-gains fits) (fits .few) a i inside h b other (member b i .0 k)) }
+
+    -- Left out: by the criterion of document 01.
+    left-out-by : (a : ℕ) → in-start-set q a i ≡ true → sheet-decides q a i ≡ false → (b : ℕ) × LeftOut q a i b
+    unfolding decides
+    left-out-by a m h = go (bool-cases (any-below (overrides n (serialized-of q) a i) n))
+      where
+        go : (any-below (overrides n (serialized-of q) a i) n ≡ true) ⊎ (any-below (overrides n (serialized-of q) a i) n ≡ false) → (b : ℕ) × LeftOut q a i b
+        go (inl t) =
+            let r = any-below-has (overrides n (serialized-of q) a i) n t in
+            let o = overrides-iff shape a i (r .0) .0 (r .2) in
+            (r .0, record { other = o .other; member = member (r .0) i .1 (o .inside); behind = member a (r .0) .1 (o .behind); reaches = o .heavy })
+        go (inr f) = absurd (both-ways (and-join m (ap not f)) h)
+
+    outdone : (a b : ℕ) → LeftOut q a i b → Overrides (members (serialized-of q)) (sheet-offset q) a i b
+    outdone a b L = record { other = L .other; inside = member b i .0 (L .member); behind = member a b .0 (L .behind); heavy = L .reaches }
+
+    out-left : (a b : ℕ) → LeftOut q a i b → sheet-decides q a i ≡ false
+    out-left a b L = not-passing (sheet-decides q a i) (λ t. decided a .0 t .alone b (outdone a b L))
+
+    -- Whoever is left out is never alone the largest.
+    needed-decides : (a : ℕ) → in-start-set q a i ≡ true → Needed q a i → sheet-decides q a i ≡ true
+    needed-decides a m N = go (bool-cases (sheet-decides q a i))
+      where
+        refuse : (b : ℕ) → LeftOut q a i b → ⊥
+        refuse b L =
+            let d = delays (N .list) in
+            let rel = relative d (source-zero (q .steps) (N .list) (fits .some) (N .allowed .within)) in
+            omega (arith, N .alone b (L .other) (L .member), rel .above a b (below b (L .member)) (member a b .0 (L .behind)), L .reaches)
+
+        go : (sheet-decides q a i ≡ true) ⊎ (sheet-decides q a i ≡ false) → sheet-decides q a i ≡ true
+        go (inl t) = t
+        go (inr f) = let r = left-out-by a m f in absurd (refuse (r .0) (r .1))
+
+    pub deciding-for : DecidingFor q i
+    deciding-for = record { enough = enough; part = deciding-part; smallest = smallest; needed = λ a m. (needed-by a, needed-decides a m); left-out = λ a m. (left-out-by a m, λ r. out-left a (r .0) (r .1)) }
+
+  pub plan-for : PlanFor q
+  plan-for = record { size = plan-table-length n (serialized-of q); entry = λ i a b c. unfold plan-entry in plan-table-at n (serialized-of q) i a 0 b c; row = λ i b rest. plan-table-row n (serialized-of q) i b rest; apart = λ i a b h. omega (arith, offset-most a i b (decided-member i b a h)) }

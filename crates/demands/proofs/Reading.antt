@@ -1,0 +1,217 @@
+-- What holds of a sheet that has been read: the limits of document 01 on its numbers of steps and records, its first step, its durations, and the ends and ticks of its links.
+-- A fact about each parser is carried through the parsers that are built from it, as their text goes.
+use mathlib.Core.Path.{_≡_, refl, sym, ap, _∙_}
+use mathlib.Core.Bool.{Bool, true, false, cond, not, _&&_, _||_}
+use mathlib.Core.Logic.{_⊎_, inl, inr, _≢_}
+use mathlib.Core.List.{List, [], _∷_, _++_, List·Memᴰ, List·Memᴰ·head, List·Memᴰ·tail, List·Memᴰ·not-nil, List·Memᴰ·cases-cons}
+use Prim.Native.Nat.{ℕ, zero, suc, _+_, _-_, _*_, _≤_, _<_}
+use native.Mathlib.Omega.{arith}
+use lib.Dec.{eqb, leb, ltb}
+use native.Mathlib.Decide.{decLt}
+use lib.ListN.{length, getD, List·getD-eq-default}
+use borrow.Author.Tests.{ltb-true, leb-true, eqb-true, eqb-false, not-true}
+use Rattle.definitions.specs.Basics.{test-bit, Outcome, given, refused, when-given}
+use Rattle.definitions.specs.Bytes.{Taken, Parser, _>>=_, _>>_, give, demand, byte, two-bytes, ticks-if, operation-map, delay-from, operation, link-map, endpoints, rises, bound-from, link, records, operations, pair-of, links, at-end, Records, sheet, read, blank-operation}
+use Rattle.definitions.specs.Links.{delay-at}
+use Rattle.definitions.specs.declared.Delay.{Delay}
+use Rattle.definitions.specs.declared.Delay.the-variants.{Open, Fixed}
+use Rattle.definitions.specs.declared.Operation.{Operation}
+use Rattle.definitions.specs.declared.Bound.{Bound}
+use Rattle.definitions.specs.declared.Bound.the-variants.{Absent, Ticks}
+use Rattle.definitions.specs.declared.Link.{Link}
+use Rattle.definitions.specs.declared.Previous.{Previous}
+use Rattle.definitions.specs.declared.Previous.the-variants.{Nothing, Pair}
+use Rattle.laws.proofs.Bools.{and-split}
+use Rattle.laws.proofs.Lists.{mem-at}
+use Rattle.laws.proofs.Outcomes.{given-same, given-not-refused, when-given-has}
+use Rattle.demands.specs.Demands.{Bytes}
+
+-- Whatever a parser takes from bytes has the property P, and bytes are left.
+record Takes {A : Type 0} (p : Parser A) (P : A → Type 0) : Type 0 where
+  each : (s : List ℕ) → Bytes s → (t : Taken A) → p s ≡ given t → P (t .value) × Bytes (t .rest)
+
+takes-give : {A : Type 0} {P : A → Type 0} (a : A) → P a → Takes (give a) P
+takes-give {P = P} a h = record { each = λ s b t e. let z = given-same e in (rw (← z) h, rw (← z) b) }
+
+takes-bind : {A B : Type 0} {p : Parser A} {f : A → Parser B} {P : A → Type 0} {Q : B → Type 0} → Takes p P → ((a : A) → P a → Takes (f a) Q) → Takes (p >>= f) Q
+unfolding when-given
+takes-bind {A} {B} {p} {f} {P} {Q} g h = record { each = λ s b t e. go s b t (p s) refl e }
+  where
+    go : (s : List ℕ) → Bytes s → (t : Taken B) (o : Outcome (Taken A)) → p s ≡ o → when-given o (λ u. f (u .value) (u .rest)) ≡ given t → Q (t .value) × Bytes (t .rest)
+    go s b t (given u) e i = let r = g .each s b u e in h (u .value) (r .0) .each (u .rest) (r .1) t i
+    go s b t (refused k) e i = absurd (given-not-refused (sym i))
+
+takes-demand : (b : Bool) (k : ℕ) → Takes (demand b k) (λ u. b ≡ true)
+unfolding demand
+takes-demand true k = takes-give tt refl
+takes-demand false k = record { each = λ s b t e. absurd (given-not-refused (sym e)) }
+
+takes-byte : Takes byte (λ b. b < 256)
+unfolding byte
+takes-byte = record { each = go }
+  where
+    go : (s : List ℕ) → Bytes s → (t : Taken ℕ) → byte s ≡ given t → (t .value < 256) × Bytes (t .rest)
+    go [] b t e = absurd (given-not-refused (sym e))
+    go (x ∷ s) b t e =
+        let z = given-same e in
+        (rw (← z) (b x (List·Memᴰ·head refl)), rw (← z) (λ c m. b c (List·Memᴰ·tail m)))
+
+takes-two-bytes : Takes two-bytes (λ x. x ≤ 65535)
+unfolding two-bytes
+takes-two-bytes = takes-bind takes-byte (λ low l. takes-bind takes-byte (λ high h. takes-give (low + 256 * high) (omega arith)))
+
+takes-ticks : (b : Bool) → Takes (ticks-if b) (λ x. x ≤ 65535)
+unfolding ticks-if
+takes-ticks true = takes-two-bytes
+takes-ticks false = takes-give 0 (omega arith)
+
+-- A step record: the first one is open, and a fixed duration is of two bytes.
+record OperationFits (first : Bool) (o : Operation) : Type 0 where
+  source : first ≡ true → o .delay ≡ Open
+  ticks : (x : ℕ) → o .delay ≡ Fixed x → x ≤ 65535
+
+delay-fits : (b : Bool) (ticks x : ℕ) → ticks ≤ 65535 → delay-from b ticks ≡ Fixed x → x ≤ 65535
+unfolding delay-from
+delay-fits true ticks x h e = let z : _≡_ {A = ℕ} 0 1 = cc in absurd (omega arith)
+delay-fits false ticks x h e = let z : ticks ≡ x = cc in omega arith
+
+source-open : (first : Bool) (m ticks : ℕ) → operation-map first m ≡ true → first ≡ true → delay-from (test-bit m 0) ticks ≡ Open
+unfolding operation-map test-bit delay-from
+source-open true m ticks h e = rw (eqb-true m 1 h)
+source-open false m ticks h e = let z : _≡_ {A = ℕ} 0 1 = cc in absurd (omega arith)
+
+takes-operation : (first : Bool) → Takes (operation first) (OperationFits first)
+unfolding operation
+takes-operation first =
+    takes-bind takes-byte
+    (λ m bm. takes-bind (takes-demand (operation-map first m) 4)
+    (λ u allowed. takes-bind (takes-ticks (test-bit m 1))
+    (λ ticks few. takes-give (record { delay = delay-from (test-bit m 0) ticks }) (record { source = source-open first m ticks allowed; ticks = λ x e. delay-fits (test-bit m 0) ticks x few e }))))
+
+-- A link record: both ends are steps, and differ; its ticks are of two bytes.
+pub record LinkFits (n : ℕ) (l : Link) : Type 0 where
+  pub from-below : l .from < n
+  pub to-below : l .to < n
+  pub apart : l .from ≢ l .to
+  pub minimum-few : (m : ℕ) → l .minimum ≡ Ticks m → m ≤ 65535
+  pub maximum-few : (u : ℕ) → l .maximum ≡ Ticks u → u ≤ 65535
+
+bound-fits : (b : Bool) (ticks x : ℕ) → ticks ≤ 65535 → bound-from b ticks ≡ Ticks x → x ≤ 65535
+unfolding bound-from
+bound-fits true ticks x h e = let z : ticks ≡ x = cc in omega arith
+bound-fits false ticks x h e = let z : _≡_ {A = ℕ} 0 1 = cc in absurd (omega arith)
+
+endpoints-fit : (n i j : ℕ) → endpoints n i j ≡ true → (i < n) × (j < n) × (i ≢ j)
+unfolding endpoints
+endpoints-fit n i j h =
+    let r = and-split (ltb i n && ltb j n) (not (eqb i j)) h in
+    let s = and-split (ltb i n) (ltb j n) (r .0) in
+    (ltb-true i n (s .0), ltb-true j n (s .1), eqb-false i j (not-true (eqb i j) (r .1)))
+
+takes-link : (n : ℕ) (previous : Previous) → Takes (link n previous) (LinkFits n)
+unfolding link
+takes-link n previous =
+    takes-bind takes-byte
+    (λ m bm. takes-bind (takes-demand (link-map m) 4)
+    (λ u4 allowed. takes-bind takes-byte
+    (λ i bi. takes-bind takes-byte
+    (λ j bj. takes-bind (takes-demand (endpoints n i j) 5)
+    (λ u5 ends. takes-bind (takes-demand (rises previous i j) 6)
+    (λ u6 up. takes-bind (takes-ticks (test-bit m 1))
+    (λ least few-least. takes-bind (takes-ticks (test-bit m 2))
+    (λ most few-most.
+    let r = endpoints-fit n i j ends in
+    takes-give
+    (record { from = i; to = j; sequencing = test-bit m 0; minimum = bound-from (test-bit m 1) least; maximum = bound-from (test-bit m 2) most })
+    (record { from-below = r .0; to-below = r .1; apart = r .2; minimum-few = λ x e. bound-fits (test-bit m 1) least x few-least e; maximum-few = λ x e. bound-fits (test-bit m 2) most x few-most e })))))))))
+
+-- Records in a row: as many as are asked for, each with its property in the state that the one before it leaves. Induction on their number.
+module _ {A S : Type 0} (P : S → A → Type 0) (next : A → S) where
+  abbrev Row : S → List A → Type 0
+  Row state [] = Unit {0}
+  Row state (x ∷ xs) = P state x × Row (next x) xs
+
+  takes-records : (item : S → Parser A) → ((state : S) → Takes (item state) (P state)) → (k : ℕ) (state : S) → Takes (records item next k state) (λ xs. (length xs ≡ k) × Row state xs)
+  unfolding records
+  takes-records item fits zero state = takes-give [] (refl, tt)
+  takes-records item fits (suc k) state =
+      takes-bind (fits state) (λ x h. takes-bind (takes-records item fits k (next x)) (λ xs r. takes-give (x ∷ xs) (ap suc (r .0), (h, r .1))))
+
+  row-each : (Q : A → Type 0) → ((state : S) (x : A) → P state x → Q x) → (state : S) (xs : List A) → Row state xs → (x : A) → List·Memᴰ x xs → Q x
+  row-each Q f state [] r x m = absurd (List·Memᴰ·not-nil m)
+  row-each Q f state (y ∷ xs) r x m = go (List·Memᴰ·cases-cons m) (row-each Q f (next y) xs (r .1) x)
+    where
+      go : (x ≡ y) ⊎ List·Memᴰ x xs → (List·Memᴰ x xs → Q x) → Q x
+      go (inl e) below = rw e (f state y (r .0))
+      go (inr i) below = below i
+
+-- What document 01 says of the records of a sheet.
+pub record Fits (q : Records) : Type 0 where
+  pub some : 1 ≤ length (q .steps)
+  pub few : length (q .steps) ≤ 64
+  pub source : delay-at (q .steps) 0 ≡ Open
+  pub ticks : (i x : ℕ) → delay-at (q .steps) i ≡ Fixed x → x ≤ 65535
+  pub links : (l : Link) → List·Memᴰ l (q .pairs) → LinkFits (length (q .steps)) l
+  pub few-links : length (q .pairs) ≤ 512
+
+first-open : (os : List Operation) → 1 ≤ length os → Row OperationFits (λ o. false) true os → delay-at os 0 ≡ Open
+unfolding delay-at
+first-open [] h r = absurd (omega arith)
+first-open (o ∷ os) h r = r .0 .source refl
+
+each-few : (os : List Operation) → Row OperationFits (λ o. false) true os → (i x : ℕ) → delay-at os i ≡ Fixed x → x ≤ 65535
+unfolding delay-at
+each-few os r i x e = go (decLt i (length os))
+  where
+    go : Dec (i < length os) → x ≤ 65535
+    go (yes h) =
+        row-each OperationFits (λ o. false) (λ o. (x : ℕ) → o .delay ≡ Fixed x → x ≤ 65535) (λ state o f. f .ticks) true os r (getD os i blank-operation) (mem-at os i blank-operation h) x e
+    go (no h) =
+        let past : getD os i blank-operation ≡ blank-operation = List·getD-eq-default os blank-operation (omega arith) in
+        let same : Fixed 0 ≡ Fixed x = sym (ap (λ (o : Operation). o .delay) past) ∙ e in
+        let none : 0 ≡ x = cc in
+        omega arith
+
+takes-operations : (n : ℕ) → Takes (operations n) (λ os. (length os ≡ n) × Row OperationFits (λ o. false) true os)
+unfolding operations
+takes-operations n = takes-records OperationFits (λ o. false) operation takes-operation n true
+
+takes-links : (n r : ℕ) → Takes (links n r) (λ ls. (length ls ≡ r) × Row (λ previous. LinkFits n) pair-of Nothing ls)
+unfolding links
+takes-links n r = takes-records (λ previous. LinkFits n) pair-of (link n) (takes-link n) r Nothing
+
+takes-end : Takes at-end (λ u. Unit {0})
+unfolding at-end
+takes-end = record { each = go }
+  where
+    go : (s : List ℕ) → Bytes s → (t : Taken (Unit {0})) → at-end s ≡ given t → Unit {0} × Bytes (t .rest)
+    go [] b t e = let z = given-same e in (tt, rw (← z) b)
+    go (x ∷ s) b t e = absurd (given-not-refused (sym e))
+
+fits-by : (n r : ℕ) (os : List Operation) (ls : List Link) → (leb 1 n && leb n 64) ≡ true → leb r 512 ≡ true → (length os ≡ n) × Row OperationFits (λ o. false) true os → (length ls ≡ r) × Row (λ previous. LinkFits n) pair-of Nothing ls → Fits (record { steps = os; pairs = ls })
+fits-by n r os ls hn hr O L =
+    let c = and-split (leb 1 n) (leb n 64) hn in
+    let low = leb-true 1 n (c .0) in
+    let high = leb-true n 64 (c .1) in
+    let most = leb-true r 512 hr in
+    record { some = omega (arith, O .0); few = omega (arith, O .0); source = first-open os (omega (arith, O .0)) (O .1); ticks = each-few os (O .1); links = λ l m. rw (O .0) (row-each (λ previous. LinkFits n) pair-of (LinkFits n) (λ state x h. h) Nothing ls (L .1) l m); few-links = omega (arith, L .0) }
+
+takes-sheet : Takes sheet Fits
+unfolding sheet
+takes-sheet =
+    takes-bind takes-byte
+    (λ n bn. takes-bind (takes-demand (leb 1 n && leb n 64) 2)
+    (λ u2 hn. takes-bind takes-two-bytes
+    (λ r br. takes-bind (takes-demand (leb r 512) 3)
+    (λ u3 hr. takes-bind (takes-operations n)
+    (λ os O. takes-bind (takes-links n r)
+    (λ ls L. takes-bind takes-end
+    (λ u7 e7. takes-give (record { steps = os; pairs = ls }) (fits-by n r os ls hn hr O L))))))))
+
+-- The theorem of this file.
+pub read-fits : (s : List ℕ) (q : Records) → Bytes s → read s ≡ given q → Fits q
+unfolding read
+read-fits s q b e =
+    let r = when-given-has (sheet s) (λ t. given (t .value)) e in
+    let same : r .0 .value ≡ q = given-same (r .2) in
+    rw same at (takes-sheet .each s b (r .0) (r .1) .0)

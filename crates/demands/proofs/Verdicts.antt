@@ -1,0 +1,131 @@
+-- What each answer of judging says of a sheet, in the words of document 01. The tests behind the answers are the relations, and 10 and 11 are settled by the lists.
+use mathlib.Core.Path.{_≡_, refl, sym, ap, _∙_}
+use mathlib.Core.Bool.{Bool, true, false, cond, not, _&&_, true≢false, false≢true}
+use mathlib.Core.Logic.{_⊎_, inl, inr, _≢_, _↔_}
+use mathlib.Core.List.{List}
+use Prim.Native.Nat.{ℕ, _+_, _≤_, _<_}
+use native.Mathlib.Omega.{arith}
+use borrow.Author.Tests.{not-true, not-false}
+use Rattle.definitions.specs.Basics.{Outcome, given, refused}
+use Rattle.definitions.specs.Bytes.{Records}
+use Rattle.definitions.specs.Links.{Edge, members}
+use Rattle.definitions.specs.Waits.{needs-waits}
+use Rattle.definitions.specs.Answers.{closes-circle, unreached, infeasible, inconsistent, judged, judge-edges, count-of, edges-of}
+use Rattle.laws.proofs.Bools.{and-split, and-join, not-passing, both-ways}
+use Rattle.laws.proofs.Outcomes.{refused-same}
+use Rattle.theory.proofs.WaitLists.{needs-waits-iff}
+use Rattle.demands.specs.Demands.{IsSheet, WellFormed, SomeListLeavesNone, Circle, SomeStepUnreached, Sound, JudgedFor}
+use Rattle.demands.proofs.Reading.{Fits, read-fits}
+use Rattle.demands.proofs.Edges.{sheet-shape}
+use Rattle.demands.proofs.Judging.{Passes, judge-8, judge-9, judge-10, judge-11, judge-12, judge-given, judged-edges}
+use Rattle.demands.proofs.Meaning.{meant-for}
+use Rattle.demands.proofs.Impossibility.{impossible-for}
+
+-- A test that passes exactly if P holds fails exactly if P does not.
+fails-iff : {P : Type 0} (b : Bool) → ((b ≡ true) ↔ P) → (b ≡ false) ↔ (¬ P)
+fails-iff b r = (λ h p. both-ways (r .1 p) h, λ f. not-passing b (λ h. f (r .0 h)))
+
+module _ (s : List ℕ) (allow : Bool) (q : Records) (sheet : IsSheet s q) where
+  abbrev n : ℕ
+  n = count-of q
+
+  abbrev es : List Edge
+  es = edges-of q
+
+  fits : Fits q
+  fits = read-fits s q (sheet .bytes) (sheet .reads)
+
+  as-judged : judged s allow ≡ judge-edges n es allow
+  as-judged = judged-edges s (sheet .reads) allow
+
+  circle : (closes-circle n es ≡ true) ↔ Circle q
+  circle = meant-for fits .as-sent .circle
+
+  unreach : (unreached n es ≡ true) ↔ SomeStepUnreached q
+  unreach = meant-for fits .as-sent .reached
+
+  formed-iff : WellFormed s q ↔ ((¬ Circle q) × (¬ SomeStepUnreached q))
+  formed-iff =
+      let c = fails-iff (closes-circle n es) circle in
+      let u = fails-iff (unreached n es) unreach in
+      (λ f. (c .0 (f .no-circle), u .0 (f .all-reached)), λ r. record { sheet = sheet; no-circle = c .1 (r .0); all-reached = u .1 (r .1) })
+
+  -- No refusal from 8 to 11 applies exactly if the sheet is well-formed and no list leaves none.
+  passes-iff : Passes n es ↔ (WellFormed s q × (¬ SomeListLeavesNone q))
+  passes-iff = (λ P. (formed P, λ L. refuse P (impossible-for s allow q (formed P) .impossible .1 L)), λ r. passes (r .0) (r .1))
+    where
+      formed : Passes n es → WellFormed s q
+      formed P = record { sheet = sheet; no-circle = P .no-circle; all-reached = P .all-reached }
+
+      refuse : Passes n es → (judged s allow ≡ refused 10) ⊎ (judged s allow ≡ refused 11) → ⊥
+      refuse P (inl h) = both-ways (judge-10 n es allow (P .no-circle) (P .all-reached) .0 (sym as-judged ∙ h)) (P .feasible)
+      refuse P (inr h) = both-ways (judge-11 n es allow (P .no-circle) (P .all-reached) .0 (sym as-judged ∙ h) .1) (P .consistent)
+
+      passes : WellFormed s q → ¬ SomeListLeavesNone q → Passes n es
+      passes f none =
+          let I = impossible-for s allow q f .impossible in
+          let feasible = not-passing (infeasible n es) (λ t. none (I .0 (inl (as-judged ∙ judge-10 n es allow (f .no-circle) (f .all-reached) .1 t)))) in
+          record { no-circle = f .no-circle; all-reached = f .all-reached; feasible = feasible; consistent = not-passing (inconsistent n es) (λ t. none (I .0 (inr (as-judged ∙ judge-11 n es allow (f .no-circle) (f .all-reached) .1 (feasible, t))))) }
+
+  unneeded : (needs-waits n es ≡ false) ↔ Sound q
+  unneeded = needs-waits-iff (sheet-shape fits)
+
+  needed : (needs-waits n es ≡ true) ↔ (¬ Sound q)
+  needed = (λ h p. both-ways h (unneeded .1 p), λ f. not-failing (needs-waits n es) (λ h. f (unneeded .0 h)))
+    where
+      not-failing : (b : Bool) → b ≢ false → b ≡ true
+      not-failing true h = refl
+      not-failing false h = absurd (h refl)
+
+  -- 12, from the front: it is none of 8 and 9.
+  twelve-formed : judge-edges n es allow ≡ refused 12 → (closes-circle n es ≡ false) × (unreached n es ≡ false)
+  twelve-formed h =
+      let c = not-passing (closes-circle n es) (λ t. apart 8 (λ e. omega arith) (judge-8 n es allow .1 t)) in
+      (c, not-passing (unreached n es) (λ t. apart 9 (λ e. omega arith) (judge-9 n es allow .1 (c, t))))
+    where
+      apart : (k : ℕ) → k ≢ 12 → judge-edges n es allow ≡ refused k → ⊥
+      apart k d e = d (refused-same (sym e ∙ h))
+
+  twelve : (judge-edges n es allow ≡ refused 12) ↔ (Passes n es × (needs-waits n es ≡ true) × (allow ≡ false))
+  twelve = (
+    λ h. let f = twelve-formed h in
+    let r = judge-12 n es allow (f .0) (f .1) .0 h in
+    let w = and-split (needs-waits n es) (not allow) (r .2) in
+    (record { no-circle = f .0; all-reached = f .1; feasible = r .0; consistent = r .1 }, w .0, not-true allow (w .1)),
+    λ r. judge-12 n es allow (r .0 .no-circle) (r .0 .all-reached) .1 (r .0 .feasible, r .0 .consistent, and-join (r .1) (ap not (r .2))),
+  )
+
+  verdict-bool : (b a : Bool) → (((b && not a) ≡ false) × (cond {A = ℕ} b 1 0 ≡ 1)) ↔ ((b ≡ true) × (a ≡ true))
+  verdict-bool true true = (λ h. (refl, refl), λ h. (refl, refl))
+  verdict-bool true false = (λ h. absurd (true≢false (h .0)), λ h. absurd (false≢true (h .1)))
+  verdict-bool false a = (λ h. absurd (omega (arith, h .1)), λ h. absurd (false≢true (h .0)))
+
+  verdict-none : (b a : Bool) → (((b && not a) ≡ false) × (cond {A = ℕ} b 1 0 ≡ 0)) ↔ (b ≡ false)
+  verdict-none true a = (λ h. absurd (omega (arith, h .1)), λ h. absurd (true≢false h))
+  verdict-none false a = (λ h. refl, λ h. (refl, refl))
+
+  pub judged-for : JudgedFor s allow q
+  judged-for =
+      let r9 = judge-9 n es allow in
+      let c = fails-iff (closes-circle n es) circle in
+      let given-0 = judge-given n es allow 0 in
+      let given-1 = judge-given n es allow 1 in
+      let none = verdict-none (needs-waits n es) allow in
+      let some = verdict-bool (needs-waits n es) allow in
+      record {
+        refused-8 = (λ h. circle .0 (judge-8 n es allow .0 (sym as-judged ∙ h)), λ x. as-judged ∙ judge-8 n es allow .1 (circle .1 x));
+        refused-9 = (λ h. let a = r9 .0 (sym as-judged ∙ h) in (c .0 (a .0), unreach .0 (a .1)), λ x. as-judged ∙ r9 .1 (c .1 (x .0), unreach .1 (x .1)));
+        well-formed = formed-iff;
+        refused-12 = (
+          λ h. let a = twelve .0 (sym as-judged ∙ h) in let p = passes-iff .0 (a .0) in (p .0, p .1, needed .0 (a .1), a .2),
+          λ x. as-judged ∙ twelve .1 (passes-iff .1 (x .0, x .1), needed .1 (x .2), x .3),
+        );
+        verdict-0 = (
+          λ h. let a = given-0 .0 (sym as-judged ∙ h) in let p = passes-iff .0 (a .0) in (p .0, p .1, unneeded .0 (none .0 (a .1, a .2))),
+          λ x. let z = none .1 (unneeded .1 (x .2)) in as-judged ∙ given-0 .1 (passes-iff .1 (x .0, x .1), z .0, z .1),
+        );
+        verdict-1 = (
+          λ h. let a = given-1 .0 (sym as-judged ∙ h) in let p = passes-iff .0 (a .0) in let z = some .0 (a .1, a .2) in (p .0, p .1, needed .0 (z .0), z .1),
+          λ x. let z = some .1 (needed .1 (x .2), x .3) in as-judged ∙ given-1 .1 (passes-iff .1 (x .0, x .1), z .0, z .1),
+        );
+      }

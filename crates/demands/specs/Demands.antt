@@ -1,0 +1,349 @@
+-- The demands 2 and 3 on the planner, each as a statement about sheets as bytes. Definitions alone: the theorem of the same name in small letters, in proofs/Demands.antt, proves it.
+--
+-- 2. Start sets, waits, offsets, deciding steps and start times are those of document 01. An open step is listed exactly if some durations need it.
+-- 3. A well-formed sheet is called impossible exactly when some list of durations leaves no start times that keep every link. For every accepted sheet and every list our starts keep every link and
+--    wait, and nobody is earlier: not a rival who knows every duration beforehand and gives any start times that keep every link (no waits needed), nor one who picks any sound sheet with these
+--    steps, these links and further after or at-least links, and any start times that keep it (waits added).
+--
+-- Words that are not defined here are those of the crate definitions, in the words of document 01: Bytes, Links, Anchors, Waits, Plan, Rival, Answers, to be read in this order.
+-- Start times and durations are functions from steps to whole numbers, with no largest one: a hand may take any time at all. Lists of durations are a case of them.
+use mathlib.Core.Path.{_≡_}
+use mathlib.Core.Bool.{Bool, true, false, cond, not, _&&_}
+use mathlib.Core.Logic.{_⊎_, _≢_, _↔_}
+use mathlib.Core.List.{List, [], _∷_, _++_, map, List·Memᴰ}
+use Prim.Native.Nat.{ℕ, zero, suc, _+_, _*_, _^_, _≤_, _<_}
+use lib.ListN.{length, getD}
+use Rattle.definitions.specs.Basics.{largest, test-bit, Outcome, given, refused}
+use Rattle.definitions.specs.Bytes.{Records, read}
+use Rattle.definitions.specs.Links.{Constraint, sequencing, constraints, delay-at, Keeps, KeepsAll, Edge, edges, Graph, members, Forward, Walk, Joined, After}
+use Rattle.definitions.specs.Rounds.{cell, reaches, after-reaches}
+use Rattle.definitions.specs.Anchors.{InAnchorSet, in-anchor-set, WellPosed, well-posed}
+use Rattle.definitions.specs.Waits.{Wait, WaitPair, wait-list, wait-maps, wait-count}
+use Rattle.definitions.specs.Plan.{Offset, offset, start-times, decides, plan-row, plan-table, row-part, undecided, delays-wrong, delays}
+use Rattle.definitions.specs.Rival.{Extension}
+use Rattle.definitions.specs.Answers.{closes-circle, unreached, count-of, edges-of, serialized-of, judged, waits-answer, planned, starts-answer}
+use Rattle.definitions.specs.Output.{StartLine, Listing, start-lines, listed}
+use Rattle.definitions.specs.Worked.{Worked, worked-sheets}
+use Rattle.definitions.specs.declared.Delay.the-variants.{Open, Fixed}
+use Rattle.theory.specs.Counts.{standing-bits}
+
+-- ## The words
+
+-- Bytes.
+abbrev pub Bytes : List ℕ → Type 0
+Bytes s = (b : ℕ) → List·Memᴰ b s → b < 256
+
+-- The bytes s are a sheet with the records q: no refusal from 1 to 7 applies.
+pub record IsSheet (s : List ℕ) (q : Records) : Type 0 where
+  pub bytes : Bytes s
+  pub reads : read s ≡ given q
+
+-- "A sheet that passes 1 to 9 is well-formed."
+pub record WellFormed (s : List ℕ) (q : Records) : Type 0 where
+  pub sheet : IsSheet s q
+  pub no-circle : closes-circle (count-of q) (edges-of q) ≡ false
+  pub all-reached : unreached (count-of q) (edges-of q) ≡ false
+
+-- "Accepted means that no refusal down to 12 applies." v is the verdict; allow says whether the caller allows waits.
+pub record Accepted (s : List ℕ) (allow : Bool) (q : Records) (v : ℕ) : Type 0 where
+  pub sheet : IsSheet s q
+  pub accepts : judged s allow ≡ given v
+
+-- Start times t that keep every link of the sheet under the durations d. What d says of step 0 and of fixed steps does not matter here: the duration of step 0 counts as 0, that of a fixed step is
+-- its own.
+abbrev pub KeepsLinks : Records → (ℕ → ℕ) → (ℕ → ℕ) → Type 0
+KeepsLinks q d t = KeepsAll (q .steps) (constraints (q .pairs)) d t
+
+-- The durations d leave no start times.
+abbrev pub NoStarts : Records → (ℕ → ℕ) → Type 0
+NoStarts q d = (t : ℕ → ℕ) → ¬ KeepsLinks q d t
+
+-- "A list of durations has N numbers of 32 bits, each at most 16,777,215, and 0 for step 0 and fixed steps."
+pub record IsDelayList (q : Records) (list : List ℕ) : Type 0 where
+  pub size : length list ≡ count-of q
+  pub within : delays-wrong (q .steps) list ≡ false
+
+-- What the test for refusal 13 says of a list of N numbers: document 01's words.
+pub record WithinLimits (q : Records) (list : List ℕ) : Type 0 where
+  pub most : (i : ℕ) → i < count-of q → delays list i ≤ 16777215
+  pub source : delays list 0 ≡ 0
+  pub fixed : (i ticks : ℕ) → i < count-of q → delay-at (q .steps) i ≡ Fixed ticks → delays list i ≡ 0
+
+abbrev pub ListsMeant : Type 0
+ListsMeant = (s : List ℕ) (q : Records) → IsSheet s q → (list : List ℕ) → (delays-wrong (q .steps) list ≡ false) ↔ WithinLimits q list
+
+-- Some list of durations leaves none.
+pub record SomeListLeavesNone (q : Records) : Type 0 where
+  pub list : List ℕ
+  pub allowed : IsDelayList q list
+  pub none : NoStarts q (delays list)
+
+-- The sheet's start sets, offsets, deciding sets and our starts, with its waits in.
+abbrev pub in-start-set : Records → ℕ → ℕ → Bool
+in-start-set q a v = in-anchor-set (count-of q) (serialized-of q) a v
+
+abbrev pub sheet-offset : Records → ℕ → ℕ → ℕ
+sheet-offset q a v = offset (count-of q) (serialized-of q) a v
+
+abbrev pub sheet-decides : Records → ℕ → ℕ → Bool
+sheet-decides q a v = decides (count-of q) (serialized-of q) a v
+
+abbrev pub our-start : Records → (ℕ → ℕ) → ℕ → ℕ
+our-start q d v = cell (start-times (count-of q) (serialized-of q) d) v
+
+-- start(a) + duration(a) + offset of v for a.
+abbrev pub term : Records → (ℕ → ℕ) → ℕ → ℕ → ℕ
+term q d v a = our-start q d a + d a + sheet-offset q a v
+
+abbrev pub sheet-waits : Records → List WaitPair
+sheet-waits q = wait-list (count-of q) (edges-of q)
+
+abbrev pub wait-pair : ℕ → ℕ → WaitPair
+wait-pair a i = record { anchor = a; target = i }
+
+-- "A wait is kept as an after link."
+abbrev pub wait-link : WaitPair → Constraint
+wait-link w = sequencing (w .anchor) (w .target)
+
+-- ## Demand 3
+
+-- "10. With all open durations 0, no start times keep every link. 11. Not 10, yet some list of durations leaves none." "Impossible means 10 or 11."
+-- And where a sheet is not impossible, all durations leave start times, those past a list's limit too.
+pub record ImpossibleFor (s : List ℕ) (allow : Bool) (q : Records) : Type 0 where
+  pub refused-10 : (judged s allow ≡ refused 10) ↔ NoStarts q (λ a. 0)
+  pub refused-11 : (judged s allow ≡ refused 11) ↔ ((judged s allow ≢ refused 10) × SomeListLeavesNone q)
+  pub impossible : ((judged s allow ≡ refused 10) ⊎ (judged s allow ≡ refused 11)) ↔ SomeListLeavesNone q
+  pub otherwise : judged s allow ≢ refused 10 → judged s allow ≢ refused 11 → (d : ℕ → ℕ) → d 0 ≡ 0 → (t : ℕ → ℕ) × KeepsLinks q d t
+
+abbrev pub ImpossibleExactly : Type 0
+ImpossibleExactly = (s : List ℕ) (allow : Bool) (q : Records) → WellFormed s q → ImpossibleFor s allow q
+
+-- "8. Forward links close a circle. 9. A step has no forward chain from step 0." "12. Waits are needed and the caller did not allow them." "Verdict 0 is sound, 1 sound with waits."
+-- "Each refusal is given when its condition holds and no earlier one does, and only then."
+abbrev pub Circle : Records → Type 0
+Circle q = (x : ℕ) × (k : ℕ) × (g : ℕ) × (l : ℕ) × Walk (Forward (members (edges-of q))) x x (suc k) g l
+
+abbrev pub SomeStepUnreached : Records → Type 0
+SomeStepUnreached q = (v : ℕ) × (v < count-of q) × (¬ Joined (Forward (members (edges-of q))) 0 v)
+
+abbrev pub Sound : Records → Type 0
+Sound q = WellPosed (members (edges-of q))
+
+pub record JudgedFor (s : List ℕ) (allow : Bool) (q : Records) : Type 0 where
+  pub refused-8 : (judged s allow ≡ refused 8) ↔ Circle q
+  pub refused-9 : (judged s allow ≡ refused 9) ↔ ((¬ Circle q) × SomeStepUnreached q)
+  pub well-formed : WellFormed s q ↔ ((¬ Circle q) × (¬ SomeStepUnreached q))
+  pub refused-12 : (judged s allow ≡ refused 12) ↔ (WellFormed s q × (¬ SomeListLeavesNone q) × (¬ Sound q) × (allow ≡ false))
+  pub verdict-0 : (judged s allow ≡ given 0) ↔ (WellFormed s q × (¬ SomeListLeavesNone q) × Sound q)
+  pub verdict-1 : (judged s allow ≡ given 1) ↔ (WellFormed s q × (¬ SomeListLeavesNone q) × (¬ Sound q) × (allow ≡ true))
+
+abbrev pub JudgedExactly : Type 0
+JudgedExactly = (s : List ℕ) (allow : Bool) (q : Records) → IsSheet s q → JudgedFor s allow q
+
+-- "From each call that judges, lists waits, plans or works out starts": the refusals 1 to 12 are the same in each. Whoever lists waits allows them.
+pub record SameRefusal (s : List ℕ) (allow : Bool) (k : ℕ) : Type 0 where
+  pub waits : (waits-answer s .verdict ≡ refused k) ↔ (judged s true ≡ refused k)
+  pub plan : (table : List ℕ) → (planned s allow table .verdict ≡ refused k) ↔ (judged s allow ≡ refused k)
+  pub starts : (list out : List ℕ) → (starts-answer s allow list out .verdict ≡ refused k) ↔ (judged s allow ≡ refused k)
+
+abbrev pub EachCallRefuses : Type 0
+EachCallRefuses = (s : List ℕ) (allow : Bool) (k : ℕ) → k ≤ 12 → SameRefusal s allow k
+
+-- "Our starts are the N numbers that working out starts returns for a sheet and a list." A list's duration of step 0 is 0.
+pub record ReturnedFor (s : List ℕ) (allow : Bool) (q : Records) (v : ℕ) (list out : List ℕ) : Type 0 where
+  pub accepted : Accepted s allow q v
+  pub source : delays list 0 ≡ 0
+  pub numbers : (i : ℕ) → i < count-of q → cell (starts-answer s allow list out .numbers) i ≡ our-start q (delays list) i
+
+abbrev pub StartsReturned : Type 0
+StartsReturned = (s : List ℕ) (allow : Bool) (q : Records) (v : ℕ) (list out : List ℕ) → IsSheet s q → starts-answer s allow list out .verdict ≡ given v → ReturnedFor s allow q v list out
+
+-- "For every accepted sheet and every list our starts keep every link and wait."
+pub record KeptFor (q : Records) (d : ℕ → ℕ) : Type 0 where
+  pub links : KeepsLinks q d (our-start q d)
+  pub waits : (w : WaitPair) → List·Memᴰ w (sheet-waits q) → Keeps (q .steps) d (our-start q d) (wait-link w)
+
+abbrev pub StartsKept : Type 0
+StartsKept = (s : List ℕ) (allow : Bool) (q : Records) (v : ℕ) → Accepted s allow q v → (d : ℕ → ℕ) → d 0 ≡ 0 → KeptFor q d
+
+-- "Nobody is earlier: not a rival who knows every duration beforehand and gives any start times that keep every link (no waits needed)." The rival's t may depend on d in any way.
+abbrev pub NobodyEarlier : Type 0
+NobodyEarlier =
+    (s : List ℕ) (allow : Bool) (q : Records) → Accepted s allow q 0 → (d t : ℕ → ℕ) → d 0 ≡ 0 → KeepsLinks q d t → (i : ℕ) → i < count-of q → our-start q d i ≤ t i
+
+-- "Nor one who picks any sound sheet with these steps, these links and further after or at-least links, and any start times that keep it (waits added)." It holds where no waits are needed too.
+abbrev pub NobodyEarlierWithWaits : Type 0
+NobodyEarlierWithWaits =
+    (s : List ℕ) (allow : Bool) (q : Records) (v : ℕ) → Accepted s allow q v → (fs : List Constraint) → Extension (q .steps) (constraints (q .pairs)) fs → (d t : ℕ → ℕ) → d 0 ≡ 0 → KeepsAll (q .steps) fs d t → (i : ℕ) → i < count-of q → our-start q d i ≤ t i
+
+-- The sheet with our waits put in as after links is one of these rivals' sheets, and our starts keep it. So the bound is met.
+pub record OursAmong (q : Records) (d : ℕ → ℕ) (fs : List Constraint) : Type 0 where
+  pub extension : Extension (q .steps) (constraints (q .pairs)) fs
+  pub kept : KeepsAll (q .steps) fs d (our-start q d)
+
+abbrev pub OursAmongRivals : Type 0
+OursAmongRivals =
+    (s : List ℕ) (allow : Bool) (q : Records) (v : ℕ) → Accepted s allow q v → (d : ℕ → ℕ) → d 0 ≡ 0 → OursAmong q d (constraints (q .pairs) ++ map wait-link (sheet-waits q))
+
+-- ## Demand 2: the tests mean what document 01 says
+
+-- What the definitions compute over a list of edges is what document 01 says in words, as relations: chains and walks, start sets, sound; and the refusals 8 and 9.
+pub record Meant (n : ℕ) (es : List Edge) : Type 0 where
+  pub walks : (x v : ℕ) → x < n → (reaches n es x v ≡ true) ↔ Joined (members es) x v
+  pub after-walks : (a v : ℕ) → (after-reaches n es a v ≡ true) ↔ After (members es) a v
+  pub start-sets : (a v : ℕ) → (in-anchor-set n es a v ≡ true) ↔ InAnchorSet (members es) a v
+  pub sound : (well-posed n es ≡ true) ↔ WellPosed (members es)
+  pub circle : (closes-circle n es ≡ true) ↔ ((x : ℕ) × (k : ℕ) × (g : ℕ) × (l : ℕ) × Walk (Forward (members es)) x x (suc k) g l)
+  pub reached : (unreached n es ≡ true) ↔ ((v : ℕ) × (v < n) × (¬ Joined (Forward (members es)) 0 v))
+
+-- For every sheet, as sent and with its waits in. "Step 0 is in every set, its own too. Another open step .."
+pub record MeantFor (q : Records) : Type 0 where
+  pub as-sent : Meant (count-of q) (edges-of q)
+  pub with-waits : Meant (count-of q) (serialized-of q)
+  pub source : (v : ℕ) → in-start-set q 0 v ≡ true
+  pub others-open : (a v : ℕ) → in-start-set q a v ≡ true → (a ≡ 0) ⊎ (delay-at (q .steps) a ≡ Open)
+
+abbrev pub TestsMeant : Type 0
+TestsMeant = (s : List ℕ) (q : Records) → IsSheet s q → MeantFor q
+
+-- ## Demand 2: waits
+
+-- A list in rising order: each member stands before all that follow it, so that none is there twice.
+abbrev pub Rising : {A : Type 0} → (A → A → Type 0) → List A → Type 0
+Rising before [] = Unit {0}
+Rising {A} before (x ∷ l) = ((y : A) → List·Memᴰ y l → before x y) × Rising before l
+
+-- "They are listed by a, then by i."
+abbrev pub WaitBefore : WaitPair → WaitPair → Type 0
+WaitBefore w u = (w .anchor < u .anchor) ⊎ ((w .anchor ≡ u .anchor) × (w .target < u .target))
+
+-- What is listed are the waits of document 01, none of a step on itself or into step 0. "The library returns them as 64 maps of 64 bits, bit a of map i."
+pub record ListedFor (q : Records) : Type 0 where
+  pub listed : (a i : ℕ) → List·Memᴰ (wait-pair a i) (sheet-waits q) ↔ Wait (members (edges-of q)) a i
+  pub order : Rising WaitBefore (sheet-waits q)
+  pub maps-size : length (wait-maps (count-of q) (edges-of q)) ≡ 64
+  pub maps-small : (i : ℕ) → cell (wait-maps (count-of q) (edges-of q)) i < 2 ^ 64
+  pub maps-bits : (a i : ℕ) → (test-bit (cell (wait-maps (count-of q) (edges-of q)) i) a ≡ true) ↔ List·Memᴰ (wait-pair a i) (sheet-waits q)
+  pub count-list : wait-count (count-of q) (edges-of q) ≡ length (sheet-waits q)
+  pub count-maps : wait-count (count-of q) (edges-of q) ≡ standing-bits (wait-maps (count-of q) (edges-of q))
+
+abbrev pub WaitsListed : Type 0
+WaitsListed = (s : List ℕ) (q : Records) → IsSheet s q → ListedFor q
+
+-- "Verdict 0 is sound, 1 sound with waits." With the waits in, the sheet is sound, its forward links close no circle, and no closed walk weighs above 0.
+pub record WaitsFor (q : Records) (v : ℕ) : Type 0 where
+  pub verdicts : (v ≡ 0) ⊎ (v ≡ 1)
+  pub sound : (v ≡ 0) ↔ WellPosed (members (edges-of q))
+  pub none : (v ≡ 0) ↔ (sheet-waits q ≡ [])
+  pub itself : (a : ℕ) → ¬ List·Memᴰ (wait-pair a a) (sheet-waits q)
+  pub source : (a : ℕ) → ¬ List·Memᴰ (wait-pair a 0) (sheet-waits q)
+  pub then-sound : WellPosed (members (serialized-of q))
+  pub then-no-circle : (x k g l : ℕ) → ¬ Walk (Forward (members (serialized-of q))) x x (suc k) g l
+  pub then-no-gain : (x k g l : ℕ) → Walk (members (serialized-of q)) x x k g l → g ≤ l
+
+abbrev pub WaitsSound : Type 0
+WaitsSound = (s : List ℕ) (allow : Bool) (q : Records) (v : ℕ) → Accepted s allow q v → WaitsFor q v
+
+-- ## Demand 2: offsets and starts
+
+-- "Offset of v for a in its start set: the heaviest walk from a to v that begins with an after link out of a; for a = 0, the heaviest walk from 0." "Offsets never exceed 4,128,705."
+pub record OffsetFor (q : Records) (a v : ℕ) : Type 0 where
+  pub heaviest : Offset (members (serialized-of q)) a v (sheet-offset q a v)
+  pub small : sheet-offset q a v ≤ 4128705
+
+abbrev pub OffsetsRight : Type 0
+OffsetsRight =
+    (s : List ℕ) (allow : Bool) (q : Records) (v : ℕ) → Accepted s allow q v → (a i : ℕ) → i < count-of q → in-start-set q a i ≡ true → OffsetFor q a i
+
+-- "Start of v: start(0) = 0; else the largest of start(a) + duration(a) + offset, over a in the start set." For a list, starts fit 32 bits.
+pub record StartRuleFor (q : Records) : Type 0 where
+  pub source : (d : ℕ → ℕ) → our-start q d 0 ≡ 0
+  pub rule : (d : ℕ → ℕ) (i : ℕ) → suc i < count-of q → our-start q d (suc i) ≡ largest (λ a. in-start-set q a (suc i)) (term q d (suc i)) (count-of q)
+  pub small : (list : List ℕ) → IsDelayList q list → (i : ℕ) → our-start q (delays list) i ≤ 64 * (16777215 + 4128705)
+
+abbrev pub StartRule : Type 0
+StartRule = (s : List ℕ) (allow : Bool) (q : Records) (v : ℕ) → Accepted s allow q v → StartRuleFor q
+
+-- ## Demand 2: deciding sets
+
+-- A part of the start set of v that gives the same largest value for every list. A part with no member has no largest value.
+pub record GivesStart (q : Records) (v : ℕ) (part : ℕ → Bool) : Type 0 where
+  pub some : (a : ℕ) × (part a ≡ true)
+  pub within : (a : ℕ) → part a ≡ true → in-start-set q a v ≡ true
+  pub same : (list : List ℕ) → IsDelayList q list → our-start q (delays list) v ≡ largest part (term q (delays list) v) (count-of q)
+
+-- A list for which a alone is the largest.
+pub record Needed (q : Records) (a v : ℕ) : Type 0 where
+  pub list : List ℕ
+  pub allowed : IsDelayList q list
+  pub alone : (b : ℕ) → b ≢ a → in-start-set q b v ≡ true → term q (delays list) v b < term q (delays list) v a
+
+-- "Member a is left out exactly when another member b has a in its start set and offset of b for a, plus offset of v for b, reaches the offset of v for a."
+pub record LeftOut (q : Records) (a v b : ℕ) : Type 0 where
+  pub other : b ≢ a
+  pub member : in-start-set q b v ≡ true
+  pub behind : in-start-set q a b ≡ true
+  pub reaches : sheet-offset q a v ≤ sheet-offset q a b + sheet-offset q b v
+
+-- "Deciding set of v: the smallest part of the start set with the same largest value for every list of durations." For durations past a list's limit too. An open step is listed exactly if some
+-- durations need it.
+pub record DecidingFor (q : Records) (v : ℕ) : Type 0 where
+  pub enough : (d : ℕ → ℕ) → d 0 ≡ 0 → our-start q d v ≡ largest (λ a. sheet-decides q a v) (term q d v) (count-of q)
+  pub part : GivesStart q v (λ a. sheet-decides q a v)
+  pub smallest : (part : ℕ → Bool) → GivesStart q v part → (a : ℕ) → sheet-decides q a v ≡ true → part a ≡ true
+  pub needed : (a : ℕ) → in-start-set q a v ≡ true → (sheet-decides q a v ≡ true) ↔ Needed q a v
+  pub left-out : (a : ℕ) → in-start-set q a v ≡ true → (sheet-decides q a v ≡ false) ↔ ((b : ℕ) × LeftOut q a v b)
+
+abbrev pub DecidingSets : Type 0
+DecidingSets = (s : List ℕ) (allow : Bool) (q : Records) (v : ℕ) → Accepted s allow q v → (i : ℕ) → i < count-of q → DecidingFor q i
+
+-- "A plan is a table of N by N numbers of 32 bits .. The number at v × N + a is the offset, or 4,294,967,295 where a does not decide v." No offset is that number.
+-- "Row v can be asked for: that part of the caller's table is handed back, N numbers." The table may be longer than the plan.
+pub record PlanFor (q : Records) : Type 0 where
+  pub size : length (plan-table (count-of q) (serialized-of q)) ≡ count-of q * count-of q
+  pub entry : (v a : ℕ) → v < count-of q → a < count-of q → getD (plan-table (count-of q) (serialized-of q)) (v * count-of q + a) 0 ≡ cond (sheet-decides q a v) (sheet-offset q a v) undecided
+  pub apart : (v a : ℕ) → v < count-of q → sheet-decides q a v ≡ true → sheet-offset q a v < undecided
+  pub row : (v : ℕ) → v < count-of q → (rest : List ℕ) → row-part (plan-table (count-of q) (serialized-of q) ++ rest) (count-of q) v ≡ plan-row (count-of q) (serialized-of q) v
+
+abbrev pub PlanTable : Type 0
+PlanTable = (s : List ℕ) (allow : Bool) (q : Records) (v : ℕ) → Accepted s allow q v → PlanFor q
+
+-- "A start line is step, deciding step, offset, in rising order of the first two." What is listed of an accepted sheet is its verdict, its waits and these lines.
+abbrev pub sheet-lines : Records → List StartLine
+sheet-lines q = start-lines (count-of q) (serialized-of q)
+
+abbrev pub LineBefore : StartLine → StartLine → Type 0
+LineBefore k l = (k .step < l .step) ⊎ ((k .step ≡ l .step) × (k .decider < l .decider))
+
+pub record LinesFor (s : List ℕ) (allow : Bool) (q : Records) (v : ℕ) : Type 0 where
+  pub listing : listed s allow ≡ given (record { verdict = v; waits = sheet-waits q; starts = sheet-lines q })
+  pub lines : (i a ticks : ℕ) → List·Memᴰ (record { step = i; decider = a; ticks = ticks }) (sheet-lines q) ↔ ((i < count-of q) × (sheet-decides q a i ≡ true) × (ticks ≡ sheet-offset q a i))
+  pub order : Rising LineBefore (sheet-lines q)
+
+abbrev pub LinesListed : Type 0
+LinesListed = (s : List ℕ) (allow : Bool) (q : Records) (v : ℕ) → Accepted s allow q v → LinesFor s allow q v
+
+-- ## The hypotheses are met
+
+-- A sheet of the worked table.
+abbrev pub WorkedBytes : List ℕ → Type 0
+WorkedBytes s = (w : Worked) × List·Memᴰ w worked-sheets × (w .bytes ≡ s)
+
+-- There are accepted sheets of both verdicts; sheets refused 10, and 11 with a list that leaves none; and for one with waits a rival's sheet, with links of its own, and start times that keep it and
+-- differ from ours.
+pub record RivalMet (q : Records) : Type 0 where
+  pub links : List Constraint
+  pub extension : Extension (q .steps) (constraints (q .pairs)) links
+  pub durations : ℕ → ℕ
+  pub source : durations 0 ≡ 0
+  pub times : ℕ → ℕ
+  pub kept : KeepsAll (q .steps) links durations times
+  pub step : ℕ
+  pub exists : step < count-of q
+  pub later : our-start q durations step < times step
+
+pub record HypothesesMet : Type 0 where
+  pub sound : (s : List ℕ) × (q : Records) × WorkedBytes s × Accepted s false q 0
+  pub with-waits : (s : List ℕ) × (q : Records) × WorkedBytes s × Accepted s true q 1 × RivalMet q
+  pub infeasible : (s : List ℕ) × (q : Records) × WorkedBytes s × WellFormed s q × (judged s true ≡ refused 10)
+  pub inconsistent : (s : List ℕ) × (q : Records) × WorkedBytes s × WellFormed s q × (judged s true ≡ refused 11) × SomeListLeavesNone q
