@@ -19,7 +19,7 @@ use Rattle.definitions.specs.declared.Bound.{Bound}
 use Rattle.definitions.specs.declared.Bound.the-variants.{Absent, Ticks}
 use Rattle.definitions.specs.declared.Link.{Link}
 use Rattle.edges.specs.Words.{graph}
-use Rattle.edges.specs.Sheets.{Pushed, Listed, Ends, sequencing-edges, minimum-edges, maximum-edges, link-edges, delay-within}
+use Rattle.edges.specs.Sheets.{Fit, Pushed, Listed, Ends, sequencing-edges, minimum-edges, maximum-edges, link-edges, delay-within}
 use Rattle.edges.proofs.Pushing.{link-few}
 
 pub flatMap-append : {A B : Type 0} (f : A → List B) (s t : List A) → flatMap f (s ++ t) ≡ flatMap f s ++ flatMap f t
@@ -69,11 +69,11 @@ pub listed-start : (os : List Operation) (ls : List Link) (words : List ℕ) →
 unfolding graph edges constraints flatMap
 listed-start os ls words = record { few = omega arith; same = λ h. refl }
 
-listed-more : (os : List Operation) (s : List Link) (l : Link) (d : Delay) (k c c′ : ℕ) (words words′ : List ℕ) → Listed os s k words c → Pushed (l .from) (l .to) (link-edges d l) words words′ c c′ → (l .from < 64 → delay-at os (l .from) ≡ d) → Listed os (s ++ l ∷ []) (k + 1) words′ c′
+listed-more : (os : List Operation) (s : List Link) (l : Link) (d : Delay) (k c c′ : ℕ) (words words′ : List ℕ) → Listed os s k words c → Pushed (Fit (l .from) (l .to)) (link-edges d l) words words′ c c′ → (l .from < 64 → delay-at os (l .from) ≡ d) → Listed os (s ++ l ∷ []) (k + 1) words′ c′
 listed-more os s l d k c c′ words words′ L P h =
-    record { few = omega (arith, L .few, P .counts, link-few d l); same = λ (E : Ends (s ++ l ∷ [])). let b = E l (Memᴰ·append-right s (List·Memᴰ·head refl)) in P .same (b .0) (b .1) ∙ ap₂ (λ (x : List Edge) (y : Delay). x ++ link-edges y l) (L .same (λ m i. E m (Memᴰ·append-left (l ∷ []) i))) (sym (h (b .0))) ∙ sym (edges-more os s l) }
+    record { few = omega (arith, L .few, P .counts, link-few d l); same = λ (E : Ends (s ++ l ∷ [])). let b = E l (Memᴰ·append-right s (List·Memᴰ·head refl)) in P .same b ∙ ap₂ (λ (x : List Edge) (y : Delay). x ++ link-edges y l) (L .same (λ m i. E m (Memᴰ·append-left (l ∷ []) i))) (sym (h (b .0))) ∙ sym (edges-more os s l) }
 
-pub listed-step : (os : List Operation) (ls : List Link) (l e : Link) (d : Delay) (k c c′ : ℕ) (words words′ : List ℕ) → k < length ls → l ≡ getD ls k e → Listed os (take k ls) k words c → Pushed (l .from) (l .to) (link-edges d l) words words′ c c′ → (l .from < 64 → delay-at os (l .from) ≡ d) → Listed os (take (k + 1) ls) (k + 1) words′ c′
+pub listed-step : (os : List Operation) (ls : List Link) (l e : Link) (d : Delay) (k c c′ : ℕ) (words words′ : List ℕ) → k < length ls → l ≡ getD ls k e → Listed os (take k ls) k words c → Pushed (Fit (l .from) (l .to)) (link-edges d l) words words′ c c′ → (l .from < 64 → delay-at os (l .from) ≡ d) → Listed os (take (k + 1) ls) (k + 1) words′ c′
 listed-step os ls l e d k c c′ words words′ b g L P h =
     let t : take (k + 1) ls ≡ take k ls ++ l ∷ [] = rw add-one (take-suc ls k e b ∙ ap (λ (x : Link). take k ls ++ x ∷ []) (sym g)) in
     rw t (listed-more os (take k ls) l d k c c′ words words′ L P h)

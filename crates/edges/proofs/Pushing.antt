@@ -24,17 +24,17 @@ pub graph-set : (words : List ℕ) (c w : ℕ) (e : Edge) → c < length words �
 unfolding graph
 graph-set words c w e h p = rw add-one (ap graph (take-suc-set words c w h) ∙ graph-append (take c words) (w ∷ []) ∙ ap (λ (x : Edge). graph (take c words) ++ x ∷ []) p)
 
-module _ (i j : ℕ) where
-  pub push-none : (words : List ℕ) (c : ℕ) → Pushed i j [] words words c c
-  push-none words c = record { long = refl; counts = omega arith; same = λ h k. sym (append-nil (graph (take c words))) }
+module _ (H : Type 0) where
+  pub push-none : (words : List ℕ) (c : ℕ) → Pushed H [] words words c c
+  push-none words c = record { long = refl; counts = omega arith; same = λ h. sym (append-nil (graph (take c words))) }
 
-  pub push-one : (e : Edge) (words : List ℕ) (c w : ℕ) → c < length words → (i < 64 → j < 64 → unpack w ≡ e) → Pushed i j (e ∷ []) words (set words c w) c (c + 1)
-  push-one e words c w h p = record { long = length-set words c w; counts = refl; same = λ a b. graph-set words c w e h (p a b) }
+  pub push-one : (e : Edge) (words : List ℕ) (c w : ℕ) → c < length words → (H → unpack w ≡ e) → Pushed H (e ∷ []) words (set words c w) c (c + 1)
+  push-one e words c w h p = record { long = length-set words c w; counts = refl; same = λ a. graph-set words c w e h (p a) }
 
   -- One push after another.
-  pub push-both : {es fs : List Edge} {s t u : List ℕ} {c d e : ℕ} → Pushed i j es s t c d → Pushed i j fs t u d e → Pushed i j (es ++ fs) s u c e
+  pub push-both : {es fs : List Edge} {s t u : List ℕ} {c d e : ℕ} → Pushed H es s t c d → Pushed H fs t u d e → Pushed H (es ++ fs) s u c e
   push-both {es} {fs} {s} {t} {u} {c} P Q =
-      record { long = Q .long ∙ P .long; counts = omega (arith, P .counts, Q .counts, length-append es fs); same = λ a b. Q .same a b ∙ ap (λ (x : List Edge). x ++ fs) (P .same a b) ∙ append-assoc (graph (take c s)) es fs }
+      record { long = Q .long ∙ P .long; counts = omega (arith, P .counts, Q .counts, length-append es fs); same = λ a. Q .same a ∙ ap (λ (x : List Edge). x ++ fs) (P .same a) ∙ append-assoc (graph (take c s)) es fs }
 
 -- Each of the three lists of a record has one edge at most.
 pub sequencing-few : (d : Delay) (i j : ℕ) (b : Bool) → length (sequencing-edges d i j b) ≤ 1
@@ -65,5 +65,5 @@ link-few d l =
     (sequencing-few d (l .from) (l .to) (l .sequencing)) (minimum-few (l .from) (l .to) (l .minimum)) (maximum-few (l .from) (l .to) (l .maximum))
 
 -- There is room after a push of one edge at most.
-pub room : {i j : ℕ} {es : List Edge} {s t : List ℕ} {c d : ℕ} (k : ℕ) → Pushed i j es s t c d → length es ≤ 1 → c + suc k ≤ length s → d + k ≤ length t
+pub room : {H : Type 0} {es : List Edge} {s t : List ℕ} {c d : ℕ} (k : ℕ) → Pushed H es s t c d → length es ≤ 1 → c + suc k ≤ length s → d + k ≤ length t
 room k P h b = omega (arith, P .long, P .counts)

@@ -37,15 +37,18 @@ unfoldable pub delay-within : Bool → Operation → Delay
 delay-within true o = o .delay
 delay-within false o = Fixed 0
 
--- The words after a push: of the same number, and their first c′ stand for the edges of the first c before, with es behind them, where the ends fit their digits.
-pub record Pushed (i j : ℕ) (es : List Edge) (words words′ : List ℕ) (c c′ : ℕ) : Type 0 where
+-- Ends that fit their digits, and links that have such.
+abbrev pub Fit : ℕ → ℕ → Type 0
+Fit i j = (i < 64) × (j < 64)
+
+-- The words after a push: as many as before, and the first c′ stand for the edges of the first c before, with es behind them, where H holds.
+pub record Pushed (H : Type 0) (es : List Edge) (words words′ : List ℕ) (c c′ : ℕ) : Type 0 where
   pub long : length words′ ≡ length words
   pub counts : c′ ≡ c + length es
-  pub same : i < 64 → j < 64 → graph (take c′ words′) ≡ graph (take c words) ++ es
+  pub same : H → graph (take c′ words′) ≡ graph (take c words) ++ es
 
--- Every link has both ends below 64.
 abbrev pub Ends : List Link → Type 0
-Ends ls = (l : Link) → List·Memᴰ l ls → (l .from < 64) × (l .to < 64)
+Ends ls = (l : Link) → List·Memᴰ l ls → Fit (l .from) (l .to)
 
 -- The first count words stand for the edges of k link records. Words past them are free: nothing is said of them.
 pub record Listed (os : List Operation) (ls : List Link) (k : ℕ) (words : List ℕ) (count : ℕ) : Type 0 where

@@ -8,7 +8,10 @@ ghost use lib.Dec.{eqb};
 ghost use lib.ListN.{length, take};
 ghost use Rattle.edges.specs.Words.{unpack, graph};
 ghost use Rattle.definitions.specs.Links.{sequencing-edge, edges, constraints};
-ghost use Rattle.edges.specs.Sheets.{edge, sequencing-edges, minimum-edges, maximum-edges, link-edges, delay-within, Pushed, Listed};
+ghost use Rattle.definitions.specs.Basics.{test-bit};
+ghost use Rattle.definitions.specs.Waits.{wait-edge};
+ghost use Rattle.edges.specs.Serial.{edges-from, edge-if, wait-edges};
+ghost use Rattle.edges.specs.Sheets.{edge, sequencing-edges, minimum-edges, maximum-edges, link-edges, delay-within, Fit, Pushed, Listed};
 
 // The fields of a word.
 pub fn edge_from(w: u64) -> usize
@@ -77,7 +80,7 @@ fn word(from: u64, to: u64, counted: u64, back: u64, gain: u64, loss: u64) -> u6
 
 // The word of an edge whose fields fit; others are cut down to their low digits.
 pub fn pack(from: u8, to: u8, gain: u32, loss: u32, counted: bool, back: bool) -> u64
-    ensures { λ r. ⌜ (from < 64 → to < 64 → gain < 16777216 → loss < 16777216 → unpack r ≡ edge from to gain loss counted back) ⌝ }
+    ensures { λ r. ⌜ (Fit from to → gain < 16777216 → loss < 16777216 → unpack r ≡ edge from to gain loss counted back) ⌝ }
 {
     let f = wide8(from) % 64;
     let t = wide8(to) % 64;
@@ -96,7 +99,7 @@ fn ticks_of(x: u16) -> u32
 
 // The words of an after, an at-least and an at-most link on (from, to).
 fn sequencing_word(delay: Delay, from: u8, to: u8) -> u64
-    ensures { λ r. ⌜ (from < 64 → to < 64 → unpack r ≡ sequencing-edge delay from to) ⌝ }
+    ensures { λ r. ⌜ (Fit from to → unpack r ≡ sequencing-edge delay from to) ⌝ }
 {
     match delay {
         Delay::Open => pack(from, to, 0, 0, from != 0, false),
@@ -105,13 +108,13 @@ fn sequencing_word(delay: Delay, from: u8, to: u8) -> u64
 }
 
 fn minimum_word(from: u8, to: u8, least: u16) -> u64
-    ensures { λ r. ⌜ (from < 64 → to < 64 → unpack r ≡ edge from to least 0 false false) ⌝ }
+    ensures { λ r. ⌜ (Fit from to → unpack r ≡ edge from to least 0 false false) ⌝ }
 {
     pack(from, to, ticks_of(least), 0, false, false)
 }
 
 fn maximum_word(from: u8, to: u8, most: u16) -> u64
-    ensures { λ r. ⌜ (from < 64 → to < 64 → unpack r ≡ edge to from 0 most false true) ⌝ }
+    ensures { λ r. ⌜ (Fit from to → unpack r ≡ edge to from 0 most false true) ⌝ }
 {
     pack(to, from, 0, ticks_of(most), false, true)
 }
@@ -126,7 +129,7 @@ fn push_sequencing(
     sequencing: bool,
 ) -> usize
     requires { do ⌜ count < (← ⟦words.len()⟧) ⌝ }
-    ensures { λ r. ⌜ Pushed from to (sequencing-edges delay from to sequencing) (now (words .entry)) (now (words .exit)) count r ⌝ }
+    ensures { λ r. ⌜ Pushed (Fit from to) (sequencing-edges delay from to sequencing) (now (words .entry)) (now (words .exit)) count r ⌝ }
 {
     if sequencing {
         let w = sequencing_word(delay, from, to);
@@ -138,7 +141,7 @@ fn push_sequencing(
 
 fn push_minimum(words: &mut [u64], count: usize, from: u8, to: u8, bound: Bound) -> usize
     requires { do ⌜ count < (← ⟦words.len()⟧) ⌝ }
-    ensures { λ r. ⌜ Pushed from to (minimum-edges from to bound) (now (words .entry)) (now (words .exit)) count r ⌝ }
+    ensures { λ r. ⌜ Pushed (Fit from to) (minimum-edges from to bound) (now (words .entry)) (now (words .exit)) count r ⌝ }
 {
     match bound {
         Bound::Ticks(least) => {
@@ -152,7 +155,7 @@ fn push_minimum(words: &mut [u64], count: usize, from: u8, to: u8, bound: Bound)
 
 fn push_maximum(words: &mut [u64], count: usize, from: u8, to: u8, bound: Bound) -> usize
     requires { do ⌜ count < (← ⟦words.len()⟧) ⌝ }
-    ensures { λ r. ⌜ Pushed from to (maximum-edges from to bound) (now (words .entry)) (now (words .exit)) count r ⌝ }
+    ensures { λ r. ⌜ Pushed (Fit from to) (maximum-edges from to bound) (now (words .entry)) (now (words .exit)) count r ⌝ }
 {
     match bound {
         Bound::Ticks(most) => {
@@ -166,7 +169,7 @@ fn push_maximum(words: &mut [u64], count: usize, from: u8, to: u8, bound: Bound)
 
 fn push_link(words: &mut [u64], count: usize, link: Link, delay: Delay) -> usize
     requires { do ⌜ count + 3 ≤ (← ⟦words.len()⟧) ⌝ }
-    ensures { λ r. ⌜ Pushed (link .from) (link .to) (link-edges delay link) (now (words .entry)) (now (words .exit)) count r ⌝ }
+    ensures { λ r. ⌜ Pushed (Fit (link .from) (link .to)) (link-edges delay link) (now (words .entry)) (now (words .exit)) count r ⌝ }
 {
     let from = link.from;
     let to = link.to;
@@ -216,6 +219,72 @@ pub fn edges_of(sheet: Sheet) -> EdgeWords
         k += 1;
     }
     EdgeWords {
+        count: count,
+        words: words,
+    }
+}
+
+// Whether bit a stands in a map.
+fn has_bit(map: u64, a: usize) -> bool
+    requires { ⌜ a < 64 ⌝ }
+    ensures { λ r. ⌜ r ≡ test-bit map a ⌝ }
+{
+    (map >> a) % 2 == 1
+}
+
+// The word of a wait of i for a.
+fn wait_word(a: usize, i: usize) -> u64
+    requires { ⌜ (a < 64) × (i < 64) ⌝ }
+    ensures { λ r. ⌜ unpack r ≡ edge a i 0 0 true false ⌝ }
+{
+    pack(a as u8, i as u8, 0, 0, true, false)
+}
+
+fn push_wait(words: &mut [u64], count: usize, stands: bool, a: usize, i: usize) -> usize
+    requires { do ⌜ (a < 64) × (i < 64) × (count < (← ⟦words.len()⟧)) ⌝ }
+    ensures { λ r. ⌜ Pushed Unit (edge-if stands a i) (now (words .entry)) (now (words .exit)) count r ⌝ }
+{
+    if stands {
+        let w = wait_word(a, i);
+        words[count] = w;
+        return count + 1;
+    }
+    count
+}
+
+// The waits for a, of the operations below n.
+fn push_waits(words: &mut [u64], count: usize, maps: &[u64; 64], a: usize, n: usize) -> usize
+    requires { do ⌜ (a < 64) × (n ≤ 64) × (count + n ≤ (← ⟦words.len()⟧)) ⌝ }
+    ensures { λ r. ⌜ Pushed Unit (edges-from (now (maps .entry)) a n) (now (words .entry)) (now (words .exit)) count r ⌝ }
+{
+    let mut c = count;
+    let mut i = 0;
+    while i < n {
+        let stands = has_bit(maps[i], a);
+        c = push_wait(words, c, stands, a, i);
+        i += 1;
+    }
+    c
+}
+
+// The edges of the waits that maps hold, as the first count words.
+pub struct WaitWords {
+    pub count: usize,
+    pub words: [u64; 4096],
+}
+
+pub fn wait_words(maps: &[u64; 64], n: usize) -> WaitWords
+    requires { ⌜ n ≤ 64 ⌝ }
+    ensures { λ w. ⌜ (w .count ≤ 4096) × (graph (take (w .count) (w .words)) ≡ wait-edges n (now (maps .entry))) ⌝ }
+{
+    let mut words = [0u64; 4096];
+    let mut count = 0;
+    let mut a = 0;
+    while a < n {
+        count = push_waits(&mut words, count, maps, a, n);
+        a += 1;
+    }
+    WaitWords {
         count: count,
         words: words,
     }

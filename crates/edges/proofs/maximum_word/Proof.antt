@@ -17,8 +17,8 @@ pack-requires : tie.Need-pack-requires
 pack-requires c κs = search needs
 
 returns : tie.Need-returns
-returns c hf ht =
-    c .pack .ensures ht hf (omega arith) (omega (arith, c .before .ticks-of .ensures .1))
+returns c h =
+    c .pack .ensures (h .1, h .0) (omega arith) (omega (arith, c .before .ticks-of .ensures .1))
     ∙ same-edge refl refl refl (c .before .ticks-of .ensures .0) refl refl
 
 pub maximum-word-spec : {M : Type 1} → statement M

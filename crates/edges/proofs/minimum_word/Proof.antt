@@ -17,8 +17,8 @@ pack-requires : tie.Need-pack-requires
 pack-requires c κs = search needs
 
 returns : tie.Need-returns
-returns c hf ht =
-    c .pack .ensures hf ht (omega (arith, c .before .ticks-of .ensures .1)) (omega arith)
+returns c h =
+    c .pack .ensures h (omega (arith, c .before .ticks-of .ensures .1)) (omega arith)
     ∙ same-edge refl refl (c .before .ticks-of .ensures .0) refl refl refl
 
 pub minimum-word-spec : {M : Type 1} → statement M

@@ -34,11 +34,11 @@ word-requires : tie.Need-word-requires
 word-requires c κs = search needs
 
 returns : tie.Need-returns
-returns c hf ht hg hl =
+returns c h hg hl =
     c .word .ensures
     ∙ same-edge
-    (digit-kept (c .before .before .before .before .before .before .wide8 .ensures .0) hf)
-    (digit-kept (c .before .before .before .before .before .wide82 .ensures .0) ht)
+    (digit-kept (c .before .before .before .before .before .before .wide8 .ensures .0) (h .0))
+    (digit-kept (c .before .before .before .before .before .wide82 .ensures .0) (h .1))
     (digit-kept (c .before .before .before .before .wide32 .ensures) hg)
     (digit-kept (c .before .before .before .wide322 .ensures) hl)
     (c .before .before .digit .ensures .0)

@@ -30,7 +30,7 @@ same-length c = search needs
 
 returns : tie.Need-returns
 unfolding link-edges
-returns c = push-both _ _ (push-both _ _ (c .before .before .before .before .before .before .before .before .before .before .push-sequencing .ensures) (c .before .before .before .before .before .before .push-minimum .ensures)) (c .before .before .push-maximum .ensures)
+returns c = push-both _ (push-both _ (c .before .before .before .before .before .before .before .before .before .before .push-sequencing .ensures) (c .before .before .before .before .before .before .push-minimum .ensures)) (c .before .before .push-maximum .ensures)
 
 pub push-link-spec : {M : Type 1} → statement M
 push-link-spec =

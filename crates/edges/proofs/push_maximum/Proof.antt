@@ -32,11 +32,11 @@ same-length c = search needs
 
 returns : tie.Need-returns
 unfolding maximum-edges
-returns c = rw (c .before .before .bound .given .1) (push-one _ _ _ _ _ _ (c .before .before .before .before .before .pre) (c .maximum-word .ensures))
+returns c = rw (c .before .before .bound .given .1) (push-one _ _ _ _ _ (c .before .before .before .before .before .pre) (c .maximum-word .ensures))
 
 returns-2 : tie.Need-returns-2
 unfolding maximum-edges
-returns-2 c = rw (c .enum-told .given .1) (push-none _ _ _ _)
+returns-2 c = rw (c .enum-told .given .1) (push-none _ _ _)
 
 pub push-maximum-spec : {M : Type 1} → statement M
 push-maximum-spec =

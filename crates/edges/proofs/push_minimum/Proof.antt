@@ -32,11 +32,11 @@ same-length c = search needs
 
 returns : tie.Need-returns
 unfolding minimum-edges
-returns c = rw (c .before .before .bound .given .1) (push-one _ _ _ _ _ _ (c .before .before .before .before .before .pre) (c .minimum-word .ensures))
+returns c = rw (c .before .before .bound .given .1) (push-one _ _ _ _ _ (c .before .before .before .before .before .pre) (c .minimum-word .ensures))
 
 returns-2 : tie.Need-returns-2
 unfolding minimum-edges
-returns-2 c = rw (c .enum-told .given .1) (push-none _ _ _ _)
+returns-2 c = rw (c .enum-told .given .1) (push-none _ _ _)
 
 pub push-minimum-spec : {M : Type 1} → statement M
 push-minimum-spec =

@@ -26,11 +26,11 @@ same-length c = search needs
 
 returns : tie.Need-returns
 unfolding sequencing-edges
-returns c = rw (c .before .if1 .taken) (push-one _ _ _ _ _ _ (c .before .before .before .pre) (c .sequencing-word .ensures))
+returns c = rw (c .before .if1 .taken) (push-one _ _ _ _ _ (c .before .before .before .pre) (c .sequencing-word .ensures))
 
 returns-2 : tie.Need-returns-2
 unfolding sequencing-edges
-returns-2 c = rw (c .if1 .left) (push-none _ _ _ _)
+returns-2 c = rw (c .if1 .left) (push-none _ _ _)
 
 pub push-sequencing-spec : {M : Type 1} → statement M
 push-sequencing-spec =

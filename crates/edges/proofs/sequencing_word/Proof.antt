@@ -28,13 +28,13 @@ pack-requires-2 c κs = search needs
 
 returns : tie.Need-returns
 unfolding sequencing-edge
-returns c hf ht = rw (c .before .enum-told .given .1) (c .pack .ensures hf ht (omega arith) (omega arith))
+returns c h = rw (c .before .enum-told .given .1) (c .pack .ensures h (omega arith) (omega arith))
 
 returns-2 : tie.Need-returns-2
 unfolding sequencing-edge
-returns-2 c hf ht =
+returns-2 c h =
     rw (c .before .before .before .delay .given .1)
-    (c .pack2 .ensures hf ht (omega (arith, c .before .ticks-of .ensures .1)) (omega arith)
+    (c .pack2 .ensures h (omega (arith, c .before .ticks-of .ensures .1)) (omega arith)
     ∙ same-edge refl refl (c .before .ticks-of .ensures .0) refl refl refl)
 
 pub sequencing-word-spec : {M : Type 1} → statement M

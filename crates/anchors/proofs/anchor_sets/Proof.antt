@@ -1,0 +1,91 @@
+-- `anchors::anchor_sets` meets its contract. Invariant: the rows below v are made.
+use mathlib.Core.Path.{_≡_, refl, sym, ap, ap₂, _∙_}
+use mathlib.Core.Bool.{Bool, true, false, not, _&&_, _||_}
+use mathlib.Core.List.{List}
+use Prim.Native.Nat.{ℕ, _+_, _-_, _<_, _≤_}
+use lib.Dec.{eqb, ltb}
+use Rattle.relations.proofs.Gathering.{Made, made-no-row, made-row}
+use Rattle.anchors.specs.Chains.{anchors-to, at-or-before}
+use Rattle.anchors.proofs.Travelling.{anchors-same, sets-by}
+use native.Mathlib.Omega.{arith}
+use borrow.Author.Needs.{needs}
+use Rattle.anchors.proofs.anchor_sets.Statement.{statement}
+use Rattle.anchors.proofs.anchor_sets.Tie as tie
+use Rattle.anchors.proofs.anchor_sets.Reads as reads
+use Rattle.anchors.proofs.anchor_sets.Lts as lts
+use Rattle.anchors.proofs.anchor_row.Reads as anchor-row-reads
+use Rattle.bitmaps.proofs.insert.Reads as insert-reads
+
+-- Row w holds the anchors below n whose targets are w or come before w.
+abbrev anchored : List ℕ → List ℕ → ℕ → ℕ → ℕ → Bool
+anchored closed targets n w k = ltb k n && anchors-to targets (at-or-before closed w) k
+
+abbrev Inv-loop : tie.InvT-loop
+Inv-loop closed targets n rows₀ v₀ rows v = (v ≤ n) × Made (anchored closed targets n) v rows
+
+abbrev μ-loop : tie.MeasureT-loop
+μ-loop closed targets n rows₀ v₀ rows v = n - v
+
+loop-holds : tie.Need-loop-holds Inv-loop μ-loop
+loop-holds c = (omega arith, made-no-row (anchored (c .args .closed .now) (c .args .targets .now) (c .args .n)))
+
+mul-insert : tie.Need-mul-insert Inv-loop μ-loop
+mul-insert c = search needs
+
+element-copy-out-insert : tie.Need-element-copy-out-insert Inv-loop μ-loop
+element-copy-out-insert c = search needs
+
+insert-requires : tie.Need-insert-requires Inv-loop μ-loop
+insert-requires c κs = search needs
+
+anchor-row-requires : tie.Need-anchor-row-requires Inv-loop μ-loop
+anchor-row-requires c κs = search needs
+
+mul-rows : tie.Need-mul-rows Inv-loop μ-loop
+mul-rows c = search needs
+
+array-write-rows : tie.Need-array-write-rows Inv-loop μ-loop
+array-write-rows c = search needs
+
+add-v : tie.Need-add-v Inv-loop μ-loop
+add-v c = search needs
+
+loop-less : tie.Need-loop-less Inv-loop μ-loop
+loop-less c = search needs
+
+loop-again : tie.Need-loop-again Inv-loop μ-loop
+loop-again c =
+    let s = c .before .before .before .before in
+    let closed = s .before .args .closed .now in
+    let targets = s .before .args .targets .now in
+    let n = s .before .args .n in
+    (
+      omega arith,
+      made-row (anchored closed targets n) (c .anchor-row .result) (search needs) (s .loop .inv .1) (λ k. c .anchor-row .ensures k ∙ ap (λ (b : Bool). ltb k n && b) (anchors-same targets k (c .before .insert .ensures))),
+    )
+
+returns : tie.Need-returns Inv-loop μ-loop
+returns c g closed counted a v =
+    let s = c .before in
+    let e : s .loop .v ≡ s .before .args .n = omega arith in
+    s .loop .inv .1 .bits v a
+    ∙ ap (λ (x : ℕ). ltb v x && anchored (s .before .args .closed .now) (s .before .args .targets .now) (s .before .args .n) v a) e
+    ∙ sets-by closed counted (search needs) a v
+
+pub anchor-sets-spec : {M : Type 1} → statement M
+anchor-sets-spec =
+    tie.close
+    (tie.spec
+    Inv-loop
+    μ-loop
+    loop-holds
+    mul-insert
+    element-copy-out-insert
+    insert-requires
+    anchor-row-requires
+    mul-rows
+    array-write-rows
+    add-v
+    loop-less
+    loop-again
+    returns)
