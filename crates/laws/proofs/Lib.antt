@@ -1,8 +1,9 @@
 pub mod Bools
-pub mod Tests
+pub mod Counts
 pub mod Maps
+pub mod Searches
+pub mod Tests
 pub mod Arrays
 pub mod Parsers
 pub mod Lists
 pub mod Outcomes
-pub mod Searches
