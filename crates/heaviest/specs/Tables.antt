@@ -3,9 +3,9 @@ use mathlib.Core.Path.{_≡_}
 use mathlib.Core.Bool.{Bool, true, false}
 use mathlib.Core.List.{List, [], _∷_, List·Memᴰ, map}
 use Prim.Native.Nat.{ℕ, zero, suc, _≤_, _<_, max}
-use lib.ListN.{length, getD}
+use lib.ListN.{length, getD, replicate}
 use Rattle.definitions.specs.Links.{Edge}
-use Rattle.definitions.specs.Rounds.{cell, extend, offer, raise, relax, round, stable, seed}
+use Rattle.definitions.specs.Rounds.{cell, extend, offer, raise, relax, round, rounds, stable, source-row, seed}
 
 -- Every edge has both ends below n.
 abbrev pub Inside : ℕ → List Edge → Type 0
@@ -55,3 +55,17 @@ leads a (e ∷ es) row = leads a es (raise row (e .to) (lead a e))
 pub record Seeded (es : List Edge) (d d′ : List (List ℕ)) : Type 0 where
   pub square : Square d′
   pub same : (a : ℕ) → column d′ a ≡ leads a es (column d a)
+
+-- Each of the columns below n after k rounds.
+pub record Settled (n : ℕ) (es : List Edge) (k : ℕ) (d d′ : List (List ℕ)) : Type 0 where
+  pub square : Square d′
+  pub same : (a : ℕ) → a < n → column d′ a ≡ rounds es k (column d a)
+
+-- The rows before any edge: the empty walk at the source for the source, nothing for another anchor.
+unfoldable pub start-row : ℕ → List ℕ
+start-row zero = source-row 64 0
+start-row (suc a) = replicate 64 0
+
+pub record First (d : List (List ℕ)) : Type 0 where
+  pub square : Square d
+  pub same : (a : ℕ) → column d a ≡ start-row a

@@ -1,0 +1,20 @@
+-- `heaviest::first_table` meets its contract.
+use native.Mathlib.Omega.{arith}
+use borrow.Author.Needs.{needs}
+use Rattle.heaviest.proofs.Walking.{first-start}
+use Rattle.heaviest.proofs.first_table.Statement.{statement}
+use Rattle.heaviest.proofs.first_table.Tie as tie
+use Rattle.heaviest.proofs.first_table.Reads as reads
+use Rattle.heaviest.proofs.first_table.Lts as lts
+
+index-1-d : tie.Need-index-1-d
+index-1-d c = search needs
+
+index-2-d : tie.Need-index-2-d
+index-2-d c = search needs
+
+returns : tie.Need-returns
+returns c = first-start
+
+pub first-table-spec : {M : Type 1} → statement M
+first-table-spec = tie.close (tie.spec index-1-d index-2-d returns)
