@@ -1,0 +1,80 @@
+-- The invariant: the first v rows stand at the front, and behind them what was lent. The measure is the number of rows that are left. Assumes nothing.
+use mathlib.Core.Path.{_≡_, refl}
+use mathlib.Core.List.{_++_}
+use Prim.Native.Nat.{_+_, _*_, _-_, _≤_}
+use lib.ListN.{length, drop, length-take, length-drop}
+use Rattle.schedule.specs.Working.{first-rows}
+use Rattle.schedule.proofs.Laws.{first-rows-none, first-rows-more, planned}
+use Rattle.schedule.proofs.Loops.{row-place, table-size}
+use borrow.Author.Needs.{needs}
+use native.Mathlib.Omega.{arith}
+use Rattle.schedule.proofs.fill_plan.Statement.{statement}
+use Rattle.schedule.proofs.fill_plan.Tie as tie
+
+abbrev Inv-loop : tie.InvT-loop
+Inv-loop d sets n table₀ v₀ table v = (v ≤ n) × (length table ≡ length table₀) × (table ≡ first-rows d sets n v ++ drop (v * n) table₀)
+
+abbrev μ-loop : tie.MeasureT-loop
+μ-loop d sets n table₀ v₀ table v = n - v
+
+loop-holds : tie.Need-loop-holds Inv-loop μ-loop
+loop-holds c = (omega arith, refl, first-rows-none _ _ _ _)
+
+in-table : (c : tie.In-loop Inv-loop μ-loop) → (c .before .loop .v * c .before .before .before .args .n + c .before .before .before .args .n ≤ c .before .before .before .args .n * c .before .before .before .args .n) × (c .before .before .before .args .n * c .before .before .before .args .n ≤ 4096)
+in-table c = (row-place _ _ (omega arith), table-size _ (omega arith))
+
+mul-at : tie.Need-mul-at Inv-loop μ-loop
+mul-at c = omega (arith, in-table c)
+
+mul-fill-row : tie.Need-mul-fill-row Inv-loop μ-loop
+mul-fill-row c = omega (arith, in-table c)
+
+sub-fill-row : tie.Need-sub-fill-row Inv-loop μ-loop
+sub-fill-row c = omega (arith, in-table c)
+
+part-fill-row-start : tie.Need-part-fill-row-start Inv-loop μ-loop
+part-fill-row-start c = omega (arith, in-table c)
+
+part-fill-row-end : tie.Need-part-fill-row-end Inv-loop μ-loop
+part-fill-row-end c = search needs
+
+fill-row-requires : tie.Need-fill-row-requires Inv-loop μ-loop
+fill-row-requires c κs = (omega arith, omega arith, simp (length-take, length-drop) (omega (arith, in-table (c .before))))
+
+add-v : tie.Need-add-v Inv-loop μ-loop
+add-v c = search needs
+
+loop-less : tie.Need-loop-less Inv-loop μ-loop
+loop-less c = search needs
+
+loop-again : tie.Need-loop-again Inv-loop μ-loop
+loop-again c =
+    let s = c .before .before .before .before .before in
+    (omega arith, search needs, first-rows-more _ _ _ _ _ _ _ (s .loop .inv .2) (c .before .before .fill-row .ensures))
+
+same-length : tie.Need-same-length Inv-loop μ-loop
+same-length c = search needs
+
+returns : tie.Need-returns Inv-loop μ-loop
+returns c =
+    let e : c .before .loop .v ≡ c .before .before .before .args .n = omega arith in
+    planned (rw e at (c .before .loop .inv .2))
+
+pub fill-plan-spec : {M : Type 1} → statement M
+fill-plan-spec =
+    tie.close
+    (tie.spec
+    Inv-loop
+    μ-loop
+    loop-holds
+    mul-at
+    mul-fill-row
+    sub-fill-row
+    part-fill-row-start
+    part-fill-row-end
+    fill-row-requires
+    add-v
+    loop-less
+    loop-again
+    same-length
+    returns)

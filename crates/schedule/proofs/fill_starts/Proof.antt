@@ -1,0 +1,80 @@
+-- The invariant: the first v numbers are the starts, the others as lent. The measure is the number of starts that are left. Assumes nothing.
+use mathlib.Core.Path.{_≡_, refl, ap, _∙_}
+use mathlib.Core.List.{List}
+use Prim.Native.Nat.{ℕ, _-_, _≤_}
+use lib.ListN.{length, length-set}
+use Rattle.schedule.specs.Working.{cut-start}
+use Rattle.schedule.proofs.Loops.{laid, laid-none, laid-more}
+use Rattle.schedule.proofs.Laws.{started}
+use borrow.Author.Needs.{needs}
+use native.Mathlib.Omega.{arith}
+use Rattle.schedule.proofs.fill_starts.Statement.{statement}
+use Rattle.schedule.proofs.fill_starts.Tie as tie
+
+abbrev Inv-loop : tie.InvT-loop
+Inv-loop d sets n list out₀ row v₀ out v = (v ≤ n) × (length out ≡ length out₀) × (out ≡ laid (cut-start row) v out₀)
+
+abbrev μ-loop : tie.MeasureT-loop
+μ-loop d sets n list out₀ row v₀ out v = n - v
+
+turns-requires : tie.Need-turns-requires Inv-loop μ-loop
+turns-requires c κs = search needs
+
+loop-holds : tie.Need-loop-holds Inv-loop μ-loop
+loop-holds c = (omega arith, refl, laid-none _ _)
+
+mul-narrow : tie.Need-mul-narrow Inv-loop μ-loop
+mul-narrow c = search needs
+
+array-read-narrow : tie.Need-array-read-narrow Inv-loop μ-loop
+array-read-narrow c = search needs
+
+narrow-requires : tie.Need-narrow-requires Inv-loop μ-loop
+narrow-requires c κs = search needs
+
+mul-out : tie.Need-mul-out Inv-loop μ-loop
+mul-out c = search needs
+
+slice-write-out : tie.Need-slice-write-out Inv-loop μ-loop
+slice-write-out c = search needs
+
+add-v : tie.Need-add-v Inv-loop μ-loop
+add-v c = search needs
+
+loop-less : tie.Need-loop-less Inv-loop μ-loop
+loop-less c = search needs
+
+loop-again : tie.Need-loop-again Inv-loop μ-loop
+loop-again c =
+    let s = c .before .before in
+    (omega arith, simp length-set (s .loop .inv .1), laid-more _ _ _ _ _ 0 (omega arith) (s .loop .inv .2) (c .narrow .ensures))
+
+same-length : tie.Need-same-length Inv-loop μ-loop
+same-length c = search needs
+
+returns : tie.Need-returns Inv-loop μ-loop
+returns c =
+    let args = c .before .before .before .before .before .args in
+    let e : c .before .loop .v ≡ args .n = omega arith in
+    started
+    ((rw e at (c .before .loop .inv .2))
+    ∙ ap (λ (row : List ℕ). laid (cut-start row) (args .n) (args .out .now)) (c .before .before .turns .ensures))
+
+pub fill-starts-spec : {M : Type 1} → statement M
+fill-starts-spec =
+    tie.close
+    (tie.spec
+    Inv-loop
+    μ-loop
+    turns-requires
+    loop-holds
+    mul-narrow
+    array-read-narrow
+    narrow-requires
+    mul-out
+    slice-write-out
+    add-v
+    loop-less
+    loop-again
+    same-length
+    returns)
