@@ -26,7 +26,7 @@ use Rattle.planner.specs.declared.Analysis.{Analysis}
 use Rattle.planner.specs.Analysis.{judge-first, judge-waits, judge-rest, Serial, Blank, Serialized, Analysed}
 
 -- Refusals in a row are the first of them, and then the rest.
-split : {A : Type 0} (a b c : Bool) (i j k : ℕ) (rest : Outcome A) → refuse-if a i (refuse-if b j (refuse-if c k rest)) ≡ when-given (refuse-if a i (refuse-if b j (refuse-if c k (given {A = Unit {0}} tt)))) (λ u. rest)
+split : {A : Type 0} (a b c : Bool) (i j k : ℕ) (rest : Outcome A) → refuse-if a i (refuse-if b j (refuse-if c k rest)) ≡ when-given {A = Unit {0}} (refuse-if a i (refuse-if b j (refuse-if c k (given tt)))) (λ u. rest)
 unfolding refuse-if when-given
 split true b c i j k rest = refl
 split false true c i j k rest = refl
@@ -38,7 +38,8 @@ pub shape-inside : {n : ℕ} {g : List Edge} → Shape n (members g) → Inside 
 shape-inside shape e m = (shape .from-below e m, shape .to-below e m)
 
 pub reached-reaches : {n : ℕ} {g : List Edge} {rows : List ℕ} → Shape n (members g) → Reached n g rows → Reaches n g rows
-reached-reaches {n} {g} shape reached = λ a v below. reached .reaches shape a v ∙ ap (λ (l : List Edge). after-reaches n l a v) (sym (usable-all g a))
+reached-reaches {n} {g} shape reached =
+    record { bits = λ a v below. reached .reaches shape a v ∙ ap (λ (l : List Edge). after-reaches n l a v) (sym (usable-all g a)) }
 
 module _ (n : ℕ) (g : List Edge) where
   pub judge-split : (allow : Bool) → judge-edges n g allow ≡ when-given (judge-first n g) (λ u. judge-rest n g allow)

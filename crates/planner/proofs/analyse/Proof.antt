@@ -33,15 +33,15 @@ serialize-requires c κs = search needs
 
 returns : tie.Need-returns
 returns c shape =
-    let closed = c .before .before .before .before .before .before .forward .ensures shape in
+    let closed = c .before .before .before .before .before .before .forward .ensures .1 shape in
     let first = c .before .before .before .before .first-fault .ensures closed in
-    analysed-refused _ _ _ _ _ (sym first ∙ ap (λ (x : Status). status-of {A = Unit {0}} x tt) (c .before .k .given .1)) (c .refused-analysis .ensures .0) (c .refused-analysis .ensures .1)
+    analysed-refused _ _ _ _ _ (sym first ∙ ap (λ (x : Status). status-of {A = Unit {0}} x tt) (c .before .before .k .given .1)) (c .refused-analysis .ensures .0) (c .refused-analysis .ensures .1)
 
 returns-2 : tie.Need-returns-2
 returns-2 c shape =
-    let closed = c .before .before .before .before .before .before .forward .ensures shape in
+    let closed = c .before .before .before .before .before .before .forward .ensures .1 shape in
     let first = c .before .before .before .before .first-fault .ensures closed in
-    analysed-rest _ _ _ _ (sym first ∙ ap (λ (x : Status). status-of {A = Unit {0}} x tt) (c .before .enum-told .given .1)) (c .serialize .ensures closed)
+    analysed-rest _ _ _ _ (sym first ∙ ap (λ (x : Status). status-of {A = Unit {0}} x tt) (c .before .before .enum-told .given .1)) (c .serialize .ensures closed)
 
 pub analyse-spec : {M : Type 1} → statement M
 analyse-spec =

@@ -15,28 +15,28 @@ has-cycle-requires : tie.Need-has-cycle-requires
 has-cycle-requires c κs = search needs
 
 returns : tie.Need-returns
-returns c closed = sym (first-8 _ _ (sym (c .before .has-cycle .ensures _ closed) ∙ c .if1 .taken))
+returns c closed = sym (first-8 _ _ (sym (c .before .has-cycle .ensures .1 _ closed) ∙ c .if1 .taken))
 
 has-unreached-requires : tie.Need-has-unreached-requires
 has-unreached-requires c κs = search needs
 
 returns-2 : tie.Need-returns-2
 returns-2 c closed =
-    sym (first-9 _ _ (sym (c .before .before .before .has-cycle .ensures _ closed) ∙ c .before .before .if1 .left) (sym (c .before .has-unreached .ensures _ closed) ∙ c .if2 .taken))
+    sym (first-9 _ _ (sym (c .before .before .before .has-cycle .ensures .1 _ closed) ∙ c .before .before .if1 .left) (sym (c .before .has-unreached .ensures .1 _ closed) ∙ c .if2 .taken))
 
 feasible-requires : tie.Need-feasible-requires
 feasible-requires c κs = search needs
 
 returns-3 : tie.Need-returns-3
 returns-3 c closed =
-    let no-circle = sym (c .before .before .before .before .before .has-cycle .ensures _ closed) ∙ c .before .before .before .before .if1 .left in
-    let all-reached = sym (c .before .before .before .has-unreached .ensures _ closed) ∙ c .before .before .if2 .left in
+    let no-circle = sym (c .before .before .before .before .before .has-cycle .ensures .1 _ closed) ∙ c .before .before .before .before .if1 .left in
+    let all-reached = sym (c .before .before .before .has-unreached .ensures .1 _ closed) ∙ c .before .before .if2 .left in
     sym (first-10 _ _ no-circle all-reached (sym (c .before .feasible .ensures (shape-inside (closed .shape))) ∙ not-true _ (c .if3 .taken)))
 
 returns-4 : tie.Need-returns-4
 returns-4 c closed =
-    let no-circle = sym (c .before .before .before .before .before .has-cycle .ensures _ closed) ∙ c .before .before .before .before .if1 .left in
-    let all-reached = sym (c .before .before .before .has-unreached .ensures _ closed) ∙ c .before .before .if2 .left in
+    let no-circle = sym (c .before .before .before .before .before .has-cycle .ensures .1 _ closed) ∙ c .before .before .before .before .if1 .left in
+    let all-reached = sym (c .before .before .before .has-unreached .ensures .1 _ closed) ∙ c .before .before .if2 .left in
     sym (first-done _ _ no-circle all-reached (sym (c .before .feasible .ensures (shape-inside (closed .shape))) ∙ not-false _ (c .if3 .left)))
 
 pub first-fault-spec : {M : Type 1} → statement M

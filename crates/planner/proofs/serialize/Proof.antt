@@ -25,7 +25,7 @@ refused-analysis-requires c κs = search needs
 returns : tie.Need-returns
 returns c closed =
     let reaches = reached-reaches (closed .shape) (c .before .before .before .before .reach .ensures) in
-    serialized-refused _ _ _ _ (sym (c .before .before .is-inconsistent .ensures _ reaches) ∙ c .before .if1 .taken) (c .refused-analysis .ensures .0) (c .refused-analysis .ensures .1)
+    serialized-refused _ _ _ _ (sym (c .before .before .is-inconsistent .ensures .1 _ reaches) ∙ c .before .if1 .taken) (c .refused-analysis .ensures .0) (c .refused-analysis .ensures .1)
 
 waits-from-requires : tie.Need-waits-from-requires
 waits-from-requires c κs = search needs
@@ -39,9 +39,9 @@ waits-verdict-requires c κs = search needs
 returns-2 : tie.Need-returns-2
 returns-2 c closed =
     let reaches = reached-reaches (closed .shape) (c .before .before .before .before .before .before .before .before .reach .ensures) in
-    let consistent = sym (c .before .before .before .before .before .before .is-inconsistent .ensures _ reaches) ∙ c .before .before .before .before .before .if1 .left in
+    let consistent = sym (c .before .before .before .before .before .before .is-inconsistent .ensures .1 _ reaches) ∙ c .before .before .before .before .before .if1 .left in
     let maps = c .before .before .before .waits-from .ensures closed reaches in
-    let count = c .before .count-waits .ensures _ maps in
+    let count = c .before .count-waits .ensures .1 _ maps in
     serialized-found _ _ _ _ consistent (c .waits-verdict .ensures _ _ count) (record { reaches = reaches; maps = maps; count = count })
 
 pub serialize-spec : {M : Type 1} → statement M

@@ -19,7 +19,7 @@ wait-maps-requires c κs = search needs
 
 returns : tie.Need-returns
 returns c closed reaches =
-    c .wait-maps .ensures _ (record { shape = closed .shape; reaches = reaches; anchors = c .before .before .anchor-sets .ensures _ closed (c .before .before .before .before .targets .ensures) })
+    c .wait-maps .ensures .1 _ (record { shape = closed .shape; reaches = reaches; anchors = c .before .before .anchor-sets .ensures .1 _ closed (c .before .before .before .before .targets .ensures) })
 
 pub waits-from-spec : {M : Type 1} → statement M
 waits-from-spec =
