@@ -1,15 +1,15 @@
 -- Lists of durations: what refusal 13 leaves, and lists made of given delays.
 use mathlib.Core.Path.{_≡_, refl, sym, ap, fun-ext, _∙_}
-use mathlib.Core.Bool.{Bool, true, false, _&&_}
+use mathlib.Core.Bool.{true, false, _&&_}
 use mathlib.Core.Logic.{_⊎_, inl, inr, _≢_, _↔_}
-use mathlib.Core.List.{List, [], _∷_}
-use Prim.Native.Nat.{ℕ, zero, suc, _+_, _≤_, _<_}
+use mathlib.Core.List.{List}
+use Prim.Native.Nat.{ℕ, zero, suc, _≤_, _<_}
 use native.Mathlib.Omega.{arith}
 use native.Mathlib.Decide.{decLt}
 use lib.Dec.{ltb}
 use lib.ListN.{length, getD, List·getD-eq-default}
-use borrow.Author.Tests.{ltb-false, lt-ltb, le-ltb, ltb-true}
-use Rattle.definitions.specs.Basics.{tabulate, any-below}
+use borrow.Author.Tests.{ltb-false, lt-ltb, le-ltb}
+use Rattle.definitions.specs.Basics.{tabulate}
 use Rattle.definitions.specs.Bytes.{Records}
 use Rattle.definitions.specs.Links.{delay-at}
 use Rattle.definitions.specs.Plan.{delay-limit, delay-wrong, delays-wrong, delays}

@@ -1,71 +1,111 @@
 -- The theorems: one for each statement of specs/Demands.antt, in its order.
 use mathlib.Core.Path.{refl}
-use Rattle.demands.specs.Demands.{ListsMeant, ImpossibleExactly, JudgedExactly, EachCallRefuses, StartsReturned, StartsKept, NobodyEarlier, NobodyEarlierWithWaits, OursAmongRivals, TestsMeant, WaitsListed, WaitsSound, OffsetsRight, StartRule, DecidingSets, PlanTable, LinesListed, HypothesesMet}
+use Rattle.demands.specs.Demands.{EdgesMeant, ListsMeant, ImpossibleExactly, ReadExactly, WellFormedExactly, JudgedExactly, EachCallRefuses, StartsReturned, CallsExactly, StartsKept, NobodyEarlier, NobodyEarlierWithWaits, OursAmongRivals, TestsMeant, WaitsListed, WaitsSound, OffsetsRight, StartRule, DecidingSets, PlanTable, LinesListed, HypothesesMet}
 use Rattle.demands.proofs.Reading.{read-fits}
 use Rattle.demands.proofs.Meaning.{meant-for}
 use Rattle.demands.proofs.Listing.{listed-for, lines-for}
-use Rattle.demands.proofs.Calls.{same-refusal, returned}
-use Rattle.demands.proofs.Impossibility.{impossible-for}
+use Rattle.demands.proofs.Calls.{same-refusal}
+use Rattle.demands.proofs.Impossibility.{keeps-sheet, impossible-for}
 use Rattle.demands.proofs.DelayLists.{limits-meant}
+use Rattle.demands.proofs.Refusals as Refusals
+use Rattle.demands.proofs.Answering.{calls-for, returned}
 use Rattle.demands.proofs.Verdicts.{judged-for}
 use Rattle.demands.proofs.OurStarts.{kept-for, ours-among, earliest, earliest-of-rivals}
 use Rattle.demands.proofs.Planning.{waits-for-sheet, offset-for, start-rule-for, deciding-for, plan-for}
 use Rattle.demands.proofs.Examples.{examples}
 
--- The words.
+-- ## The words
+
+-- By the kind of link: the edge is counted just where the duration is the delay.
+pub edges-meant : EdgesMeant
+edges-meant = keeps-sheet
+
+-- By each entry's limit.
 pub lists-meant : ListsMeant
 lists-meant s q sheet = limits-meant q (read-fits s q (sheet .bytes) (sheet .reads) .some)
 
--- Demand 3.
+-- ## Demand 3
+
+-- 10: the rounds from step 0 come to rest exactly if there is a schedule with delays 0. 11: a walk from the end of an open step to that step loses less than the longest duration of a list. Else our starts keep every link.
 pub impossible-exactly : ImpossibleExactly
 impossible-exactly = impossible-for
 
+-- Reading refuses with at most 7, judging with 8 and more.
+pub read-exactly : ReadExactly
+read-exactly = Refusals.read-exactly
+
+-- From the row of refusals in judging.
+pub well-formed-exactly : WellFormedExactly
+well-formed-exactly = Refusals.well-formed-exactly
+
+-- The refusals stand in a row, and the tests are the relations.
 pub judged-exactly : JudgedExactly
 judged-exactly = judged-for
 
+-- Each call judges first, and refuses with later numbers after that.
 pub each-call-refuses : EachCallRefuses
 each-call-refuses = same-refusal
 
+-- From what the call returns on acceptance.
 pub starts-returned : StartsReturned
 starts-returned = returned
 
+-- From the row of refusals in each call.
+pub calls-exactly : CallsExactly
+calls-exactly = calls-for
+
+-- Offsets along an edge differ by at least its weight, and a sound graph carries each anchor along it.
 pub starts-kept : StartsKept
 starts-kept s allow q v accepted = kept-for accepted
 
+-- A walk that has the offset bounds any schedule from below; by induction along anchors.
 pub nobody-earlier : NobodyEarlier
 nobody-earlier s allow q accepted = earliest accepted refl
 
+-- A sound sheet with these links has a forward chain wherever a wait stands, so it keeps the waits; then as before.
 pub nobody-earlier-with-waits : NobodyEarlierWithWaits
 nobody-earlier-with-waits s allow q v accepted = earliest-of-rivals accepted
 
+-- The edge of a wait is that of an after link out of an open step.
 pub ours-among-rivals : OursAmongRivals
 ours-among-rivals s allow q v accepted = ours-among accepted
 
--- Demand 2.
+-- ## Demand 2
+
+-- Rounds over the edges reach what a walk reaches: a walk can be cut to fewer edges than there are steps.
 pub tests-meant : TestsMeant
 tests-meant s q sheet = meant-for (read-fits s q (sheet .bytes) (sheet .reads))
 
+-- The list is a selection of pairs by the test; the maps are the same pairs.
 pub waits-listed : WaitsListed
 waits-listed s q sheet = listed-for (read-fits s q (sheet .bytes) (sheet .reads))
 
+-- A wait stands for a walk, so that a circle through one would be an open step that waits for its own end.
 pub waits-sound : WaitsSound
 waits-sound s allow q v accepted = waits-for-sheet accepted
 
+-- With no closed walk above 0 the rounds come to rest at the heaviest walks.
 pub offsets-right : OffsetsRight
 offsets-right s allow q v accepted = offset-for accepted
 
+-- Each turn settles the steps whose anchors are settled.
 pub start-rule : StartRule
 start-rule s allow q v accepted = start-rule-for accepted
 
+-- Who is left out is outdone by one that stays; who stays is alone the largest where its step takes the longest time and the others none.
 pub deciding-sets : DecidingSets
 deciding-sets s allow q v accepted = deciding-for accepted
 
+-- Row by row.
 pub plan-table : PlanTable
 plan-table s allow q v accepted = plan-for accepted
 
+-- The lines are a selection of pairs by the test.
 pub lines-listed : LinesListed
 lines-listed s allow q v accepted = lines-for (read-fits s q (accepted .sheet .bytes) (accepted .sheet .reads)) accepted
 
--- The theorems speak of something.
+-- ## The theorems speak of something
+
+-- Computed, on sheets of the worked table.
 pub hypotheses-met : HypothesesMet
 hypotheses-met = examples

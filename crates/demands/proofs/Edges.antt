@@ -1,15 +1,14 @@
 -- The edges of a sheet: what holds of each, and that start times keep a link exactly if they keep its edge. The sheet may be a rival's, of any length.
 use mathlib.Core.Path.{_≡_, refl, sym, ap, subst, _∙_}
-use mathlib.Core.Bool.{Bool, true, false, cond, not}
+use mathlib.Core.Bool.{Bool, true, false, not}
 use mathlib.Core.Logic.{_⊎_, inl, inr, _≢_, _↔_}
-use mathlib.Core.List.{List, [], _∷_, _++_, map, flatMap, List·Memᴰ, List·Memᴰ·head, List·Memᴰ·not-nil, List·Memᴰ·append-cases, List·Memᴰ·eq-of-singleton, Memᴰ·append-left, Memᴰ·append-right, Memᴰ·map, Memᴰ·of-map, Memᴰ·cast}
+use mathlib.Core.List.{List, _++_, List·Memᴰ, List·Memᴰ·not-nil, List·Memᴰ·append-cases, List·Memᴰ·eq-of-singleton, Memᴰ·map, Memᴰ·of-map}
 use Prim.Native.Nat.{ℕ, zero, suc, _+_, _≤_, _<_}
 use native.Mathlib.Omega.{arith}
 use lib.Dec.{eqb}
-use lib.ListN.{length}
-use borrow.Author.Tests.{eqb-true, eq-eqb, ne-eqb}
+use borrow.Author.Tests.{eq-eqb, ne-eqb}
 use Rattle.definitions.specs.Bytes.{Records}
-use Rattle.definitions.specs.Links.{Constraint, sequencing, minimum, maximum, sequencing-of, minimum-of, maximum-of, link-constraints, constraints, delay-at, duration-with, duration, Keeps, KeepsAll, Edge, sequencing-edge, edge-of, edges, Graph, members, _⊑_}
+use Rattle.definitions.specs.Links.{Constraint, sequencing, minimum, maximum, sequencing-of, minimum-of, maximum-of, link-constraints, constraints, delay-at, duration-with, duration, Keeps, KeepsAll, Edge, sequencing-edge, edge-of, edges, members, _⊑_}
 use Rattle.definitions.specs.Rival.{Further, Extension}
 use Rattle.definitions.specs.Answers.{count-of, edges-of}
 use Rattle.definitions.specs.declared.Delay.{Delay}
@@ -18,7 +17,7 @@ use Rattle.definitions.specs.declared.Operation.{Operation}
 use Rattle.definitions.specs.declared.Bound.{Bound}
 use Rattle.definitions.specs.declared.Bound.the-variants.{Absent, Ticks}
 use Rattle.definitions.specs.declared.Link.{Link}
-use Rattle.laws.proofs.Tests.{flatMap-has, flatMap-only}
+use Rattle.laws.proofs.Tests.{flatMap-only}
 use Rattle.theory.specs.Graphs.{KeepsEdge, Schedule, Shape, Gains, Losses}
 use Rattle.demands.proofs.Reading.{Fits, LinkFits}
 

@@ -1,30 +1,29 @@
 -- The hypotheses of the theorems are met: by sheets of the worked table, computed.
-use mathlib.Core.Path.{_≡_, refl, sym, ap, subst, _∙_}
-use mathlib.Core.Bool.{Bool, true, false, cond, not, _&&_, _||_}
-use mathlib.Core.Logic.{_⊎_, inl, inr, _≢_, _↔_}
-use mathlib.Core.List.{List, [], _∷_, _++_, map, flatMap, List·Memᴰ, List·Memᴰ·head, List·Memᴰ·tail, List·Memᴰ·not-nil, List·Memᴰ·cases-cons, List·Memᴰ·append-cases, Memᴰ·append-left}
-use Prim.Native.Nat.{ℕ, zero, suc, _+_, _≤_, _<_}
+use mathlib.Core.Path.{_≡_, refl, sym, subst}
+use mathlib.Core.Bool.{Bool, true, false}
+use mathlib.Core.Logic.{_⊎_, inl, inr}
+use mathlib.Core.List.{List, [], _∷_, _++_, flatMap, List·Memᴰ, List·Memᴰ·not-nil, List·Memᴰ·cases-cons, List·Memᴰ·append-cases, Memᴰ·append-left}
+use Prim.Native.Nat.{ℕ, zero, suc, _+_, _<_}
 use native.Mathlib.Omega.{arith}
 use lib.Dec.{leb, ltb}
-use lib.ListN.{length, getD, replicate}
+use lib.ListN.{length, getD}
 use borrow.Author.Tests.{ltb-true, leb-true}
 use Rattle.definitions.specs.Basics.{any, all, any-below, all-below, tabulate, select-below, largest, test-bit, bits-below, Outcome, given, refused, refuse-if, when-given}
 use Rattle.definitions.specs.Bytes.{demand, byte, two-bytes, ticks-if, operation-map, delay-from, operation, link-map, endpoints, rises, bound-from, link, records, operations, pair-of, links, at-end, Records, sheet, read}
-use Rattle.definitions.specs.Links.{Constraint, sequencing, minimum, maximum, sequencing-of, minimum-of, maximum-of, link-constraints, constraints, delay-at, duration-with, duration, Keeps, KeepsAll, sequencing-edge, edge-of, edges, members, forwards, usable}
+use Rattle.definitions.specs.Links.{Constraint, sequencing, minimum, maximum, sequencing-of, minimum-of, maximum-of, link-constraints, constraints, delay-at, duration-with, duration, Keeps, sequencing-edge, edge-of, edges, forwards, usable}
 use Rattle.definitions.specs.Rounds.{extend, raise, round, rounds, stable, source-row, seed, seeds, after-row, bares, reaches, after-reaches}
-use Rattle.definitions.specs.Anchors.{in-anchor-set, well-posed, WellPosed}
+use Rattle.definitions.specs.Anchors.{in-anchor-set, well-posed}
 use Rattle.definitions.specs.Waits.{waits-for, waits-of, wait-list, wait-count, needs-waits, serialized}
 use Rattle.definitions.specs.Plan.{first-row, offset-row, offset, start-from, start-turns, start-times}
-use Rattle.definitions.specs.Rival.{Further, Extension}
+use Rattle.definitions.specs.Rival.{Further}
 use Rattle.definitions.specs.Answers.{closes-circle, unreached, infeasible, inconsistent, judge-edges, count-of, edges-of, serialized-of, judge-records, judged}
 use Rattle.definitions.specs.Worked.{Worked, listing, lists, worked-sheets}
 use Rattle.definitions.specs.declared.Operation.{Operation}
 use Rattle.laws.proofs.Tests.{all-each}
 use Rattle.laws.proofs.Lists.{mem-at}
-use Rattle.theory.specs.Graphs.{Shape}
 use Rattle.theory.proofs.Reachability.{well-posed-iff}
-use Rattle.demands.specs.Demands.{Bytes, IsSheet, WellFormed, Accepted, WorkedBytes, RivalMet, HypothesesMet, our-start}
-use Rattle.demands.proofs.Reading.{Fits, read-fits}
+use Rattle.demands.specs.Demands.{Bytes, IsSheet, WellFormed, WorkedBytes, RivalMet, HypothesesMet, our-start}
+use Rattle.demands.proofs.Reading.{read-fits}
 use Rattle.demands.proofs.Edges.{Ends, edges-shape, sheet-ends}
 use Rattle.demands.proofs.Impossibility.{impossible-for}
 

@@ -1,16 +1,15 @@
 -- Refusals 10 and 11 of a well-formed sheet. 10 is no schedule with delays 0. For 11, an open step that waits for its own end is given the longest time of a list: around its closed walk nothing can
 -- lose that much. Where neither applies our starts keep every link, so that no list leaves none.
-use mathlib.Core.Path.{_≡_, refl, sym, ap, subst, _∙_}
+use mathlib.Core.Path.{_≡_, refl, sym, subst, _∙_}
 use mathlib.Core.Bool.{Bool, true, false}
 use mathlib.Core.Logic.{_⊎_, inl, inr, _≢_, _↔_}
-use mathlib.Core.List.{List, [], _∷_}
-use Prim.Native.Nat.{ℕ, zero, suc, _+_, _≤_, _<_}
+use mathlib.Core.List.{List}
+use Prim.Native.Nat.{ℕ, _<_}
 use native.Mathlib.Omega.{arith}
-use Rattle.definitions.specs.Basics.{Outcome, given, refused}
-use Rattle.definitions.specs.Bytes.{Records, read}
-use Rattle.definitions.specs.Links.{Edge, members, constraints, edges, After}
-use Rattle.definitions.specs.Rounds.{cell}
-use Rattle.definitions.specs.Plan.{start-times, delays}
+use Rattle.definitions.specs.Basics.{refused}
+use Rattle.definitions.specs.Bytes.{Records}
+use Rattle.definitions.specs.Links.{Edge, members, constraints, After}
+use Rattle.definitions.specs.Plan.{delays}
 use Rattle.definitions.specs.Answers.{infeasible, inconsistent, judged, judge-edges, count-of, edges-of, serialized-of}
 use Rattle.laws.proofs.Bools.{bool-cases, not-passing}
 use Rattle.laws.proofs.Outcomes.{refused-same}
@@ -18,7 +17,7 @@ use Rattle.theory.specs.Graphs.{Schedule, Shape, Rooted, Well, sole-delay}
 use Rattle.theory.proofs.Walks.{after-start-below}
 use Rattle.theory.proofs.Feasibility.{closed-after-64}
 use Rattle.theory.proofs.Plans.{plan-keeps}
-use Rattle.demands.specs.Demands.{IsSheet, WellFormed, KeepsLinks, NoStarts, IsDelayList, SomeListLeavesNone, ImpossibleFor, our-start}
+use Rattle.demands.specs.Demands.{WellFormed, KeepsLinks, NoStarts, SomeListLeavesNone, ImpossibleFor, our-start}
 use Rattle.demands.proofs.Reading.{Fits, read-fits}
 use Rattle.demands.proofs.Edges.{keeps-schedule, schedule-keeps, sheet-shape, sheet-losses}
 use Rattle.demands.proofs.Judging.{judge-10, judge-11, judged-edges}

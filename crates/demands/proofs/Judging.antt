@@ -1,11 +1,11 @@
 -- What each answer of judging says of the tests behind it, and the other way round: the refusals stand in a row, and each is given exactly if its test passes and no earlier one does.
-use mathlib.Core.Path.{_≡_, refl, sym, ap, _∙_}
+use mathlib.Core.Path.{_≡_, ap}
 use mathlib.Core.Bool.{Bool, true, false, cond, not, _&&_}
 use mathlib.Core.Logic.{_≢_, _↔_}
 use mathlib.Core.List.{List}
 use Prim.Native.Nat.{ℕ, _<_}
 use native.Mathlib.Omega.{arith}
-use Rattle.definitions.specs.Basics.{Outcome, given, refused, refuse-if, when-given}
+use Rattle.definitions.specs.Basics.{Outcome, given, refused, refuse-if}
 use Rattle.definitions.specs.Bytes.{Records, read}
 use Rattle.definitions.specs.Links.{Edge}
 use Rattle.definitions.specs.Waits.{needs-waits}
@@ -50,6 +50,20 @@ module _ (n : ℕ) (es : List Edge) (allow : Bool) where
 
   never-9 : {k : ℕ} → k < 9 → from-9 ≢ refused k
   never-9 h = refuse-never (unreached n es) 9 from-10 (λ e. omega arith) (never-10 (omega arith))
+
+  -- Judging gives no number below 8, nor one above 12.
+  pub judge-never-past : {k : ℕ} → 12 < k → judge-edges n es allow ≢ refused k
+  unfolding judge-edges
+  judge-never-past h =
+      refuse-never (closes-circle n es) 8 from-9 (λ e. omega arith)
+      (refuse-never (unreached n es) 9 from-10 (λ e. omega arith)
+      (refuse-never (infeasible n es) 10 from-11 (λ e. omega arith)
+      (refuse-never (inconsistent n es) 11 from-12 (λ e. omega arith)
+      (refuse-never waits-refused 12 last (λ e. omega arith) (λ e. given-not-refused e)))))
+
+  pub judge-never : {k : ℕ} → k < 8 → judge-edges n es allow ≢ refused k
+  unfolding judge-edges
+  judge-never h = refuse-never (closes-circle n es) 8 from-9 (λ e. omega arith) (never-9 (omega arith))
 
   pub judge-8 : (judge-edges n es allow ≡ refused 8) ↔ (closes-circle n es ≡ true)
   unfolding judge-edges
@@ -106,8 +120,7 @@ module _ (n : ℕ) (es : List Edge) (allow : Bool) where
       let r9 = refuse-given (unreached n es) 9 from-10 v in
       let r10 = refuse-given (infeasible n es) 10 from-11 v in
       let r11 = refuse-given (inconsistent n es) 11 from-12 v in
-      let r12 = refuse-given waits-refused 12 last v in
-      (
+      let r12 = refuse-given waits-refused 12 last v in (
         λ h. let a = r8 .0 h in let b = r9 .0 (a .1) in let c = r10 .0 (b .1) in let d = r11 .0 (c .1) in let e = r12 .0 (d .1) in (record { no-circle = a .0; all-reached = b .0; feasible = c .0; consistent = d .0 }, e .0, given-same (e .1)),
         λ h. r8 .1 (h .0 .no-circle, r9 .1 (h .0 .all-reached, r10 .1 (h .0 .feasible, r11 .1 (h .0 .consistent, r12 .1 (h .1, ap given (h .2)))))),
       )

@@ -1,6 +1,7 @@
 pub mod Reading
 pub mod Edges
 pub mod Judging
+pub mod Refusals
 pub mod Meaning
 pub mod Listing
 pub mod Orders
@@ -8,6 +9,7 @@ pub mod DelayLists
 pub mod Calls
 pub mod Sheets
 pub mod Impossibility
+pub mod Answering
 pub mod Verdicts
 pub mod OurStarts
 pub mod Planning

@@ -1,34 +1,31 @@
 -- The waits that are listed are those of document 01, and the maps and the count say the same as the list.
 use mathlib.Core.Path.{_≡_, refl, sym, ap, ap₂, _∙_}
-use mathlib.Core.Bool.{Bool, true, false, cond, not, _&&_}
-use mathlib.Core.Logic.{_⊎_, inl, inr, _≢_, _↔_}
-use mathlib.Core.List.{List, [], _∷_, List·Memᴰ, Memᴰ·cast, map, flatMap}
-use Prim.Native.Nat.{ℕ, zero, suc, _+_, _^_, _/_, _%_, _≤_, _<_}
+use mathlib.Core.Bool.{Bool, true, false}
+use mathlib.Core.Logic.{_↔_}
+use mathlib.Core.List.{List, List·Memᴰ, Memᴰ·cast}
+use Prim.Native.Nat.{ℕ, _^_, _≤_, _<_}
 use native.Mathlib.Omega.{arith}
 use native.Mathlib.Decide.{decLt}
-use lib.Dec.{eqb, ltb}
-use lib.ListN.{length, getD, length-map}
-use lib.Pow.{pow-mono, pow-pos}
-use borrow.Author.Tests.{lt-ltb, le-ltb}
+use lib.Pow.{pow-mono}
 use native.Mathlib.Nat.{zero-div}
-use Rattle.definitions.specs.Basics.{tabulate, select-below, test-bit, given}
+use Rattle.definitions.specs.Basics.{test-bit, given}
 use Rattle.definitions.specs.Bytes.{Records}
 use Rattle.definitions.specs.Links.{Edge, members}
 use Rattle.definitions.specs.Rounds.{cell}
-use Rattle.definitions.specs.Waits.{Wait, WaitPair, waits-for, waits-of, wait-list, wait-map, wait-maps, wait-count}
+use Rattle.definitions.specs.Waits.{Wait, waits-for, waits-of, wait-list, wait-map, wait-maps, wait-count}
 use Rattle.definitions.specs.Plan.{offset, decides}
 use Rattle.definitions.specs.Answers.{count-of, edges-of, judge-records, judged}
-use Rattle.definitions.specs.Output.{StartLine, Listing, lines-of, start-lines, list-records, listed}
+use Rattle.definitions.specs.Output.{StartLine, lines-of, start-lines, list-records, listed}
 use Rattle.laws.proofs.Outcomes.{when-given-by}
 use Rattle.theory.proofs.Walks.{member-below}
 use Rattle.theory.proofs.DecidingSets.{decides-iff}
-use Rattle.demands.proofs.Meaning.{waits-shape}
-use Rattle.laws.proofs.Bools.{and-join, both-ways}
+use Rattle.demands.proofs.Meaning.{waits-shape, wait-of}
+use Rattle.laws.proofs.Bools.{both-ways}
 use Rattle.laws.proofs.Tests.{tabulate-length, tabulate-past}
 use Rattle.theory.specs.Graphs.{Shape}
-use Rattle.theory.proofs.WaitLists.{wait-listed, listed-wait, wait-target-below, wait-map-bit, wait-map-iff, wait-map-small, wait-maps-at}
+use Rattle.theory.proofs.WaitLists.{wait-listed, listed-wait, wait-target-below, wait-map-iff, wait-map-small, wait-maps-at}
 use Rattle.theory.proofs.WaitCounts.{wait-count-bits}
-use Rattle.demands.specs.Demands.{Rising, WaitBefore, ListedFor, LinesFor, Accepted, LineBefore, sheet-lines, sheet-decides, sheet-offset, wait-pair, sheet-waits}
+use Rattle.demands.specs.Demands.{Rising, WaitBefore, ListedFor, LinesFor, Accepted, LineBefore, sheet-lines, wait-pair, sheet-waits}
 use Rattle.demands.proofs.Reading.{Fits}
 use Rattle.demands.proofs.Edges.{sheet-shape}
 use Rattle.demands.proofs.Orders.{pairs-rising, pairs-has, pairs-only}
@@ -63,9 +60,10 @@ module _ {q : Records} (fits : Fits q) where
       let r = wait-map-iff (sheet-shape fits) i a in
       let l = listed-iff a i in
       (λ h. l .1 (r .0 (ap (λ (m : ℕ). test-bit m a) (sym (wait-maps-at n es i c)) ∙ h)), λ m. ap (λ (x : ℕ). test-bit x a) (wait-maps-at n es i c) ∙ r .1 (l .0 m))
-  maps-bits a i (no c) =
-      (λ h. absurd (both-ways h (ap (λ (m : ℕ). test-bit m a) (maps-past n es i (omega arith)) ∙ no-bits a)),
-       λ m. absurd (omega (arith, wait-target-below (sheet-shape fits) (listed-iff a i .0 m), fits .few)))
+  maps-bits a i (no c) = (
+    λ h. absurd (both-ways h (ap (λ (m : ℕ). test-bit m a) (maps-past n es i (omega arith)) ∙ no-bits a)),
+    λ m. absurd (omega (arith, wait-target-below (sheet-shape fits) (listed-iff a i .0 m), fits .few)),
+  )
 
   maps-small : (i : ℕ) → Dec (i < 64) → cell (wait-maps n es) i < 2 ^ 64
   maps-small i (yes c) = omega (arith, wait-maps-at n es i c, wait-map-small n es i, pow-mono (fits .few))
@@ -73,7 +71,7 @@ module _ {q : Records} (fits : Fits q) where
 
   pub listed-for : ListedFor q
   unfolding wait-maps wait-count
-  listed-for = record { listed = listed-iff; order = waits-rising n es; maps-size = tabulate-length (wait-map n es) 64; maps-small = λ i. maps-small i (decLt i 64); maps-bits = λ a i. maps-bits a i (decLt i 64); count-list = refl; count-maps = wait-count-bits n es (fits .few) }
+  listed-for = record { listed = listed-iff; each = wait-of fits; order = waits-rising n es; maps-size = tabulate-length (wait-map n es) 64; maps-small = λ i. maps-small i (decLt i 64); maps-bits = λ a i. maps-bits a i (decLt i 64); count-list = refl; count-maps = wait-count-bits n es (fits .few) }
 
 -- Start lines are the pairs of a step and one that decides it, in rising order. One that decides is a member of a start set, and so a step.
 line-of : (n : ℕ) (es : List Edge) (i a : ℕ) → StartLine

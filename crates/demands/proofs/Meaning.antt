@@ -1,31 +1,28 @@
 -- The tests that the definitions compute are the relations of document 01, for the edges of a sheet as sent and with its waits in.
 use mathlib.Core.Path.{_≡_, refl, sym, ap, subst, _∙_}
-use mathlib.Core.Bool.{Bool, true, false, cond, not, _&&_, _||_}
-use mathlib.Core.Logic.{_⊎_, inl, inr, _≢_, _↔_}
-use mathlib.Core.List.{List, [], _∷_, List·Memᴰ}
-use Prim.Native.Nat.{ℕ, zero, suc, _+_, _≤_, _<_}
+use mathlib.Core.Bool.{true, not}
+use mathlib.Core.Logic.{_⊎_, inl, inr, _↔_}
+use mathlib.Core.List.{List, List·Memᴰ}
+use Prim.Native.Nat.{ℕ, suc, _+_, _<_}
 use native.Mathlib.Omega.{arith}
-use lib.Dec.{eqb, ltb}
-use lib.ListN.{length}
-use borrow.Author.Tests.{not-true, not-false, eq-eqb}
-use Rattle.definitions.specs.Basics.{any, any-below, all-below}
-use Rattle.definitions.specs.Bytes.{Records, read}
-use Rattle.definitions.specs.Links.{Edge, Graph, members, Forward, Walk, stop, step, Joined, After, forwards, delay-at}
-use Rattle.definitions.specs.Rounds.{reaches, after-reaches}
-use Rattle.definitions.specs.Anchors.{InAnchorSet, is-source, chain, in-anchor-set, well-posed}
-use Rattle.definitions.specs.Waits.{serialized}
+use borrow.Author.Tests.{not-true}
+use Rattle.definitions.specs.Bytes.{Records}
+use Rattle.definitions.specs.Links.{Edge, members, Forward, Walk, stop, step, Joined, After, forwards, delay-at}
+use Rattle.definitions.specs.Rounds.{reaches}
+use Rattle.definitions.specs.Anchors.{InAnchorSet, is-source, chain}
 use Rattle.definitions.specs.Answers.{closes-circle, unreached, count-of, edges-of, serialized-of}
 use Rattle.definitions.specs.declared.Delay.the-variants.{Open}
-use Rattle.laws.proofs.Bools.{bool-cases, both-ways, not-passing, or-left}
+use Rattle.laws.proofs.Bools.{both-ways, not-passing}
 use Rattle.laws.proofs.Tests.{any-has, any-by, any-below-has, any-below-by}
-use Rattle.theory.specs.Graphs.{Shape, Rooted, ForwardAcyclic, WaitEdge}
+use Rattle.theory.specs.Graphs.{Shape}
 use Rattle.theory.proofs.Walks.{walk-to, joined-mono, chain-after}
 use Rattle.theory.proofs.Reachability.{forwards-mem, mem-forwards, forwards-shape, reaches-iff, after-reaches-iff, in-anchor-set-iff, well-posed-iff}
 use Rattle.theory.proofs.Serialization.{after-back, wait-after}
-use Rattle.theory.proofs.WaitLists.{serialized-waited, serialized-shape}
-use Rattle.demands.specs.Demands.{IsSheet, Meant, MeantFor, in-start-set}
-use Rattle.demands.proofs.Reading.{Fits, read-fits}
-use Rattle.demands.proofs.Edges.{EdgeFits, sheet-shape, sheet-fits}
+use Rattle.theory.proofs.WaitLists.{serialized-waited, serialized-shape, listed-wait, wait-list-only}
+use Rattle.definitions.specs.Waits.{WaitPair}
+use Rattle.demands.specs.Demands.{Meant, MeantFor, WaitOf, sheet-waits}
+use Rattle.demands.proofs.Reading.{Fits}
+use Rattle.demands.proofs.Edges.{sheet-shape, sheet-fits}
 
 module _ {n : ℕ} {es : List Edge} (some : 0 < n) (shape : Shape n (members es)) where
   -- A chain of forward links, by test.
@@ -72,6 +69,13 @@ pub after-open : {q : Records} {a v : ℕ} → Fits q → After (members (edges-
 after-open {q} fits w =
     let e = w .walk .edge in
     subst (λ (i : ℕ). delay-at (q .steps) i ≡ Open) (w .walk .leaves) (sheet-fits fits e (w .walk .mem) .counted-open (w .walk .counts))
+
+-- A listed wait is of an open step other than 0, for another step.
+pub wait-of : {q : Records} → Fits q → (w : WaitPair) → List·Memᴰ w (sheet-waits q) → WaitOf q w
+wait-of {q} fits w m =
+    let below = wait-list-only (count-of q) (edges-of q) m in
+    let a = wait-after (listed-wait (sheet-shape fits) m) in
+    record { anchor-below = below .0; target-below = below .1; not-source = a .walk .not-source; lasts = after-open fits a }
 
 -- The sheet with its waits in has the shape of a sheet.
 module _ {q : Records} (fits : Fits q) where

@@ -3,33 +3,26 @@ use mathlib.Core.Path.{_≡_, refl, sym, ap, subst, _∙_}
 use mathlib.Core.Bool.{Bool, true, false, cond, not, _&&_}
 use mathlib.Core.Logic.{_⊎_, inl, inr, _≢_, _↔_}
 use mathlib.Core.List.{List, [], _∷_, _++_, map, List·Memᴰ, List·Memᴰ·head, List·Memᴰ·tail, List·Memᴰ·append-cases, Memᴰ·append-left, Memᴰ·append-right, Memᴰ·map, Memᴰ·of-map, map-append, map-map}
-use Prim.Native.Nat.{ℕ, zero, suc, _+_, _≤_, _<_}
+use Prim.Native.Nat.{ℕ, zero, suc, _≤_, _<_}
 use native.Mathlib.Omega.{arith}
-use lib.Dec.{eqb}
 use borrow.Author.Tests.{ne-eqb}
-use Rattle.definitions.specs.Basics.{Outcome, given, refused}
-use Rattle.definitions.specs.Bytes.{Records, read}
-use Rattle.definitions.specs.Links.{Edge, members, Constraint, sequencing, constraints, delay-at, duration-with, duration, Keeps, KeepsAll, sequencing-edge, edge-of, edges, After}
-use Rattle.definitions.specs.Waits.{Wait, WaitPair, wait-list, needs-waits, wait-edge, serialized}
+use Rattle.definitions.specs.Bytes.{Records}
+use Rattle.definitions.specs.Links.{Edge, members, Constraint, constraints, delay-at, duration-with, KeepsAll, sequencing-edge, edge-of, edges}
+use Rattle.definitions.specs.Waits.{WaitPair, needs-waits, wait-edge, serialized}
 use Rattle.definitions.specs.Anchors.{WellPosed}
 use Rattle.definitions.specs.Rival.{Further, Extension}
-use Rattle.definitions.specs.Answers.{judged, count-of, edges-of, serialized-of}
+use Rattle.definitions.specs.Answers.{count-of, edges-of, serialized-of}
 use Rattle.definitions.specs.declared.Delay.{Delay}
 use Rattle.definitions.specs.declared.Delay.the-variants.{Open, Fixed}
-use Rattle.definitions.specs.declared.Operation.{Operation}
-use Rattle.laws.proofs.Bools.{bool-cases}
-use Rattle.theory.specs.Graphs.{Schedule, Shape, Well}
-use Rattle.theory.proofs.Walks.{after-start-below}
-use Rattle.theory.proofs.Serialization.{wait-after}
-use Rattle.theory.proofs.WaitLists.{listed-wait, wait-list-only}
+use Rattle.theory.specs.Graphs.{Schedule, Well}
 use Rattle.theory.proofs.Plans.{plan-posed, plan-keeps-waits, plan-least-unwaited, plan-least-rival}
-use Rattle.demands.specs.Demands.{IsSheet, Accepted, KeepsLinks, KeptFor, OursAmong, our-start, sheet-waits, wait-link}
+use Rattle.demands.specs.Demands.{Accepted, KeepsLinks, KeptFor, OursAmong, our-start, sheet-waits, wait-link}
 use Rattle.demands.proofs.Reading.{Fits, read-fits}
 use Rattle.demands.proofs.Edges.{keeps-schedule, schedule-keeps, sheet-shape, rival-shape, rival-above}
 use Rattle.demands.proofs.Judging.{Passes, judge-given, judged-edges}
-use Rattle.demands.proofs.Meaning.{after-open}
+use Rattle.demands.proofs.Meaning.{wait-of}
 use Rattle.demands.proofs.Sheets.{passes-well}
-use Rattle.demands.proofs.Impossibility.{keeps-sheet, our-starts-keep}
+use Rattle.demands.proofs.Impossibility.{keeps-sheet}
 
 -- What acceptance says.
 module _ {s : List ℕ} {allow : Bool} {q : Records} {v : ℕ} (accepted : Accepted s allow q v) where
@@ -75,13 +68,10 @@ abbrev pub with-waits : Records → List Constraint
 with-waits q = constraints (q .pairs) ++ map wait-link (sheet-waits q)
 
 module _ {q : Records} (fits : Fits q) where
-  wait-from : (w : WaitPair) → List·Memᴰ w (sheet-waits q) → (w .anchor ≢ 0) × (delay-at (q .steps) (w .anchor) ≡ Open)
-  wait-from w m = let a = wait-after (listed-wait (sheet-shape fits) m) in (a .walk .not-source, after-open fits a)
-
   -- The edge of a wait is that of its after link; so the edges of the sheet with its waits are those of the links and the waits' links.
   wait-edge-link : (w : WaitPair) → List·Memᴰ w (sheet-waits q) → edge-of (q .steps) (wait-link w) ≡ wait-edge w
   unfolding edge-of
-  wait-edge-link w m = let r = wait-from w m in open-edge (w .anchor) (w .target) (delay-at (q .steps) (w .anchor)) (r .0) (r .1)
+  wait-edge-link w m = let r = wait-of fits w m in open-edge (w .anchor) (w .target) (delay-at (q .steps) (w .anchor)) (r .not-source) (r .lasts)
 
   pub edges-with-waits : edges (q .steps) (with-waits q) ≡ serialized-of q
   unfolding edges serialized-of serialized edges-of
@@ -112,7 +102,7 @@ module _ {s : List ℕ} {allow : Bool} {q : Records} {v : ℕ} (accepted : Accep
   ours-among d d0 = record { extension = record { keeps-all = λ c m. Memᴰ·append-left (map wait-link (sheet-waits q)) m; only = λ c m. only c (List·Memᴰ·append-cases (constraints (q .pairs)) m); well-posed = subst (λ (l : List Edge). WellPosed (members l)) (sym (edges-with-waits fits)) (plan-posed (accepted-well accepted)) }; kept = all-kept d d0 }
     where
       further : (w : WaitPair) → List·Memᴰ w (sheet-waits q) → Further (count-of q) (wait-link w)
-      further w m = let r = wait-list-only (count-of q) (edges-of q) m in (r .0, r .1)
+      further w m = let r = wait-of fits w m in (r .anchor-below, r .target-below)
 
       only : (c : Constraint) → List·Memᴰ c (constraints (q .pairs)) ⊎ List·Memᴰ c (map wait-link (sheet-waits q)) → List·Memᴰ c (constraints (q .pairs)) ⊎ Further (count-of q) c
       only c (inl m) = inl m

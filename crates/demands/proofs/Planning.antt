@@ -1,35 +1,31 @@
 -- The plan of an accepted sheet: its verdict and waits, offsets, starts, deciding sets and table are those of document 01.
 use mathlib.Core.Path.{_≡_, refl, sym, ap, subst, _∙_}
-use mathlib.Core.Bool.{Bool, true, false, cond, not, _&&_}
-use mathlib.Core.Logic.{_⊎_, inl, inr, _≢_, _↔_}
-use mathlib.Core.List.{List, [], _∷_, List·Memᴰ, List·Memᴰ·head, List·Memᴰ·not-nil}
-use Prim.Native.Nat.{ℕ, zero, suc, _+_, _*_, _≤_, _<_}
+use mathlib.Core.Bool.{Bool, true, false, cond, not}
+use mathlib.Core.Logic.{_⊎_, inl, inr, _↔_}
+use mathlib.Core.List.{List, [], _∷_}
+use Prim.Native.Nat.{ℕ, suc, _+_, _*_, _≤_, _<_}
 use native.Mathlib.Omega.{arith}
 use native.Mathlib.Decide.{decLt}
-use lib.Dec.{ltb}
-use lib.ListN.{length, getD, List·getD-eq-default}
+use lib.ListN.{length, List·getD-eq-default}
 use borrow.Author.Tests.{ltb-false, le-ltb}
 use Rattle.definitions.specs.Basics.{any-below, largest}
 use Rattle.definitions.specs.Bytes.{Records}
-use Rattle.definitions.specs.Links.{Edge, members, Forward, Walk, After, delay-at}
-use Rattle.definitions.specs.Rounds.{cell}
-use Rattle.definitions.specs.Anchors.{InAnchorSet, is-source, WellPosed, in-anchor-set}
-use Rattle.definitions.specs.Waits.{Wait, WaitPair, wait-list, wait-count, needs-waits, serialized}
-use Rattle.definitions.specs.Plan.{Offset, offset, start-times, overrides, decides, plan-entry, plan-table, delays}
+use Rattle.definitions.specs.Links.{Edge, members, Forward, delay-at}
+use Rattle.definitions.specs.Anchors.{InAnchorSet}
+use Rattle.definitions.specs.Waits.{WaitPair, wait-list, wait-count, needs-waits}
+use Rattle.definitions.specs.Plan.{start-times, overrides, decides, plan-entry, delays}
 use Rattle.definitions.specs.Answers.{count-of, edges-of, serialized-of}
-use Rattle.definitions.specs.declared.Delay.the-variants.{Open}
 use Rattle.laws.proofs.Bools.{bool-cases, both-ways, and-join, not-passing}
 use Rattle.laws.proofs.Tests.{any-below-has, any-below-by}
 use Rattle.theory.specs.Graphs.{Shape, Well, Acyclic, Relative, Decides, Overrides, sole-delay}
 use Rattle.theory.proofs.Walks.{member-below, chain-after}
-use Rattle.theory.proofs.Reachability.{in-anchor-set-iff, dec-member}
+use Rattle.theory.proofs.Reachability.{in-anchor-set-iff}
 use Rattle.theory.proofs.WaitLists.{needs-waits-iff}
-use Rattle.theory.proofs.SoleDelays.{sole-delay-source}
 use Rattle.theory.proofs.StartTimes.{relative-all, start-times-length, start-times-source, start-times-rule}
 use Rattle.theory.proofs.DecidingSets.{overrides-iff, decides-iff}
 use Rattle.theory.proofs.PlanTables.{plan-table-length, plan-table-at, plan-table-row}
 use Rattle.theory.proofs.Plans.{plan-some, plan-well, plan-posed, plan-forward-acyclic, plan-wait-other, plan-wait-not-source, plan-relative, plan-enough, plan-offset-limit, plan-start-limit-64, plan-strict, plan-deciding-least}
-use Rattle.demands.specs.Demands.{Accepted, IsDelayList, in-start-set, sheet-offset, sheet-decides, our-start, term, sheet-waits, wait-pair, WaitsFor, OffsetFor, StartRuleFor, GivesStart, Needed, LeftOut, DecidingFor, PlanFor}
+use Rattle.demands.specs.Demands.{Accepted, IsDelayList, in-start-set, sheet-offset, sheet-decides, our-start, term, WaitsFor, OffsetFor, StartRuleFor, GivesStart, Needed, LeftOut, DecidingFor, PlanFor}
 use Rattle.demands.proofs.Reading.{Fits}
 use Rattle.demands.proofs.Edges.{sheet-shape, sheet-gains}
 use Rattle.demands.proofs.Meaning.{waits-shape, meant-for}
@@ -113,7 +109,7 @@ module _ {s : List ℕ} {allow : Bool} {q : Records} {v : ℕ} (accepted : Accep
       plan-start-limit-64 well (sheet-gains fits) (fits .few) (delays list) (source-zero (q .steps) list (fits .some) (L .within)) (λ a b. omega (arith, list-within (q .steps) list (L .within) a b, limit-most a (delay-at (q .steps) a))) i c
 
   pub start-rule-for : StartRuleFor q
-  start-rule-for = record { source = λ d. start-times-source shape d; rule = λ d i b. start-times-rule shape d acyclic (suc i) b (λ e. omega arith); small = λ list L i. starts-most list L i (decLt i n) }
+  start-rule-for = record { source = λ d. start-times-source shape d; rule = λ d i b. start-times-rule shape d acyclic (suc i) b (λ e. omega arith); small = λ list L i. starts-most list L i (decLt i n); narrow = λ list L i. omega (arith, starts-most list L i (decLt i n)) }
 
   module _ (i : ℕ) (inside : i < n) where
     decided : (a : ℕ) → (sheet-decides q a i ≡ true) ↔ Decides (members (serialized-of q)) (sheet-offset q) a i

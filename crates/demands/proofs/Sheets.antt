@@ -1,19 +1,16 @@
 -- From the answers of judging to the graph of a sheet: a sheet that passes 8 to 11 can be scheduled for all delays, and what 10 and 11 say of it.
-use mathlib.Core.Path.{_≡_, refl, sym, ap, subst, _∙_}
-use mathlib.Core.Bool.{Bool, true, false, cond, not, _&&_}
-use mathlib.Core.Logic.{_⊎_, inl, inr, _≢_, _↔_}
-use mathlib.Core.List.{List, [], _∷_}
-use Prim.Native.Nat.{ℕ, zero, suc, _+_, _≤_, _<_}
-use native.Mathlib.Omega.{arith}
+use mathlib.Core.Path.{_≡_, sym, ap, _∙_}
+use mathlib.Core.Bool.{true, false, not}
+use mathlib.Core.Logic.{_↔_}
+use mathlib.Core.List.{List}
+use Prim.Native.Nat.{ℕ, _<_}
 use borrow.Author.Tests.{not-true, not-false}
-use Rattle.definitions.specs.Basics.{any, any-below, all-below, given, refused}
-use Rattle.definitions.specs.Bytes.{Records, read}
 use Rattle.definitions.specs.Links.{Edge, members, forwards, After, usable}
 use Rattle.definitions.specs.Rounds.{rounds, stable, source-row, reaches, after-reaches}
-use Rattle.definitions.specs.Answers.{closes-circle, unreached, infeasible, inconsistent, count-of, edges-of}
+use Rattle.definitions.specs.Answers.{closes-circle, unreached, infeasible, inconsistent}
 use Rattle.laws.proofs.Bools.{not-passing, both-ways}
-use Rattle.laws.proofs.Tests.{any-below-has, any-below-by, any-below-none, all-below-by}
-use Rattle.theory.specs.Graphs.{Schedule, Shape, Rooted, ForwardAcyclic, NonPositive, Well}
+use Rattle.laws.proofs.Tests.{any-below-has, any-below-none, all-below-by}
+use Rattle.theory.specs.Graphs.{Schedule, Shape, Rooted, ForwardAcyclic, Well}
 use Rattle.theory.proofs.Reachability.{after-reaches-iff}
 use Rattle.theory.proofs.WaitLists.{usable-all}
 use Rattle.theory.proofs.Feasibility.{stable-schedule-iff, well-by, rooted-iff, forward-acyclic-iff}

@@ -3,15 +3,16 @@ use mathlib.Core.Path.{_≡_, refl, sym, ap, _∙_}
 use mathlib.Core.Bool.{Bool, true, false, cond, not, _&&_, true≢false, false≢true}
 use mathlib.Core.Logic.{_⊎_, inl, inr, _≢_, _↔_}
 use mathlib.Core.List.{List}
-use Prim.Native.Nat.{ℕ, _+_, _≤_, _<_}
+use Prim.Native.Nat.{ℕ}
 use native.Mathlib.Omega.{arith}
-use borrow.Author.Tests.{not-true, not-false}
-use Rattle.definitions.specs.Basics.{Outcome, given, refused}
+use borrow.Author.Tests.{not-true}
+use Rattle.definitions.specs.Basics.{refused}
 use Rattle.definitions.specs.Bytes.{Records}
-use Rattle.definitions.specs.Links.{Edge, members}
+use Rattle.definitions.specs.Links.{Edge}
 use Rattle.definitions.specs.Waits.{needs-waits}
 use Rattle.definitions.specs.Answers.{closes-circle, unreached, infeasible, inconsistent, judged, judge-edges, count-of, edges-of}
 use Rattle.laws.proofs.Bools.{and-split, and-join, not-passing, both-ways}
+use Rattle.laws.proofs.Negations.{fails-unless, passes-unless}
 use Rattle.laws.proofs.Outcomes.{refused-same}
 use Rattle.theory.proofs.WaitLists.{needs-waits-iff}
 use Rattle.demands.specs.Demands.{IsSheet, WellFormed, SomeListLeavesNone, Circle, SomeStepUnreached, Sound, JudgedFor}
@@ -20,10 +21,6 @@ use Rattle.demands.proofs.Edges.{sheet-shape}
 use Rattle.demands.proofs.Judging.{Passes, judge-8, judge-9, judge-10, judge-11, judge-12, judge-given, judged-edges}
 use Rattle.demands.proofs.Meaning.{meant-for}
 use Rattle.demands.proofs.Impossibility.{impossible-for}
-
--- A test that passes exactly if P holds fails exactly if P does not.
-fails-iff : {P : Type 0} (b : Bool) → ((b ≡ true) ↔ P) → (b ≡ false) ↔ (¬ P)
-fails-iff b r = (λ h p. both-ways (r .1 p) h, λ f. not-passing b (λ h. f (r .0 h)))
 
 module _ (s : List ℕ) (allow : Bool) (q : Records) (sheet : IsSheet s q) where
   abbrev n : ℕ
@@ -46,8 +43,8 @@ module _ (s : List ℕ) (allow : Bool) (q : Records) (sheet : IsSheet s q) where
 
   formed-iff : WellFormed s q ↔ ((¬ Circle q) × (¬ SomeStepUnreached q))
   formed-iff =
-      let c = fails-iff (closes-circle n es) circle in
-      let u = fails-iff (unreached n es) unreach in
+      let c = fails-unless (closes-circle n es) circle in
+      let u = fails-unless (unreached n es) unreach in
       (λ f. (c .0 (f .no-circle), u .0 (f .all-reached)), λ r. record { sheet = sheet; no-circle = c .1 (r .0); all-reached = u .1 (r .1) })
 
   -- No refusal from 8 to 11 applies exactly if the sheet is well-formed and no list leaves none.
@@ -71,11 +68,7 @@ module _ (s : List ℕ) (allow : Bool) (q : Records) (sheet : IsSheet s q) where
   unneeded = needs-waits-iff (sheet-shape fits)
 
   needed : (needs-waits n es ≡ true) ↔ (¬ Sound q)
-  needed = (λ h p. both-ways h (unneeded .1 p), λ f. not-failing (needs-waits n es) (λ h. f (unneeded .0 h)))
-    where
-      not-failing : (b : Bool) → b ≢ false → b ≡ true
-      not-failing true h = refl
-      not-failing false h = absurd (h refl)
+  needed = passes-unless (needs-waits n es) unneeded
 
   -- 12, from the front: it is none of 8 and 9.
   twelve-formed : judge-edges n es allow ≡ refused 12 → (closes-circle n es ≡ false) × (unreached n es ≡ false)
@@ -89,9 +82,9 @@ module _ (s : List ℕ) (allow : Bool) (q : Records) (sheet : IsSheet s q) where
   twelve : (judge-edges n es allow ≡ refused 12) ↔ (Passes n es × (needs-waits n es ≡ true) × (allow ≡ false))
   twelve = (
     λ h. let f = twelve-formed h in
-    let r = judge-12 n es allow (f .0) (f .1) .0 h in
-    let w = and-split (needs-waits n es) (not allow) (r .2) in
-    (record { no-circle = f .0; all-reached = f .1; feasible = r .0; consistent = r .1 }, w .0, not-true allow (w .1)),
+        let r = judge-12 n es allow (f .0) (f .1) .0 h in
+        let w = and-split (needs-waits n es) (not allow) (r .2) in
+        (record { no-circle = f .0; all-reached = f .1; feasible = r .0; consistent = r .1 }, w .0, not-true allow (w .1)),
     λ r. judge-12 n es allow (r .0 .no-circle) (r .0 .all-reached) .1 (r .0 .feasible, r .0 .consistent, and-join (r .1) (ap not (r .2))),
   )
 
@@ -107,7 +100,7 @@ module _ (s : List ℕ) (allow : Bool) (q : Records) (sheet : IsSheet s q) where
   pub judged-for : JudgedFor s allow q
   judged-for =
       let r9 = judge-9 n es allow in
-      let c = fails-iff (closes-circle n es) circle in
+      let c = fails-unless (closes-circle n es) circle in
       let given-0 = judge-given n es allow 0 in
       let given-1 = judge-given n es allow 1 in
       let none = verdict-none (needs-waits n es) allow in

@@ -1,31 +1,33 @@
--- The demands 2 and 3 on the planner, each as a statement about sheets as bytes. Definitions alone: the theorem of the same name in small letters, in proofs/Demands.antt, proves it.
+-- The demands 2 and 3 on the planner, each as a statement about sheets as bytes. Definitions alone: each statement is proved in proofs/Demands.antt, by the theorem that its comment names.
 --
 -- 2. Start sets, waits, offsets, deciding steps and start times are those of document 01. An open step is listed exactly if some durations need it.
 -- 3. A well-formed sheet is called impossible exactly when some list of durations leaves no start times that keep every link. For every accepted sheet and every list our starts keep every link and
 --    wait, and nobody is earlier: not a rival who knows every duration beforehand and gives any start times that keep every link (no waits needed), nor one who picks any sound sheet with these
 --    steps, these links and further after or at-least links, and any start times that keep it (waits added).
 --
--- Words that are not defined here are those of the crate definitions, in the words of document 01: Bytes, Links, Anchors, Waits, Plan, Rival, Answers, to be read in this order.
+-- Words that are not defined here are those of the crate definitions, in the words of document 01: Bytes, Links, Anchors, Waits, Plan, Rival, Answers, to be read in this order. Quoted sentences are
+-- document 01's.
 -- Start times and durations are functions from steps to whole numbers, with no largest one: a hand may take any time at all. Lists of durations are a case of them.
 use mathlib.Core.Path.{_≡_}
-use mathlib.Core.Bool.{Bool, true, false, cond, not, _&&_}
+use mathlib.Core.Bool.{Bool, true, false, cond}
 use mathlib.Core.Logic.{_⊎_, _≢_, _↔_}
 use mathlib.Core.List.{List, [], _∷_, _++_, map, List·Memᴰ}
-use Prim.Native.Nat.{ℕ, zero, suc, _+_, _*_, _^_, _≤_, _<_}
-use lib.ListN.{length, getD}
-use Rattle.definitions.specs.Basics.{largest, test-bit, Outcome, given, refused}
+use Prim.Native.Nat.{ℕ, suc, _+_, _*_, _^_, _≤_, _<_}
+use lib.ListN.{length, getD, drop, replicate}
+use Rattle.definitions.specs.Basics.{largest, test-bit, given, refused}
 use Rattle.definitions.specs.Bytes.{Records, read}
-use Rattle.definitions.specs.Links.{Constraint, sequencing, constraints, delay-at, Keeps, KeepsAll, Edge, edges, Graph, members, Forward, Walk, Joined, After}
+use Rattle.definitions.specs.Links.{Constraint, sequencing, constraints, delay-at, Keeps, KeepsAll, Edge, members, Forward, Walk, Joined, After}
 use Rattle.definitions.specs.Rounds.{cell, reaches, after-reaches}
 use Rattle.definitions.specs.Anchors.{InAnchorSet, in-anchor-set, WellPosed, well-posed}
 use Rattle.definitions.specs.Waits.{Wait, WaitPair, wait-list, wait-maps, wait-count}
 use Rattle.definitions.specs.Plan.{Offset, offset, start-times, decides, plan-row, plan-table, row-part, undecided, delays-wrong, delays}
 use Rattle.definitions.specs.Rival.{Extension}
 use Rattle.definitions.specs.Answers.{closes-circle, unreached, count-of, edges-of, serialized-of, judged, waits-answer, planned, starts-answer}
-use Rattle.definitions.specs.Output.{StartLine, Listing, start-lines, listed}
+use Rattle.definitions.specs.Output.{StartLine, start-lines, listed}
 use Rattle.definitions.specs.Worked.{Worked, worked-sheets}
 use Rattle.definitions.specs.declared.Delay.the-variants.{Open, Fixed}
 use Rattle.theory.specs.Counts.{standing-bits}
+use Rattle.theory.specs.Graphs.{Schedule}
 
 -- ## The words
 
@@ -54,6 +56,10 @@ pub record Accepted (s : List ℕ) (allow : Bool) (q : Records) (v : ℕ) : Type
 abbrev pub KeepsLinks : Records → (ℕ → ℕ) → (ℕ → ℕ) → Type 0
 KeepsLinks q d t = KeepsAll (q .steps) (constraints (q .pairs)) d t
 
+-- The edges of a sheet ask of start times what its links do; offsets and start sets are taken over the edges. Proof: edges-meant.
+abbrev pub EdgesMeant : Type 0
+EdgesMeant = (q : Records) (d t : ℕ → ℕ) → KeepsLinks q d t ↔ Schedule (members (edges-of q)) d t
+
 -- The durations d leave no start times.
 abbrev pub NoStarts : Records → (ℕ → ℕ) → Type 0
 NoStarts q d = (t : ℕ → ℕ) → ¬ KeepsLinks q d t
@@ -63,7 +69,7 @@ pub record IsDelayList (q : Records) (list : List ℕ) : Type 0 where
   pub size : length list ≡ count-of q
   pub within : delays-wrong (q .steps) list ≡ false
 
--- What the test for refusal 13 says of a list of N numbers: document 01's words.
+-- What the test for refusal 13 says: document 01's words. An entry that is not there counts as 0. Proof: lists-meant.
 pub record WithinLimits (q : Records) (list : List ℕ) : Type 0 where
   pub most : (i : ℕ) → i < count-of q → delays list i ≤ 16777215
   pub source : delays list 0 ≡ 0
@@ -108,7 +114,7 @@ wait-link w = sequencing (w .anchor) (w .target)
 -- ## Demand 3
 
 -- "10. With all open durations 0, no start times keep every link. 11. Not 10, yet some list of durations leaves none." "Impossible means 10 or 11."
--- And where a sheet is not impossible, all durations leave start times, those past a list's limit too.
+-- And where a sheet is not impossible, all durations leave start times, those past a list's limit too. Proof: impossible-exactly.
 pub record ImpossibleFor (s : List ℕ) (allow : Bool) (q : Records) : Type 0 where
   pub refused-10 : (judged s allow ≡ refused 10) ↔ NoStarts q (λ a. 0)
   pub refused-11 : (judged s allow ≡ refused 11) ↔ ((judged s allow ≢ refused 10) × SomeListLeavesNone q)
@@ -118,8 +124,16 @@ pub record ImpossibleFor (s : List ℕ) (allow : Bool) (q : Records) : Type 0 wh
 abbrev pub ImpossibleExactly : Type 0
 ImpossibleExactly = (s : List ℕ) (allow : Bool) (q : Records) → WellFormed s q → ImpossibleFor s allow q
 
+-- The refusals 1 to 7 are those of reading the bytes, and reading gives no others. So a sheet is well-formed exactly if no refusal from 1 to 9 is given. Proofs: read-exactly,
+-- well-formed-exactly.
+abbrev pub ReadExactly : Type 0
+ReadExactly = (s : List ℕ) → Bytes s → (allow : Bool) (k : ℕ) → (read s ≡ refused k) ↔ ((judged s allow ≡ refused k) × (k ≤ 7))
+
+abbrev pub WellFormedExactly : Type 0
+WellFormedExactly = (s : List ℕ) → Bytes s → (allow : Bool) → ((q : Records) × WellFormed s q) ↔ ((k : ℕ) → k ≤ 9 → judged s allow ≢ refused k)
+
 -- "8. Forward links close a circle. 9. A step has no forward chain from step 0." "12. Waits are needed and the caller did not allow them." "Verdict 0 is sound, 1 sound with waits."
--- "Each refusal is given when its condition holds and no earlier one does, and only then."
+-- "Each refusal is given when its condition holds and no earlier one does, and only then." Proof: judged-exactly.
 abbrev pub Circle : Records → Type 0
 Circle q = (x : ℕ) × (k : ℕ) × (g : ℕ) × (l : ℕ) × Walk (Forward (members (edges-of q))) x x (suc k) g l
 
@@ -140,7 +154,7 @@ pub record JudgedFor (s : List ℕ) (allow : Bool) (q : Records) : Type 0 where
 abbrev pub JudgedExactly : Type 0
 JudgedExactly = (s : List ℕ) (allow : Bool) (q : Records) → IsSheet s q → JudgedFor s allow q
 
--- "From each call that judges, lists waits, plans or works out starts": the refusals 1 to 12 are the same in each. Whoever lists waits allows them.
+-- "From each call that judges, lists waits, plans or works out starts": the refusals 1 to 12 are the same in each. Whoever lists waits allows them. Proof: each-call-refuses.
 pub record SameRefusal (s : List ℕ) (allow : Bool) (k : ℕ) : Type 0 where
   pub waits : (waits-answer s .verdict ≡ refused k) ↔ (judged s true ≡ refused k)
   pub plan : (table : List ℕ) → (planned s allow table .verdict ≡ refused k) ↔ (judged s allow ≡ refused k)
@@ -149,7 +163,7 @@ pub record SameRefusal (s : List ℕ) (allow : Bool) (k : ℕ) : Type 0 where
 abbrev pub EachCallRefuses : Type 0
 EachCallRefuses = (s : List ℕ) (allow : Bool) (k : ℕ) → k ≤ 12 → SameRefusal s allow k
 
--- "Our starts are the N numbers that working out starts returns for a sheet and a list." A list's duration of step 0 is 0.
+-- "Our starts are the N numbers that working out starts returns for a sheet and a list." A list's duration of step 0 is 0. Proof: starts-returned.
 pub record ReturnedFor (s : List ℕ) (allow : Bool) (q : Records) (v : ℕ) (list out : List ℕ) : Type 0 where
   pub accepted : Accepted s allow q v
   pub source : delays list 0 ≡ 0
@@ -158,7 +172,40 @@ pub record ReturnedFor (s : List ℕ) (allow : Bool) (q : Records) (v : ℕ) (li
 abbrev pub StartsReturned : Type 0
 StartsReturned = (s : List ℕ) (allow : Bool) (q : Records) (v : ℕ) (list out : List ℕ) → IsSheet s q → starts-answer s allow list out .verdict ≡ given v → ReturnedFor s allow q v list out
 
--- "For every accepted sheet and every list our starts keep every link and wait."
+-- "13. The list of durations is not as above." "14. A lent table or list is too short (N × N or N numbers)." "14 comes after 1 to 13; 13 judges those of the first N entries that are there."
+-- "On acceptance lent numbers and bytes past the answer stay as lent." A refusal leaves lent memory untouched, and gives maps of 0. Proof: calls-exactly.
+abbrev pub IsAccepted : List ℕ → Bool → Type 0
+IsAccepted s allow = (v : ℕ) × (judged s allow ≡ given v)
+
+pub record WaitsCall (s : List ℕ) (q : Records) : Type 0 where
+  pub accepted : (v : ℕ) → (waits-answer s .verdict ≡ given v) ↔ (judged s true ≡ given v)
+  pub maps : (v : ℕ) → waits-answer s .verdict ≡ given v → waits-answer s .maps ≡ wait-maps (count-of q) (edges-of q)
+  pub count : (v : ℕ) → waits-answer s .verdict ≡ given v → waits-answer s .count ≡ wait-count (count-of q) (edges-of q)
+  pub no-maps : (k : ℕ) → waits-answer s .verdict ≡ refused k → waits-answer s .maps ≡ replicate 64 0
+  pub no-count : (k : ℕ) → waits-answer s .verdict ≡ refused k → waits-answer s .count ≡ 0
+
+pub record PlanCall (s : List ℕ) (allow : Bool) (q : Records) (table : List ℕ) : Type 0 where
+  pub refused-14 : (planned s allow table .verdict ≡ refused 14) ↔ (IsAccepted s allow × (length table < count-of q * count-of q))
+  pub accepted : (v : ℕ) → (planned s allow table .verdict ≡ given v) ↔ ((judged s allow ≡ given v) × (count-of q * count-of q ≤ length table))
+  pub numbers : (v : ℕ) → planned s allow table .verdict ≡ given v → planned s allow table .numbers ≡ plan-table (count-of q) (serialized-of q) ++ drop (count-of q * count-of q) table
+  pub untouched : (k : ℕ) → planned s allow table .verdict ≡ refused k → planned s allow table .numbers ≡ table
+
+pub record StartsCall (s : List ℕ) (allow : Bool) (q : Records) (list out : List ℕ) : Type 0 where
+  pub refused-13 : (starts-answer s allow list out .verdict ≡ refused 13) ↔ (IsAccepted s allow × (¬ WithinLimits q list))
+  pub refused-14 : (starts-answer s allow list out .verdict ≡ refused 14) ↔ (IsAccepted s allow × WithinLimits q list × ((length list < count-of q) ⊎ (length out < count-of q)))
+  pub accepted : (v : ℕ) → (starts-answer s allow list out .verdict ≡ given v) ↔ ((judged s allow ≡ given v) × WithinLimits q list × (count-of q ≤ length list) × (count-of q ≤ length out))
+  pub numbers : (v : ℕ) → starts-answer s allow list out .verdict ≡ given v → starts-answer s allow list out .numbers ≡ start-times (count-of q) (serialized-of q) (delays list) ++ drop (count-of q) out
+  pub untouched : (k : ℕ) → starts-answer s allow list out .verdict ≡ refused k → starts-answer s allow list out .numbers ≡ out
+
+pub record CallsFor (s : List ℕ) (allow : Bool) (q : Records) : Type 0 where
+  pub waits : WaitsCall s q
+  pub plan : (table : List ℕ) → PlanCall s allow q table
+  pub starts : (list out : List ℕ) → StartsCall s allow q list out
+
+abbrev pub CallsExactly : Type 0
+CallsExactly = (s : List ℕ) (allow : Bool) (q : Records) → IsSheet s q → CallsFor s allow q
+
+-- "For every accepted sheet and every list our starts keep every link and wait." Proof: starts-kept.
 pub record KeptFor (q : Records) (d : ℕ → ℕ) : Type 0 where
   pub links : KeepsLinks q d (our-start q d)
   pub waits : (w : WaitPair) → List·Memᴰ w (sheet-waits q) → Keeps (q .steps) d (our-start q d) (wait-link w)
@@ -166,17 +213,19 @@ pub record KeptFor (q : Records) (d : ℕ → ℕ) : Type 0 where
 abbrev pub StartsKept : Type 0
 StartsKept = (s : List ℕ) (allow : Bool) (q : Records) (v : ℕ) → Accepted s allow q v → (d : ℕ → ℕ) → d 0 ≡ 0 → KeptFor q d
 
--- "Nobody is earlier: not a rival who knows every duration beforehand and gives any start times that keep every link (no waits needed)." The rival's t may depend on d in any way.
+-- "Nobody is earlier: not a rival who knows every duration beforehand and gives any start times that keep every link (no waits needed)." The rival's t may depend on d in any way. Proof:
+-- nobody-earlier.
 abbrev pub NobodyEarlier : Type 0
 NobodyEarlier =
     (s : List ℕ) (allow : Bool) (q : Records) → Accepted s allow q 0 → (d t : ℕ → ℕ) → d 0 ≡ 0 → KeepsLinks q d t → (i : ℕ) → i < count-of q → our-start q d i ≤ t i
 
 -- "Nor one who picks any sound sheet with these steps, these links and further after or at-least links, and any start times that keep it (waits added)." It holds where no waits are needed too.
+-- Proof: nobody-earlier-with-waits.
 abbrev pub NobodyEarlierWithWaits : Type 0
 NobodyEarlierWithWaits =
     (s : List ℕ) (allow : Bool) (q : Records) (v : ℕ) → Accepted s allow q v → (fs : List Constraint) → Extension (q .steps) (constraints (q .pairs)) fs → (d t : ℕ → ℕ) → d 0 ≡ 0 → KeepsAll (q .steps) fs d t → (i : ℕ) → i < count-of q → our-start q d i ≤ t i
 
--- The sheet with our waits put in as after links is one of these rivals' sheets, and our starts keep it. So the bound is met.
+-- The sheet with our waits put in as after links is one of these rivals' sheets, and our starts keep it. So the bound is met. Proof: ours-among-rivals.
 pub record OursAmong (q : Records) (d : ℕ → ℕ) (fs : List Constraint) : Type 0 where
   pub extension : Extension (q .steps) (constraints (q .pairs)) fs
   pub kept : KeepsAll (q .steps) fs d (our-start q d)
@@ -196,7 +245,7 @@ pub record Meant (n : ℕ) (es : List Edge) : Type 0 where
   pub circle : (closes-circle n es ≡ true) ↔ ((x : ℕ) × (k : ℕ) × (g : ℕ) × (l : ℕ) × Walk (Forward (members es)) x x (suc k) g l)
   pub reached : (unreached n es ≡ true) ↔ ((v : ℕ) × (v < n) × (¬ Joined (Forward (members es)) 0 v))
 
--- For every sheet, as sent and with its waits in. "Step 0 is in every set, its own too. Another open step .."
+-- For every sheet, as sent and with its waits in. "Step 0 is in every set, its own too. Another open step .." Proof: tests-meant.
 pub record MeantFor (q : Records) : Type 0 where
   pub as-sent : Meant (count-of q) (edges-of q)
   pub with-waits : Meant (count-of q) (serialized-of q)
@@ -217,9 +266,17 @@ Rising {A} before (x ∷ l) = ((y : A) → List·Memᴰ y l → before x y) × R
 abbrev pub WaitBefore : WaitPair → WaitPair → Type 0
 WaitBefore w u = (w .anchor < u .anchor) ⊎ ((w .anchor ≡ u .anchor) × (w .target < u .target))
 
--- What is listed are the waits of document 01, none of a step on itself or into step 0. "The library returns them as 64 maps of 64 bits, bit a of map i."
+-- What is listed are the waits of document 01, each for an open step other than 0. "The library returns them as 64 maps of 64 bits, bit a of map i." The maps and the count say what the list says.
+-- Proof: waits-listed.
+pub record WaitOf (q : Records) (w : WaitPair) : Type 0 where
+  pub anchor-below : w .anchor < count-of q
+  pub target-below : w .target < count-of q
+  pub not-source : w .anchor ≢ 0
+  pub lasts : delay-at (q .steps) (w .anchor) ≡ Open
+
 pub record ListedFor (q : Records) : Type 0 where
   pub listed : (a i : ℕ) → List·Memᴰ (wait-pair a i) (sheet-waits q) ↔ Wait (members (edges-of q)) a i
+  pub each : (w : WaitPair) → List·Memᴰ w (sheet-waits q) → WaitOf q w
   pub order : Rising WaitBefore (sheet-waits q)
   pub maps-size : length (wait-maps (count-of q) (edges-of q)) ≡ 64
   pub maps-small : (i : ℕ) → cell (wait-maps (count-of q) (edges-of q)) i < 2 ^ 64
@@ -230,10 +287,11 @@ pub record ListedFor (q : Records) : Type 0 where
 abbrev pub WaitsListed : Type 0
 WaitsListed = (s : List ℕ) (q : Records) → IsSheet s q → ListedFor q
 
--- "Verdict 0 is sound, 1 sound with waits." With the waits in, the sheet is sound, its forward links close no circle, and no closed walk weighs above 0.
+-- "Verdict 0 is sound, 1 sound with waits." No step waits for itself, and step 0 for none. With the waits in, the sheet is sound, its forward links close no circle, and no closed walk
+-- weighs above 0. Proof: waits-sound.
 pub record WaitsFor (q : Records) (v : ℕ) : Type 0 where
   pub verdicts : (v ≡ 0) ⊎ (v ≡ 1)
-  pub sound : (v ≡ 0) ↔ WellPosed (members (edges-of q))
+  pub sound : (v ≡ 0) ↔ Sound q
   pub none : (v ≡ 0) ↔ (sheet-waits q ≡ [])
   pub itself : (a : ℕ) → ¬ List·Memᴰ (wait-pair a a) (sheet-waits q)
   pub source : (a : ℕ) → ¬ List·Memᴰ (wait-pair a 0) (sheet-waits q)
@@ -246,7 +304,8 @@ WaitsSound = (s : List ℕ) (allow : Bool) (q : Records) (v : ℕ) → Accepted 
 
 -- ## Demand 2: offsets and starts
 
--- "Offset of v for a in its start set: the heaviest walk from a to v that begins with an after link out of a; for a = 0, the heaviest walk from 0." "Offsets never exceed 4,128,705."
+-- "Offset of v for a in its start set: the heaviest walk from a to v that begins with an after link out of a; for a = 0, the heaviest walk from 0." "Offsets never exceed 4,128,705." Proof:
+-- offsets-right.
 pub record OffsetFor (q : Records) (a v : ℕ) : Type 0 where
   pub heaviest : Offset (members (serialized-of q)) a v (sheet-offset q a v)
   pub small : sheet-offset q a v ≤ 4128705
@@ -255,11 +314,12 @@ abbrev pub OffsetsRight : Type 0
 OffsetsRight =
     (s : List ℕ) (allow : Bool) (q : Records) (v : ℕ) → Accepted s allow q v → (a i : ℕ) → i < count-of q → in-start-set q a i ≡ true → OffsetFor q a i
 
--- "Start of v: start(0) = 0; else the largest of start(a) + duration(a) + offset, over a in the start set." For a list, starts fit 32 bits.
+-- "Start of v: start(0) = 0; else the largest of start(a) + duration(a) + offset, over a in the start set." For a list, starts fit 32 bits. Proof: start-rule.
 pub record StartRuleFor (q : Records) : Type 0 where
   pub source : (d : ℕ → ℕ) → our-start q d 0 ≡ 0
   pub rule : (d : ℕ → ℕ) (i : ℕ) → suc i < count-of q → our-start q d (suc i) ≡ largest (λ a. in-start-set q a (suc i)) (term q d (suc i)) (count-of q)
   pub small : (list : List ℕ) → IsDelayList q list → (i : ℕ) → our-start q (delays list) i ≤ 64 * (16777215 + 4128705)
+  pub narrow : (list : List ℕ) → IsDelayList q list → (i : ℕ) → our-start q (delays list) i < 2 ^ 32
 
 abbrev pub StartRule : Type 0
 StartRule = (s : List ℕ) (allow : Bool) (q : Records) (v : ℕ) → Accepted s allow q v → StartRuleFor q
@@ -286,7 +346,7 @@ pub record LeftOut (q : Records) (a v b : ℕ) : Type 0 where
   pub reaches : sheet-offset q a v ≤ sheet-offset q a b + sheet-offset q b v
 
 -- "Deciding set of v: the smallest part of the start set with the same largest value for every list of durations." For durations past a list's limit too. An open step is listed exactly if some
--- durations need it.
+-- durations need it. Proof: deciding-sets.
 pub record DecidingFor (q : Records) (v : ℕ) : Type 0 where
   pub enough : (d : ℕ → ℕ) → d 0 ≡ 0 → our-start q d v ≡ largest (λ a. sheet-decides q a v) (term q d v) (count-of q)
   pub part : GivesStart q v (λ a. sheet-decides q a v)
@@ -298,7 +358,7 @@ abbrev pub DecidingSets : Type 0
 DecidingSets = (s : List ℕ) (allow : Bool) (q : Records) (v : ℕ) → Accepted s allow q v → (i : ℕ) → i < count-of q → DecidingFor q i
 
 -- "A plan is a table of N by N numbers of 32 bits .. The number at v × N + a is the offset, or 4,294,967,295 where a does not decide v." No offset is that number.
--- "Row v can be asked for: that part of the caller's table is handed back, N numbers." The table may be longer than the plan.
+-- "Row v can be asked for: that part of the caller's table is handed back, N numbers." The table may be longer than the plan. Proof: plan-table.
 pub record PlanFor (q : Records) : Type 0 where
   pub size : length (plan-table (count-of q) (serialized-of q)) ≡ count-of q * count-of q
   pub entry : (v a : ℕ) → v < count-of q → a < count-of q → getD (plan-table (count-of q) (serialized-of q)) (v * count-of q + a) 0 ≡ cond (sheet-decides q a v) (sheet-offset q a v) undecided
@@ -308,7 +368,8 @@ pub record PlanFor (q : Records) : Type 0 where
 abbrev pub PlanTable : Type 0
 PlanTable = (s : List ℕ) (allow : Bool) (q : Records) (v : ℕ) → Accepted s allow q v → PlanFor q
 
--- "A start line is step, deciding step, offset, in rising order of the first two." What is listed of an accepted sheet is its verdict, its waits and these lines.
+-- "A start line is step, deciding step, offset, in rising order of the first two." What is listed of an accepted sheet is its verdict, its waits and these lines. Proof:
+-- lines-listed.
 abbrev pub sheet-lines : Records → List StartLine
 sheet-lines q = start-lines (count-of q) (serialized-of q)
 
@@ -330,7 +391,7 @@ abbrev pub WorkedBytes : List ℕ → Type 0
 WorkedBytes s = (w : Worked) × List·Memᴰ w worked-sheets × (w .bytes ≡ s)
 
 -- There are accepted sheets of both verdicts; sheets refused 10, and 11 with a list that leaves none; and for one with waits a rival's sheet, with links of its own, and start times that keep it and
--- differ from ours.
+-- differ from ours. Proof: hypotheses-met.
 pub record RivalMet (q : Records) : Type 0 where
   pub links : List Constraint
   pub extension : Extension (q .steps) (constraints (q .pairs)) links

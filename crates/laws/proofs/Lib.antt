@@ -7,3 +7,4 @@ pub mod Arrays
 pub mod Parsers
 pub mod Lists
 pub mod Outcomes
+pub mod Negations

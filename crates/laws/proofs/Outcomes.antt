@@ -54,3 +54,9 @@ pub when-given-has : {A B : Type 0} (o : Outcome A) (f : A → Outcome B) {b : B
 unfolding when-given
 when-given-has (given a) f h = (a, refl, h)
 when-given-has (refused k) f h = absurd (given-not-refused (sym h))
+
+-- The whole is refused with a number that the outcome itself never gives exactly if what comes after an answer is; and it is an answer exactly if both are.
+pub when-given-refused : {A B : Type 0} (o : Outcome A) (f : A → Outcome B) (k : ℕ) → o ≢ refused k → (when-given o f ≡ refused k) ↔ ((a : A) × (o ≡ given a) × (f a ≡ refused k))
+unfolding when-given
+when-given-refused (given a) f k never = (λ h. (a, refl, h), λ r. ap f (given-same (r .1)) ∙ r .2)
+when-given-refused (refused l) f k never = (λ h. absurd (never (ap refused (refused-same h))), λ r. absurd (given-not-refused (sym (r .1))))
