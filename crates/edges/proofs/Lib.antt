@@ -1,4 +1,5 @@
 pub mod Digits
 pub mod Pushing
 pub mod Listing
+pub mod BitMaps
 pub mod Serializing

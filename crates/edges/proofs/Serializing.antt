@@ -1,17 +1,20 @@
 -- The edges of waits that are held as maps, one pair and one anchor more at a time.
 use mathlib.Core.Path.{_≡_, refl, sym, ap, ap₂, _∙_}
-use mathlib.Core.Bool.{Bool, true, false, cond}
+use mathlib.Core.Bool.{Bool, true, false, cond, _&&_}
 use mathlib.Core.List.{List, [], _∷_, _++_, append-nil, map, map-append, flatMap}
 use Prim.Native.Nat.{ℕ, zero, suc, _+_, _*_, _≤_, _<_}
 use native.Mathlib.Omega.{arith}
 use native.Mathlib.Numerals.{add-one}
+use lib.Dec.{ltb}
 use lib.ListN.{length, take, getD, length-append}
+use borrow.Author.Tests.{lt-ltb}
 use Rattle.definitions.specs.Basics.{tabulate, select-below, test-bit}
 use Rattle.definitions.specs.Links.{Edge}
-use Rattle.definitions.specs.Waits.{WaitPair, wait-edge}
+use Rattle.definitions.specs.Waits.{WaitPair, wait-edge, waits-for, waits-of, wait-list, wait-map, wait-maps, serialized}
 use Rattle.edges.specs.Words.{graph}
 use Rattle.edges.specs.Sheets.{Pushed}
 use Rattle.edges.specs.Serial.{pairs-of, pairs, edges-from, wait-edges, edges-below, edge-if}
+use Rattle.edges.proofs.BitMaps.{bit-below, tabulate-at, select-same, flatMap-same}
 use Rattle.edges.proofs.Listing.{flatMap-append}
 use Rattle.edges.proofs.Pushing.{push-both}
 
@@ -98,3 +101,21 @@ serialized-start n maps words = record { few = omega arith; same = sym (edges-be
 pub serialized-step : (n : ℕ) (maps words words′ : List ℕ) (m c d : ℕ) → n ≤ 64 → Serialized n maps words m c → Pushed Unit (edges-from maps m n) words words′ c d → Serialized n maps words′ (m + 1) d
 serialized-step n maps words words′ m c d h S P =
     record { few = omega (arith, S .few, P .counts, edges-from-few maps m n); same = P .same tt ∙ ap (λ (r : List Edge). r ++ edges-from maps m n) (S .same) ∙ sym (edges-below-more n maps m) }
+
+-- The maps of the definition stand for its list of waits, so that the edges and these are the sheet with its waits in.
+wait-bit : (n : ℕ) (es : List Edge) (a i : ℕ) → n ≤ 64 → a < n → i < n → test-bit (getD (wait-maps n es) i 0) a ≡ waits-for n es a i
+unfolding wait-maps wait-map
+wait-bit n es a i h b c =
+    ap (λ (m : ℕ). test-bit m a) (tabulate-at (wait-map n es) 64 i 0 (omega arith))
+    ∙ bit-below (λ k. ltb i n && waits-for n es k i) n a b
+    ∙ ap (λ (t : Bool). t && waits-for n es a i) (lt-ltb i n c)
+
+pub pairs-maps : (n : ℕ) (es : List Edge) → n ≤ 64 → pairs n (wait-maps n es) ≡ wait-list n es
+unfolding pairs pairs-of wait-list waits-of
+pairs-maps n es h =
+    flatMap-same (λ a. pairs-of (wait-maps n es) a n) (waits-of n es) n
+    (λ a b. ap (map (pair a)) (select-same (λ i. test-bit (getD (wait-maps n es) i 0) a) (waits-for n es a) n (λ i c. wait-bit n es a i h b c)))
+
+pub serialized-maps : (n : ℕ) (es : List Edge) → n ≤ 64 → es ++ wait-edges n (wait-maps n es) ≡ serialized n es
+unfolding wait-edges serialized
+serialized-maps n es h = ap (λ (w : List WaitPair). es ++ map wait-edge w) (pairs-maps n es h)

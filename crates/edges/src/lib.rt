@@ -1,6 +1,9 @@
 // Edges held as words (see specs/Words.antt), and the one function that turns a sheet into its edges.
-use definitions::{Bound, Delay, Link, Operation, Sheet};
-
+use definitions::Bound;
+use definitions::Delay;
+use definitions::Link;
+use definitions::Operation;
+use definitions::Sheet;
 ghost use mathlib.Core.Path.{_≡_};
 ghost use mathlib.Core.Bool.{Bool, true, false, not};
 ghost use Prim.Native.Nat.{ℕ, _+_, _*_, _<_, _≤_};
@@ -191,7 +194,11 @@ fn place(x: u8) -> usize
 fn delay_within(inside: bool, operation: Operation) -> Delay
     ensures { λ r. ⌜ r ≡ delay-within inside operation ⌝ }
 {
-    if inside { operation.delay } else { Delay::Fixed(0) }
+    if inside {
+        operation.delay
+    } else {
+        Delay::Fixed(0)
+    }
 }
 
 // The edges of a sheet, as the first count words. What the words past them hold is not said.

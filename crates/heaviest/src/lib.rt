@@ -1,6 +1,11 @@
 // Heaviest walks by rounds over edge words. A cell is 0 where no walk comes, w + 1 for the weight w; extended and seeded are the functions that know it.
-use edges::{WaitWords, edge_from, edge_gain, edge_loss, edge_to, is_counted, wait_words};
-
+use edges::WaitWords;
+use edges::edge_from;
+use edges::edge_gain;
+use edges::edge_loss;
+use edges::edge_to;
+use edges::is_counted;
+use edges::wait_words;
 ghost use mathlib.Core.Path.{_≡_};
 ghost use mathlib.Core.Bool.{Bool, true, false, not, _||_};
 ghost use mathlib.Core.List.{List, [], _∷_, _++_};
@@ -25,6 +30,7 @@ fn extended(w: u64, gain: u64, loss: u64) -> u64
     if loss < s { s - loss } else { 1 }
 }
 
+// Whether one of two passes raised a cell.
 fn either(a: bool, b: bool) -> bool
     ensures { λ r. ⌜ r ≡ a || b ⌝ }
 {
