@@ -23,6 +23,14 @@ pub fn insert(m: u64, k: usize) -> u64
     m | (1 << k)
 }
 
+// Without k as a member.
+pub fn remove(m: u64, k: usize) -> u64
+    requires { ⌜ k < 64 ⌝ }
+    ensures { λ r. ⌜ ((j : ℕ) → test-bit r j ≡ (test-bit m j && not (eqb j k))) ⌝ }
+{
+    m & !(1 << k)
+}
+
 // The members of either.
 pub fn union(a: u64, b: u64) -> u64
     ensures { λ r. ⌜ ((j : ℕ) → test-bit r j ≡ (test-bit a j || test-bit b j)) ⌝ }
@@ -48,7 +56,7 @@ pub fn minus(a: u64, b: u64) -> u64
 pub fn meets(a: u64, b: u64) -> bool
     ensures { λ r. ⌜ r ≡ any-below (λ (k : ℕ). test-bit a k && test-bit b k) 64 ⌝ }
 {
-    a & b != 0
+    (a & b) != 0
 }
 
 // The number of members.

@@ -1,12 +1,11 @@
 -- Laws of maps of bits, `test-bit` and `bits-below`, for maps of any width; the forms that code gives them at 64 bits stand at the end. Assumes nothing.
 use mathlib.Core.Path.{_≡_, refl, sym, ap, ap₂, _∙_, subst, fun-ext}
-use mathlib.Core.Bool.{Bool, true, false, cond, not, _&&_, _||_, and-false, or-false, and-true, or-self, true≢false, false≢true}
-use mathlib.Core.List.{List, [], _∷_, _++_}
+use mathlib.Core.Bool.{Bool, true, false, cond, not, _&&_, _||_, and-false, or-false, or-true, and-true, or-self, true≢false, false≢true}
+use mathlib.Core.List.{[], _∷_}
 use mathlib.Core.Logic.{_⊎_, inl, inr, ⊎-elim}
 use Prim.Native.Nat.{ℕ, zero, suc, _+_, _-_, _*_, _/_, _%_, _^_, _<_, _≤_, min, max}
 use native.Mathlib.Omega.{arith}
 use native.Mathlib.Nat.{pow-suc, one-mul, div-eq-of-lt, lt-of-lt-of-le, not-suc-le-zero, mod-eq-of-lt, mod-lt}
-use native.Mathlib.Decide.{ℕ-discrete}
 use lib.Arith.{digits-mod}
 use lib.Pow.{pow-lt, pow-pos, pow-mono, pow-add, shl-shr, shl-exact, shr-shr, mod-pow-add}
 use lib.Bits.{bitAnd, bitOr, or-shr, and-shr, or-step, and-step, or-add-and}
@@ -85,6 +84,7 @@ test-and a b k =
 
 -- ---- no member, one member, members below a bound
 
+-- The empty map: every quotient of 0 is 0.
 pub test-zero : (k : ℕ) → test-bit 0 k ≡ false
 unfolding test-bit
 test-zero k = ap (λ (x : ℕ). eqb (x % 2) 1) (div-eq-of-lt (pow-pos k))
@@ -122,7 +122,7 @@ test-pow-by a k false e = ap (λ (x : ℕ). eqb x 1) (⊎-elim (pow-below a k) (
 pub test-pow : (a k : ℕ) → test-bit (2 ^ a) k ≡ eqb k a
 test-pow a k = test-pow-by a k (eqb k a) refl
 
--- One member more.
+-- One member more, by the union with its power of two.
 pub test-insert : (m a k : ℕ) → test-bit (bitOr m (2 ^ a)) k ≡ (test-bit m k || eqb k a)
 test-insert m a k = test-or m (2 ^ a) k ∙ ap (λ (t : Bool). test-bit m k || t) (test-pow a k)
 
@@ -152,7 +152,7 @@ test-rest (suc n) x y (suc k) e =
     let p : 2 ^ suc n ≡ 2 ^ n * 2 = pow-suc 2 n in
     half-test x k ∙ test-rest n (x / 2) (y / 2) k (omega arith) ∙ ap₂ (λ (s t : Bool). s && not t) (sym (ltb-suc k n)) (sym (half-test y k))
 
--- The members of a that are not in b, for an a of n digits.
+-- The members of a that are not in b: the intersection with the complement. From n on neither side has members, since a has n digits.
 pub test-minus : (n a b k : ℕ) → a < 2 ^ n → b < 2 ^ n → test-bit (bitAnd a (2 ^ n - 1 - b)) k ≡ (test-bit a k && not (test-bit b k))
 test-minus n a b k ha hb = test-and a (2 ^ n - 1 - b) k ∙ ap (λ (t : Bool). test-bit a k && t) (test-rest n (2 ^ n - 1 - b) b k (omega arith)) ∙ go (ltb k n) refl
   where
@@ -171,6 +171,7 @@ same-below (suc n) a b ha hb h =
     let low : a % 2 ≡ b % 2 = same-digit (a % 2) (b % 2) (omega arith) (omega arith) (sym (low-test a) ∙ h 0 (omega arith) ∙ low-test b) in
     omega arith
 
+-- Each power of two is at least twice the one before.
 pub below-pow : (n : ℕ) → n < 2 ^ n
 below-pow zero = omega arith
 below-pow (suc n) = let h : n < 2 ^ n = below-pow n in let p : 2 ^ suc n ≡ 2 ^ n * 2 = pow-suc 2 n in omega arith
@@ -182,20 +183,44 @@ same-map a b h =
 
 -- ---- the map of the numbers that pass a test
 
--- A member that does not stand is put in by a sum: union and intersection add up to the sum, and the intersection is empty.
+-- The sum of two maps that share no member is their union: union and intersection add up to the sum, and the intersection is empty.
+pub add-is-union : (a b : ℕ) → ((k : ℕ) → (test-bit a k && test-bit b k) ≡ false) → a + b ≡ bitOr a b
+add-is-union a b h =
+    let s : bitOr a b + bitAnd a b ≡ a + b = or-add-and a b in
+    let z : bitAnd a b ≡ 0 = same-map (bitAnd a b) 0 (λ k. test-and a b k ∙ h k ∙ sym (test-zero k)) in
+    omega arith
+
+-- So its members are those of either.
+pub test-add : (a b : ℕ) → ((k : ℕ) → (test-bit a k && test-bit b k) ≡ false) → (k : ℕ) → test-bit (a + b) k ≡ (test-bit a k || test-bit b k)
+test-add a b h k = ap (λ (x : ℕ). test-bit x k) (add-is-union a b h) ∙ test-or a b k
+
+-- So a member that does not stand is put in by a sum.
 pub add-is-insert : (m k : ℕ) → test-bit m k ≡ false → m + 2 ^ k ≡ bitOr m (2 ^ k)
-add-is-insert m k e = let s : bitOr m (2 ^ k) + bitAnd m (2 ^ k) ≡ m + 2 ^ k = or-add-and m (2 ^ k) in let z : bitAnd m (2 ^ k) ≡ 0 = empty in omega arith
+add-is-insert m k e = add-is-union m (2 ^ k) (λ j. ap (λ (t : Bool). test-bit m j && t) (test-pow k j) ∙ at j (eqb j k) refl)
   where
     at : (j : ℕ) (t : Bool) → eqb j k ≡ t → (test-bit m j && t) ≡ false
     at j true q = rw (eqb-true j k q, e)
     at j false q = and-false (test-bit m j)
-    empty : bitAnd m (2 ^ k) ≡ 0
-    empty = same-map (bitAnd m (2 ^ k)) 0 (λ j. test-and m (2 ^ k) j ∙ ap (λ (t : Bool). test-bit m j && t) (test-pow k j) ∙ at j (eqb j k) refl ∙ sym (test-zero j))
+
+-- A map that lost a member is smaller: the sum that puts the member in again is the map.
+pub removed-lt : (m r k : ℕ) → test-bit m k ≡ true → ((j : ℕ) → test-bit r j ≡ (test-bit m j && not (eqb j k))) → r < m
+removed-lt m r k e h =
+    let s : r + 2 ^ k ≡ m = add-is-insert r k absent ∙ same-map (bitOr r (2 ^ k)) m (λ j. test-insert r k j ∙ ap (λ (t : Bool). t || eqb j k) (h j) ∙ at j (eqb j k) refl) in
+    let p : 0 < 2 ^ k = pow-pos k in
+    omega arith
+  where
+    absent : test-bit r k ≡ false
+    absent = h k ∙ ap (λ (t : Bool). test-bit m k && not t) (eq-eqb k k refl) ∙ and-false (test-bit m k)
+
+    at : (j : ℕ) (t : Bool) → eqb j k ≡ t → (test-bit m j && not t || t) ≡ test-bit m j
+    at j true q = or-true (test-bit m j && false) ∙ sym (ap (test-bit m) (eqb-true j k q) ∙ e)
+    at j false q = or-false (test-bit m j && true) ∙ and-true (test-bit m j)
 
 cond-lt : (t : Bool) (b p q : ℕ) → b < p → q ≡ p * 2 → b + cond t p 0 < q
 cond-lt true b p q h e = omega arith
 cond-lt false b p q h e = omega arith
 
+-- By induction: what is added at n at most doubles the bound.
 pub bits-below-lt : (f : ℕ → Bool) (n : ℕ) → bits-below f n < 2 ^ n
 unfolding bits-below
 bits-below-lt f zero = omega arith
@@ -208,6 +233,7 @@ ltb-more k n = by (ltb k n) refl
     here : (t : Bool) → eqb k n ≡ t → n ≤ k → ltb k (suc n) ≡ t
     here true e l = let p : k ≡ n = eqb-true k n e in lt-ltb k (suc n) (omega arith)
     here false e l = let p : k ≡ n → ⊥ = eqb-false k n e in le-ltb k (suc n) (omega arith)
+
     by : (t : Bool) → ltb k n ≡ t → ltb k (suc n) ≡ (t || eqb k n)
     by true e = let p : k < n = ltb-true k n e in lt-ltb k (suc n) (omega arith)
     by false e = here (eqb k n) refl (ltb-false k n e)
@@ -223,6 +249,7 @@ test-bits-below f (suc n) k = more (f n) refl (test-bits-below f n k) ∙ ap (λ
     at true false u e q = or-false (f k)
     at false true u e q = sym (ap f (eqb-true k n e) ∙ q)
     at false false u e q = refl
+
     more : (u : Bool) → f n ≡ u → test-bit (bits-below f n) k ≡ (ltb k n && f k) → test-bit (bits-below f n + cond u (2 ^ n) 0) k ≡ ((ltb k n || eqb k n) && f k)
     more true q ih =
         ap (λ (x : ℕ). test-bit x k) (add-is-insert (bits-below f n) n (test-above (bits-below f n) n n (bits-below-lt f n) (omega arith)))
@@ -234,17 +261,25 @@ test-bits-below f (suc n) k = more (f n) refl (test-bits-below f n k) ∙ ap (λ
         ∙ sym (ap (λ (t : Bool). ltb k n && f k || t) (and-false (eqb k n)) ∙ or-false (ltb k n && f k))
         ∙ at (ltb k n) (eqb k n) false refl q
 
+-- A number of n digits that has the members is the map: both are below 2 ^ n and agree there.
 pub bits-below-is : (f : ℕ → Bool) (n m : ℕ) → m < 2 ^ n → ((k : ℕ) → k < n → test-bit m k ≡ f k) → bits-below f n ≡ m
 bits-below-is f n m h e =
     same-below n (bits-below f n) m (bits-below-lt f n) h
     (λ k l. test-bits-below f n k ∙ ap (λ (t : Bool). t && f k) (lt-ltb k n l) ∙ sym (e k l))
 
--- ---- subset, and maps that share no member
+-- Tests that agree below n give the same map.
+pub bits-below-ext : (f g : ℕ → Bool) (n : ℕ) → ((k : ℕ) → k < n → f k ≡ g k) → bits-below f n ≡ bits-below g n
+bits-below-ext f g n e =
+    bits-below-is f n (bits-below g n) (bits-below-lt g n)
+    (λ k l. test-bits-below g n k ∙ ap (λ (t : Bool). t && g k) (lt-ltb k n l) ∙ sym (e k l))
 
--- Each member of a is one of b.
+-- ---- subset, and maps that share a member
+
+-- Each member of a is one of b: it stands in the intersection.
 pub within-test : (a b : ℕ) → bitAnd a b ≡ a → (k : ℕ) → test-bit a k ≡ true → test-bit b k ≡ true
 within-test a b e k h = ap (λ (t : Bool). t && test-bit b k) (sym h) ∙ sym (test-and a b k) ∙ ap (λ (x : ℕ). test-bit x k) e ∙ h
 
+-- The other way: member by member the intersection is a.
 pub test-within : (a b : ℕ) → ((k : ℕ) → test-bit a k ≡ true → test-bit b k ≡ true) → bitAnd a b ≡ a
 test-within a b h = same-map (bitAnd a b) a (λ k. test-and a b k ∙ by k (test-bit a k) refl)
   where
@@ -252,8 +287,8 @@ test-within a b h = same-map (bitAnd a b) a (λ k. test-and a b k ∙ by k (test
     by k true e = h k e
     by k false e = refl
 
--- What `any-below` says: a number that passes, or that none does.
-found-below : (f : ℕ → Bool) (n : ℕ) → any-below f n ≡ true → (k : ℕ) × (k < n) × (f k ≡ true)
+-- What the answer of `any-below` says: true, a number that passes. By induction on the bound.
+pub found-below : (f : ℕ → Bool) (n : ℕ) → any-below f n ≡ true → (k : ℕ) × (k < n) × (f k ≡ true)
 unfolding any-below
 found-below f zero e = absurd (false≢true e)
 found-below f (suc n) e = by (any-below f n) refl e (found-below f n)
@@ -262,7 +297,8 @@ found-below f (suc n) e = by (any-below f n) refl e (found-below f n)
     by true q h ih = let w = ih q in (w .0, (let l : w .0 < n = w .1 in omega arith), w .2)
     by false q h ih = (n, omega arith, h)
 
-none-below : (f : ℕ → Bool) (n k : ℕ) → any-below f n ≡ false → k < n → f k ≡ false
+-- The other answer, by induction on the bound.
+pub none-below : (f : ℕ → Bool) (n k : ℕ) → any-below f n ≡ false → k < n → f k ≡ false
 unfolding any-below
 none-below f zero k e l = absurd (not-suc-le-zero l)
 none-below f (suc n) k e l = by (any-below f n) refl e (none-below f n k)
@@ -270,17 +306,19 @@ none-below f (suc n) k e l = by (any-below f n) refl e (none-below f n k)
     last : (t : Bool) → eqb k n ≡ t → f n ≡ false → (k < n → f k ≡ false) → f k ≡ false
     last true q h ih = ap f (eqb-true k n q) ∙ h
     last false q h ih = let p : k ≡ n → ⊥ = eqb-false k n q in ih (omega arith)
+
     by : (t : Bool) → any-below f n ≡ t → (t || f n) ≡ false → (any-below f n ≡ false → k < n → f k ≡ false) → f k ≡ false
     by true q h ih = absurd (true≢false h)
     by false q h ih = last (eqb k n) refl h (ih q)
 
--- A map is empty exactly if no number is a member.
+-- Some number is a member exactly if the map is not 0: a member rules out 0, and a map with none is equal to 0.
 pub any-member : (n m : ℕ) → m < 2 ^ n → any-below (test-bit m) n ≡ not (eqb m 0)
 any-member n m h = by (any-below (test-bit m) n) refl
   where
     full : (t : Bool) → eqb m 0 ≡ t → (k : ℕ) × (k < n) × (test-bit m k ≡ true) → true ≡ not t
     full true e w = sym (w .2) ∙ ap (λ (x : ℕ). test-bit x (w .0)) (eqb-true m 0 e) ∙ test-zero (w .0)
     full false e w = refl
+
     by : (t : Bool) → any-below (test-bit m) n ≡ t → t ≡ not (eqb m 0)
     by true e = full (eqb m 0) refl (found-below (test-bit m) n e)
     by false e =
@@ -307,10 +345,11 @@ count-below (suc n) m =
     one (suc zero) h = refl
     one (suc (suc x)) h = absurd (let f : ⊥ = omega arith in f)
 
+-- A number of n digits has no members from n on.
 pub count-members : (n m : ℕ) → m < 2 ^ n → length (select-below (test-bit m) n) ≡ ones m
 count-members n m h = count-below n m ∙ ap ones (mod-eq-of-lt h)
 
--- The least member of a map that is not empty: all below it is absent. By induction on the width: the lowest digit stands, or the half has the answer.
+-- The least member of a map that is not empty is below its width, stands, and all below it is absent. Each by induction on the width: the lowest digit stands, or the half has the answer.
 pub lowest-lt : (n m : ℕ) → m < 2 ^ n → 0 < m → trailingZeros n m < n
 unfolding trailingZeros
 lowest-lt zero m h l = omega arith
@@ -353,6 +392,13 @@ one-shl k h = shl-exact {a = 1} 1 k 64 (omega arith) (omega arith) ∙ one-mul (
 pub test-insert-shl : (m k j : ℕ) → k < 64 → test-bit (bitOr m (1 * 2 ^ k % 2 ^ 64)) j ≡ (test-bit m j || eqb j k)
 test-insert-shl m k j h = ap (λ (x : ℕ). test-bit (bitOr m x) j) (one-shl k h) ∙ test-insert m k j
 
--- Two words that agree below 64 are equal.
+-- `m & !(1 << k)`
+pub test-remove-shl : (m k j : ℕ) → m < 2 ^ 64 → k < 64 → test-bit (bitAnd m (2 ^ 64 - 1 - 1 * 2 ^ k % 2 ^ 64)) j ≡ (test-bit m j && not (eqb j k))
+test-remove-shl m k j hm h =
+    ap (λ (x : ℕ). test-bit (bitAnd m (2 ^ 64 - 1 - x)) j) (one-shl k h)
+    ∙ test-minus 64 m (2 ^ k) j hm (pow-lt h)
+    ∙ ap (λ (t : Bool). test-bit m j && not t) (test-pow k j)
+
+-- Two words that agree below 64 are equal: the law above, at 64.
 pub same-word : (a b : ℕ) → a < 2 ^ 64 → b < 2 ^ 64 → ((k : ℕ) → k < 64 → test-bit a k ≡ test-bit b k) → a ≡ b
 same-word = same-below 64
