@@ -1,0 +1,4 @@
+pub mod Digits
+pub mod Pushing
+pub mod Listing
+pub mod Serializing

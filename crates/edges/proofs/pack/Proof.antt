@@ -1,0 +1,58 @@
+-- `edges::pack` meets its contract.
+use native.Mathlib.Omega.{arith}
+use borrow.Author.Needs.{needs}
+use mathlib.Core.Path.{_∙_}
+use Rattle.edges.proofs.Digits.{same-edge, digit-kept}
+use Rattle.edges.proofs.pack.Statement.{statement}
+use Rattle.edges.proofs.pack.Tie as tie
+use Rattle.edges.proofs.pack.Reads as reads
+use Rattle.edges.proofs.pack.Lts as lts
+use Rattle.edges.proofs.digit.Reads as digit-reads
+use Rattle.edges.proofs.wide32.Reads as wide32-reads
+use Rattle.edges.proofs.wide8.Reads as wide8-reads
+use Rattle.edges.proofs.word.Reads as word-reads
+
+wide8-requires : tie.Need-wide8-requires
+wide8-requires c κs = search needs
+
+wide8-requires-2 : tie.Need-wide8-requires-2
+wide8-requires-2 c κs = search needs
+
+wide32-requires : tie.Need-wide32-requires
+wide32-requires c κs = search needs
+
+wide32-requires-2 : tie.Need-wide32-requires-2
+wide32-requires-2 c κs = search needs
+
+digit-requires : tie.Need-digit-requires
+digit-requires c κs = search needs
+
+digit-requires-2 : tie.Need-digit-requires-2
+digit-requires-2 c κs = search needs
+
+word-requires : tie.Need-word-requires
+word-requires c κs = search needs
+
+returns : tie.Need-returns
+returns c h hg hl =
+    c .word .ensures
+    ∙ same-edge
+    (digit-kept (c .before .before .before .before .before .before .wide8 .ensures .0) (h .0))
+    (digit-kept (c .before .before .before .before .before .wide82 .ensures .0) (h .1))
+    (digit-kept (c .before .before .before .before .wide32 .ensures) hg)
+    (digit-kept (c .before .before .before .wide322 .ensures) hl)
+    (c .before .before .digit .ensures .0)
+    (c .before .digit2 .ensures .0)
+
+pub pack-spec : {M : Type 1} → statement M
+pack-spec =
+    tie.close
+    (tie.spec
+    wide8-requires
+    wide8-requires-2
+    wide32-requires
+    wide32-requires-2
+    digit-requires
+    digit-requires-2
+    word-requires
+    returns)

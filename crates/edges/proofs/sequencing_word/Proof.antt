@@ -1,0 +1,50 @@
+-- `edges::sequencing_word` meets its contract.
+use native.Mathlib.Omega.{arith}
+use borrow.Author.Needs.{needs}
+use mathlib.Core.Path.{refl, _∙_}
+use Rattle.definitions.specs.Links.{sequencing-edge}
+use Rattle.edges.proofs.Digits.{same-edge}
+use Rattle.edges.proofs.sequencing_word.Statement.{statement}
+use Rattle.edges.proofs.sequencing_word.Tie as tie
+use Rattle.edges.proofs.sequencing_word.Reads as reads
+use Rattle.edges.proofs.sequencing_word.Lts as lts
+use Rattle.edges.proofs.pack.Reads as pack-reads
+use Rattle.edges.proofs.ticks_of.Reads as ticks-of-reads
+
+enum-told : tie.Need-enum-told
+enum-told c = search needs
+
+pack-requires : tie.Need-pack-requires
+pack-requires c κs = search needs
+
+enum-known-delay : tie.Need-enum-known-delay
+enum-known-delay c = search needs
+
+ticks-of-requires : tie.Need-ticks-of-requires
+ticks-of-requires c κs = search needs
+
+pack-requires-2 : tie.Need-pack-requires-2
+pack-requires-2 c κs = search needs
+
+returns : tie.Need-returns
+unfolding sequencing-edge
+returns c h = rw (c .before .enum-told .given .1) (c .pack .ensures h (omega arith) (omega arith))
+
+returns-2 : tie.Need-returns-2
+unfolding sequencing-edge
+returns-2 c h =
+    rw (c .before .before .before .delay .given .1)
+    (c .pack2 .ensures h (omega (arith, c .before .ticks-of .ensures .1)) (omega arith)
+    ∙ same-edge refl refl (c .before .ticks-of .ensures .0) refl refl refl)
+
+pub sequencing-word-spec : {M : Type 1} → statement M
+sequencing-word-spec =
+    tie.close
+    (tie.spec
+    enum-told
+    pack-requires
+    enum-known-delay
+    ticks-of-requires
+    pack-requires-2
+    returns
+    returns-2)

@@ -1,0 +1,1 @@
+// Heaviest walks by rounds over edge words.
