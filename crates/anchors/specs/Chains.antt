@@ -38,8 +38,8 @@ pub record Closed (n : ℕ) (g : List Edge) (rows : List ℕ) : Type 0 where
   pub chains : (u v : ℕ) → v < n → (row-bit rows v u ≡ true) ↔ Travels (Forward (members g)) u v
 
 -- The rows are the anchor sets: bit a of row v says that a is in the set of v. No other bit stands.
-abbrev pub AnchorSets : ℕ → List Edge → List ℕ → Type 0
-AnchorSets n g rows = (a v : ℕ) → row-bit rows v a ≡ (ltb v n && (ltb a n && in-anchor-set n g a v))
+pub record AnchorSets (n : ℕ) (g : List Edge) (rows : List ℕ) : Type 0 where
+  pub bits : (a v : ℕ) → row-bit rows v a ≡ (ltb v n && (ltb a n && in-anchor-set n g a v))
 
 -- Whether a is an anchor of an operation, from the test of that operation and all that comes before it: one of the targets of a passes. Step 0 is in every set.
 abbrev pub anchors-to : List ℕ → (ℕ → Bool) → ℕ → Bool

@@ -65,12 +65,11 @@ loop-again c =
     )
 
 returns : tie.Need-returns Inv-loop μ-loop
-returns c g closed counted a v =
+returns c g closed counted =
     let s = c .before in
     let e : s .loop .v ≡ s .before .args .n = omega arith in
-    s .loop .inv .1 .bits v a
-    ∙ ap (λ (x : ℕ). ltb v x && anchored (s .before .args .closed .now) (s .before .args .targets .now) (s .before .args .n) v a) e
-    ∙ sets-by closed counted (search needs) a v
+    let few : s .before .args .n ≤ 64 = search needs in
+    record { bits = λ a v. s .loop .inv .1 .bits v a ∙ ap (λ (x : ℕ). ltb v x && anchored (s .before .args .closed .now) (s .before .args .targets .now) (s .before .args .n) v a) e ∙ sets-by closed counted few a v }
 
 pub anchor-sets-spec : {M : Type 1} → statement M
 anchor-sets-spec =

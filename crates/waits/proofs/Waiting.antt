@@ -1,0 +1,137 @@
+-- What the rows of waits are: the maps of the definition, and their count.
+use mathlib.Core.Path.{_≡_, refl, sym, ap, _∙_}
+use mathlib.Core.Bool.{Bool, true, false, cond, not, _&&_}
+use mathlib.Core.List.{List, List·Memᴰ, map}
+use Prim.Native.Nat.{ℕ, _+_, _-_, _<_, _≤_}
+use native.Mathlib.Omega.{arith}
+use lib.Dec.{eqb, ltb}
+use lib.ListN.{length, getD, length-map}
+use lib.Seq.{ext-getD}
+use borrow.Author.Tests.{eq-eqb, eqb-true, le-ltb, lt-ltb, ltb-true, not-true}
+use Rattle.definitions.specs.Anchors.{in-anchor-set}
+use Rattle.definitions.specs.Answers.{inconsistent}
+use Rattle.definitions.specs.Basics.{any, any-below, select-below, tabulate, test-bit}
+use Rattle.definitions.specs.Links.{Edge, members, usable}
+use Rattle.definitions.specs.Rounds.{after-reaches}
+use Rattle.definitions.specs.Waits.{WaitPair, wait-count, wait-list, wait-map, wait-maps, waits-for, waits-of}
+use Rattle.laws.proofs.Bools.{and-join, and-split, not-passing, both-ways, same-test}
+use Rattle.laws.proofs.Counts.{sum-below, sum-below-same, sum-below-cut, sum-below-swap, select-length, flatMap-length}
+use Rattle.laws.proofs.Maps.{same-map}
+use Rattle.laws.proofs.Searches.{any-below-same}
+use Rattle.laws.proofs.Tests.{any-by, any-has, tabulate-length}
+use Rattle.relations.specs.Rows.{row-bit, Gathered}
+use Rattle.theory.specs.Graphs.{Shape}
+use Rattle.theory.proofs.Reachability.{after-reaches-iff}
+use Rattle.theory.proofs.WaitLists.{usable-all, wait-map-bit, wait-maps-at}
+use Rattle.theory.proofs.Walks.{after-start-below}
+use Rattle.waits.specs.Reaching.{Reaches, Known, holds-up}
+
+-- In the base every edge is usable, so rows that speak of the edges as sent will do. Request L11 changes this.
+pub reaches-by : (n : ℕ) (g : List Edge) (rows : List ℕ) → ((a v : ℕ) → row-bit rows v a ≡ after-reaches n g a v) → Reaches n g rows
+reaches-by n g rows h = record { bits = λ a v b. h a v ∙ ap (λ (x : List Edge). after-reaches n x a v) (sym (usable-all g a)) }
+
+-- Refusal 11 is a loop of the rows.
+pub loop-is-inconsistent : {n : ℕ} {g : List Edge} {rows : List ℕ} → Reaches n g rows → any-below (λ (v : ℕ). row-bit rows v v) n ≡ inconsistent n g
+unfolding inconsistent
+loop-is-inconsistent {n} {g} {rows} h = any-below-same (λ (v : ℕ). row-bit rows v v) (λ (a : ℕ). after-reaches n (usable g a) a a) n (λ v b. h .bits v v b)
+
+module _ {n : ℕ} {g : List Edge} {reach sets : List ℕ} (known : Known n g reach sets) where
+  -- An anchor that reaches something is below n.
+  reaching-below : (a v : ℕ) → after-reaches n (usable g a) a v ≡ true → a < n
+  reaching-below a v h = after-start-below (known .shape) (after-reaches-iff (known .shape) a v .0 (sym (ap (λ (x : List Edge). after-reaches n x a v) (usable-all g a)) ∙ h))
+
+  set-bit : {a i : ℕ} → a < n → i < n → row-bit sets i a ≡ in-anchor-set n g a i
+  set-bit {a} {i} b c =
+      known .anchors .bits a i
+      ∙ ap (λ (t : Bool). t && (ltb a n && in-anchor-set n g a i)) (lt-ltb i n c)
+      ∙ ap (λ (t : Bool). t && in-anchor-set n g a i) (lt-ltb a n b)
+
+  -- Some backward edge makes i wait for a exactly where the definition lists that wait.
+  pub held-up : (i a : ℕ) → any (holds-up reach sets i a) g ≡ (ltb a n && (ltb i n && waits-for n g a i))
+  unfolding waits-for
+  held-up i a = same-test (any (holds-up reach sets i a) g) (ltb a n && (ltb i n && (any returning g && not (in-anchor-set n g a i)))) found test
+    where
+      returning : Edge → Bool
+      returning e = e .back && eqb (e .to) i && after-reaches n (usable g a) a (e .from)
+
+      found : any (holds-up reach sets i a) g ≡ true → (ltb a n && (ltb i n && (any returning g && not (in-anchor-set n g a i)))) ≡ true
+      found h =
+          let r = any-has (holds-up reach sets i a) g h in
+          let e = r .0 in
+          let s = and-split (eqb i (e .to)) (e .back && (row-bit reach (e .from) a && not (row-bit sets (e .to) a))) (r .2) in
+          let t = and-split (e .back) (row-bit reach (e .from) a && not (row-bit sets (e .to) a)) (s .1) in
+          let u = and-split (row-bit reach (e .from) a) (not (row-bit sets (e .to) a)) (t .1) in
+          let into = eqb-true i (e .to) (s .0) in
+          let comes = sym (known .reaches .bits a (e .from) (known .shape .from-below e (r .1))) ∙ u .0 in
+          let small : a < n = reaching-below a (e .from) comes in
+          let inside : i < n = omega (arith, known .shape .to-below e (r .1)) in
+          and-join
+          (lt-ltb a n small)
+          (and-join
+          (lt-ltb i n inside)
+          (and-join
+          (any-by returning g (r .1) (and-join (and-join (t .0) (eq-eqb (e .to) i (sym into))) comes))
+          (ap not (sym (set-bit small inside) ∙ ap (λ (x : ℕ). row-bit sets x a) into ∙ not-true (row-bit sets (e .to) a) (u .1)))))
+
+      test : (ltb a n && (ltb i n && (any returning g && not (in-anchor-set n g a i)))) ≡ true → any (holds-up reach sets i a) g ≡ true
+      test h =
+          let p = and-split (ltb a n) (ltb i n && (any returning g && not (in-anchor-set n g a i))) h in
+          let q = and-split (ltb i n) (any returning g && not (in-anchor-set n g a i)) (p .1) in
+          let w = and-split (any returning g) (not (in-anchor-set n g a i)) (q .1) in
+          let r = any-has returning g (w .0) in
+          let e = r .0 in
+          let s = and-split (e .back && eqb (e .to) i) (after-reaches n (usable g a) a (e .from)) (r .2) in
+          let t = and-split (e .back) (eqb (e .to) i) (s .0) in
+          let into = eqb-true (e .to) i (t .1) in
+          any-by
+          (holds-up reach sets i a)
+          g
+          (r .1)
+          (and-join
+          (eq-eqb i (e .to) (sym into))
+          (and-join
+          (t .0)
+          (and-join
+          (known .reaches .bits a (e .from) (known .shape .from-below e (r .1)) ∙ s .1)
+          (ap (λ (x : ℕ). not (row-bit sets x a)) into ∙ ap not (set-bit (ltb-true a n (p .0)) (ltb-true i n (q .0))) ∙ w .1))))
+
+  -- So the rows are the maps: two maps with the same bits are the same.
+  pub maps-by : {rows : List ℕ} → Gathered (holds-up reach sets) g rows → rows ≡ wait-maps n g
+  unfolding wait-maps
+  maps-by {rows} h =
+      ext-getD 0 rows (wait-maps n g) (h .long ∙ sym (tabulate-length (wait-map n g) 64)) (λ i b. same-map (getD rows i 0) (getD (wait-maps n g) i 0) (λ a. h .bits i a ∙ held-up i a ∙ sym (wait-map-bit n g i a) ∙ ap (λ (m : ℕ). test-bit m a) (sym (wait-maps-at n g i (omega (arith, h .long))))))
+
+-- The count of the waits, listed by a and then by i, is the sum of the members of each map.
+pub count-by : (n : ℕ) (g : List Edge) (maps : List ℕ) → n ≤ 64 → maps ≡ wait-maps n g → sum-below (λ i. length (select-below (test-bit (getD maps i 0)) 64)) n ≡ wait-count n g
+unfolding wait-count wait-list waits-of
+count-by n g maps few h =
+    sum-below-same (λ i. length (select-below (test-bit (getD maps i 0)) 64)) (λ i. sum-below (λ a. bit a i) n) n column
+    ∙ sym (sum-below-swap bit n n)
+    ∙ sum-below-same (λ a. sum-below (bit a) n) (λ a. length (waits-of n g a)) n (λ a b. sym (length-map (select-below (waits-for n g a) n) (pair a) ∙ select-length (waits-for n g a) n))
+    ∙ sym (flatMap-length (waits-of n g) n)
+  where
+    bit : ℕ → ℕ → ℕ
+    bit a i = cond (waits-for n g a i) 1 0
+
+    pair : ℕ → ℕ → WaitPair
+    pair a i = record { anchor = a; target = i }
+
+    column : (i : ℕ) → i < n → length (select-below (test-bit (getD maps i 0)) 64) ≡ sum-below (λ a. bit a i) n
+    column i b =
+        select-length (test-bit (getD maps i 0)) 64
+        ∙ ap (sum-below (λ a. cond (test-bit (getD maps i 0) a) 1 0)) wide
+        ∙ sum-below-cut (λ a. cond (test-bit (getD maps i 0) a) 1 0) n (64 - n) past
+        ∙ sum-below-same (λ a. cond (test-bit (getD maps i 0) a) 1 0) (λ a. bit a i) n within
+      where
+        wide : 64 ≡ 64 - n + n
+        wide = omega arith
+
+        standing : (a : ℕ) → test-bit (getD maps i 0) a ≡ (ltb a n && (ltb i n && waits-for n g a i))
+        standing a = ap (λ (l : List ℕ). test-bit (getD l i 0) a) h ∙ ap (λ (m : ℕ). test-bit m a) (wait-maps-at n g i (omega arith)) ∙ wait-map-bit n g i a
+
+        past : (a : ℕ) → n ≤ a → _≡_ {A = ℕ} (cond (test-bit (getD maps i 0) a) 1 0) 0
+        past a c = ap (λ (t : Bool). cond t 1 0) (standing a ∙ ap (λ (t : Bool). t && (ltb i n && waits-for n g a i)) (le-ltb a n c))
+
+        within : (a : ℕ) → a < n → cond (test-bit (getD maps i 0) a) 1 0 ≡ bit a i
+        within a c =
+            ap (λ (t : Bool). cond t 1 0) (standing a ∙ ap (λ (t : Bool). t && (ltb i n && waits-for n g a i)) (lt-ltb a n c) ∙ ap (λ (t : Bool). t && waits-for n g a i) (lt-ltb i n b))

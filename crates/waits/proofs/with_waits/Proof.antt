@@ -1,0 +1,41 @@
+-- `waits::with_waits` meets its contract: a backward edge brings its waits in, a forward edge changes nothing.
+use mathlib.Core.Path.{_≡_, refl, sym, ap, _∙_}
+use mathlib.Core.Bool.{Bool, true, false, not, _&&_, _||_}
+use mathlib.Core.List.{List}
+use Prim.Native.Nat.{ℕ, _+_, _-_, _*_, _<_, _≤_}
+use lib.Dec.{eqb, ltb}
+use Rattle.definitions.specs.Basics.{test-bit}
+use Rattle.edges.specs.Words.{unpack}
+use Rattle.relations.proofs.Gathering.{or-skip, or-take}
+use native.Mathlib.Omega.{arith}
+use borrow.Author.Needs.{needs}
+use Rattle.waits.proofs.with_waits.Statement.{statement}
+use Rattle.waits.proofs.with_waits.Tie as tie
+use Rattle.waits.proofs.with_waits.Reads as reads
+use Rattle.waits.proofs.with_waits.Lts as lts
+use Rattle.bitmaps.proofs.minus.Reads as minus-reads
+use Rattle.bitmaps.proofs.union.Reads as union-reads
+use Rattle.edges.proofs.is_back.Reads as is-back-reads
+
+is-back-requires : tie.Need-is-back-requires
+is-back-requires c κs = search needs
+
+minus-requires : tie.Need-minus-requires
+minus-requires c κs = search needs
+
+union-requires : tie.Need-union-requires
+union-requires c κs = search needs
+
+returns : tie.Need-returns
+returns c a =
+    let given = c .before .before .before .before .args in
+    c .union .ensures a
+    ∙ ap (λ (t : Bool). test-bit (given .map) a || t) (c .before .minus .ensures a)
+    ∙ or-take (test-bit (given .map) a) (unpack (given .w) .back) (test-bit (given .reach) a && not (test-bit (given .set) a)) (sym (c .before .before .before .is-back .ensures) ∙ c .before .before .if1 .taken)
+
+returns-2 : tie.Need-returns-2
+returns-2 c a = or-skip _ _ _ (sym (c .before .is-back .ensures) ∙ c .if1 .left)
+
+pub with-waits-spec : {M : Type 1} → statement M
+with-waits-spec =
+    tie.close (tie.spec is-back-requires minus-requires union-requires returns returns-2)
