@@ -4,13 +4,14 @@ ghost use mathlib.Core.Bool.{not, _&&_, _||_};
 ghost use mathlib.Core.List.{List};
 ghost use Prim.Native.Nat.{ℕ, _<_, _≤_};
 ghost use lib.Dec.{eqb, ltb};
+ghost use Rattle.closure.specs.Chains.{Closure};
 ghost use Rattle.definitions.specs.Answers.{closes-circle, unreached};
 ghost use Rattle.definitions.specs.Basics.{any-below, test-bit};
 ghost use Rattle.definitions.specs.Links.{Edge, members};
 ghost use Rattle.edges.specs.Words.{unpack, graph};
 ghost use Rattle.relations.specs.Rows.{row-bit};
 ghost use Rattle.theory.specs.Graphs.{Shape};
-ghost use Rattle.anchors.specs.Chains.{Predecessors, Targets, Closed, AnchorSets, anchors-to};
+ghost use Rattle.anchors.specs.Chains.{Predecessors, Targets, Closed, AnchorSets, anchors-to, at-or-before};
 
 // The row of an edge's end, with its start where the edge is forward.
 fn with_predecessor(row: u64, w: u64) -> u64
@@ -67,7 +68,8 @@ pub fn targets(es: &[u64]) -> [u64; 64]
 // Bit u of row v, below n: a chain of at least one forward edge goes from u to v.
 pub fn forward(es: &[u64], n: usize) -> [u64; 64]
     requires { ⌜ n ≤ 64 ⌝ }
-    ensures { λ r. ⌜ (Shape n (members (graph (now (es .entry)))) → Closed n (graph (now (es .entry))) r) ⌝ }
+    ensures closure { λ r. ⌜ ((rows : List ℕ) → Predecessors (graph (now (es .entry))) rows → Closure n rows r) ⌝ }
+    ensures chains { λ r. ⌜ (Shape n (members (graph (now (es .entry)))) → Closed n (graph (now (es .entry))) r) ⌝ }
 {
     closure::close(predecessors(es), n)
 }
@@ -75,7 +77,8 @@ pub fn forward(es: &[u64], n: usize) -> [u64; 64]
 // Refusal 8, from the closed rows: forward edges close a circle.
 pub fn has_cycle(closed: &[u64; 64], n: usize) -> bool
     requires { ⌜ n ≤ 64 ⌝ }
-    ensures { λ r. ⌜ ((g : List Edge) → Closed n g (now (closed .entry)) → r ≡ closes-circle n g) ⌝ }
+    ensures bits { λ r. ⌜ r ≡ any-below (λ v. row-bit (now (closed .entry)) v v) n ⌝ }
+    ensures circle { λ r. ⌜ ((g : List Edge) → Closed n g (now (closed .entry)) → r ≡ closes-circle n g) ⌝ }
 {
     relations::has_loop(closed, n)
 }
@@ -83,7 +86,8 @@ pub fn has_cycle(closed: &[u64; 64], n: usize) -> bool
 // Refusal 9, from the closed rows: some step is not step 0 and does not come after it.
 pub fn has_unreached(closed: &[u64; 64], n: usize) -> bool
     requires { ⌜ n ≤ 64 ⌝ }
-    ensures { λ r. ⌜ ((g : List Edge) → Closed n g (now (closed .entry)) → r ≡ unreached n g) ⌝ }
+    ensures bits { λ r. ⌜ r ≡ any-below (λ v. not (eqb v 0 || row-bit (now (closed .entry)) v 0)) n ⌝ }
+    ensures missing { λ r. ⌜ ((g : List Edge) → Closed n g (now (closed .entry)) → r ≡ unreached n g) ⌝ }
 {
     let mut v = 1;
     while v < n {
@@ -133,7 +137,8 @@ fn anchor_row(before: u64, targets: &[u64; 64], n: usize) -> u64
 // The anchor sets, from the closed rows and the targets.
 pub fn anchor_sets(closed: &[u64; 64], targets: &[u64; 64], n: usize) -> [u64; 64]
     requires { ⌜ n ≤ 64 ⌝ }
-    ensures { λ r. ⌜ ((g : List Edge) → Closed n g (now (closed .entry)) → Targets g (now (targets .entry)) → AnchorSets n g r) ⌝ }
+    ensures bits { λ r. ⌜ ((a v : ℕ) → row-bit r v a ≡ (ltb v n && (ltb a n && anchors-to (now (targets .entry)) (at-or-before (now (closed .entry)) v) a))) ⌝ }
+    ensures sets { λ r. ⌜ ((g : List Edge) → Closed n g (now (closed .entry)) → Targets g (now (targets .entry)) → AnchorSets n g r) ⌝ }
 {
     let mut rows = [0u64; 64];
     let mut v = 0;

@@ -8,11 +8,11 @@ use native.Mathlib.Omega.{arith}
 use native.Mathlib.Decide.{decLt}
 use lib.Dec.{eqb, ltb}
 use lib.ListN.{length, getD, set, take, replicate, length-replicate, length-set}
-use lib.Seq.{getD-set-same, getD-set-other, take-all}
+use lib.Seq.{ext-getD, getD-set-same, getD-set-other, take-all}
 use borrow.Author.Tests.{eq-eqb, le-ltb, lt-ltb, ne-eqb}
 use Rattle.definitions.specs.Basics.{any, test-bit}
 use Rattle.laws.proofs.Bools.{same-or-not}
-use Rattle.laws.proofs.Maps.{test-zero}
+use Rattle.laws.proofs.Maps.{same-map, test-zero}
 use Rattle.laws.proofs.Searches.{any-snoc, map-take-more}
 use Rattle.relations.specs.Rows.{row-bit, Gathered}
 
@@ -54,6 +54,10 @@ module _ {A : Type 0} (test : ℕ → ℕ → A → Bool) where
   pub gathered-store : {xs : List A} {rows : List ℕ} (x : A) (v m : ℕ) (P : ℕ → Bool) → Gathered test xs rows → v < 64 → ((k : ℕ) → test-bit m k ≡ (row-bit rows v k || P k)) → ((w k : ℕ) → test w k x ≡ (eqb w v && P k)) → Gathered test (xs ++ x ∷ []) (set rows v m)
   gathered-store {xs} {rows} x v m P g b f t =
       record { long = length-set rows v m ∙ g .long; bits = λ w k. store-bit rows v m P (omega (arith, g .long)) f w k ∙ ap (λ (c : Bool). c || (eqb w v && P k)) (g .bits w k) ∙ ap (λ (c : Bool). any (test w k) xs || c) (sym (t w k)) ∙ sym (any-snoc (test w k) xs x) }
+
+  -- Rows are what they hold: two maps with the same bits are the same.
+  pub gathered-unique : {xs : List A} {rows rows′ : List ℕ} → Gathered test xs rows → Gathered test xs rows′ → rows ≡ rows′
+  gathered-unique {xs} {rows} {rows′} g h = ext-getD 0 rows rows′ (g .long ∙ sym (h .long)) (λ v b. same-map (getD rows v 0) (getD rows′ v 0) (λ k. g .bits v k ∙ sym (h .bits v k)))
 
   -- The same over a list that is passed over from its front, each element as f reads it.
   module _ {B : Type 0} (f : B → A) (l : List B) where

@@ -4,6 +4,7 @@ use mathlib.Core.Bool.{Bool, true, false, not, _&&_, _||_}
 use mathlib.Core.List.{List}
 use Prim.Native.Nat.{ℕ, _+_, _-_, _<_, _≤_}
 use lib.Dec.{eqb, ltb}
+use Rattle.relations.specs.Rows.{row-bit}
 use Rattle.relations.proofs.Gathering.{Made, made-no-row, made-row}
 use Rattle.anchors.specs.Chains.{anchors-to, at-or-before}
 use Rattle.anchors.proofs.Travelling.{anchors-same, sets-by}
@@ -65,11 +66,13 @@ loop-again c =
     )
 
 returns : tie.Need-returns Inv-loop μ-loop
-returns c g closed counted =
+returns c =
     let s = c .before in
     let e : s .loop .v ≡ s .before .args .n = omega arith in
     let few : s .before .args .n ≤ 64 = search needs in
-    record { bits = λ a v. s .loop .inv .1 .bits v a ∙ ap (λ (x : ℕ). ltb v x && anchored (s .before .args .closed .now) (s .before .args .targets .now) (s .before .args .n) v a) e ∙ sets-by closed counted few a v }
+    let whole : (a v : ℕ) → row-bit (s .loop .rows) v a ≡ (ltb v (s .before .args .n) && anchored (s .before .args .closed .now) (s .before .args .targets .now) (s .before .args .n) v a)
+        = λ a v. s .loop .inv .1 .bits v a ∙ ap (λ (x : ℕ). ltb v x && anchored (s .before .args .closed .now) (s .before .args .targets .now) (s .before .args .n) v a) e in
+    (whole, λ g closed counted. record { bits = λ a v. whole a v ∙ sets-by closed counted few a v })
 
 pub anchor-sets-spec : {M : Type 1} → statement M
 anchor-sets-spec =

@@ -3,6 +3,11 @@ use mathlib.Core.Path.{_≡_, refl, sym, ap, ap₂, _∙_}
 use mathlib.Core.Bool.{Bool, true, false, not, _&&_, _||_}
 use Prim.Native.Nat.{ℕ, _+_, _-_, _<_, _≤_}
 use lib.Dec.{eqb, ltb}
+use mathlib.Core.List.{List}
+use mathlib.Core.Path.{subst}
+use Rattle.closure.specs.Chains.{Closure}
+use Rattle.relations.proofs.Gathering.{gathered-unique}
+use Rattle.anchors.specs.Chains.{precedes}
 use Rattle.anchors.proofs.Travelling.{closed-by}
 use native.Mathlib.Omega.{arith}
 use borrow.Author.Needs.{needs}
@@ -20,7 +25,10 @@ close-requires : tie.Need-close-requires
 close-requires c κs = search needs
 
 returns : tie.Need-returns
-returns c shape = closed-by (c .before .predecessors .ensures) shape (c .close .ensures)
+returns c = (
+      λ rows direct. subst (λ (l : List ℕ). Closure (c .before .before .before .args .n) l (c .close .result)) (gathered-unique precedes (c .before .predecessors .ensures) direct) (c .close .ensures),
+      λ shape. closed-by (c .before .predecessors .ensures) shape (c .close .ensures),
+    )
 
 pub forward-spec : {M : Type 1} → statement M
 forward-spec = tie.close (tie.spec predecessors-requires close-requires returns)

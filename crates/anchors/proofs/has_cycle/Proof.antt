@@ -16,7 +16,7 @@ has-loop-requires : tie.Need-has-loop-requires
 has-loop-requires c κs = search needs
 
 returns : tie.Need-returns
-returns c g closed = c .has-loop .ensures ∙ loop-is-circle closed
+returns c = (c .has-loop .ensures, λ g closed. c .has-loop .ensures ∙ loop-is-circle closed)
 
 pub has-cycle-spec : {M : Type 1} → statement M
 has-cycle-spec = tie.close (tie.spec has-loop-requires returns)

@@ -44,10 +44,11 @@ has-requires : tie.Need-has-requires Inv-loop μ-loop
 has-requires c κs = search needs
 
 returns : tie.Need-returns Inv-loop μ-loop
-returns c g closed =
+returns c =
     let s = c .before .before .before .before in
     let rows = s .before .args .closed .now in
-    sym (any-below-by (lost rows) (s .before .args .n) {k = s .loop .v} (search needs) (lost-at rows (s .loop .v) false (s .loop .inv .0) (sym (c .before .has .ensures) ∙ not-true _ (c .if1 .taken)))) ∙ unreached-by closed
+    let found : any-below (lost rows) (s .before .args .n) ≡ true = any-below-by (lost rows) (s .before .args .n) {k = s .loop .v} (search needs) (lost-at rows (s .loop .v) false (s .loop .inv .0) (sym (c .before .has .ensures) ∙ not-true _ (c .if1 .taken))) in
+    (sym found, λ g closed. sym found ∙ unreached-by closed)
 
 add-v : tie.Need-add-v Inv-loop μ-loop
 add-v c = search needs
@@ -62,10 +63,11 @@ loop-again c =
     (omega arith, any-below-more (lost rows) (s .loop .v) (s .loop .inv .1) (lost-at rows (s .loop .v) true (s .loop .inv .0) (sym (c .before .has .ensures) ∙ not-false _ (c .if1 .left))))
 
 returns-2 : tie.Need-returns-2 Inv-loop μ-loop
-returns-2 c g closed =
+returns-2 c =
     let s = c .before in
     let rows = s .before .args .closed .now in
-    sym (none-any-below (lost rows) (s .before .args .n) (λ k b. any-below-none (lost rows) (s .loop .v) (s .loop .inv .1) k (omega arith))) ∙ unreached-by closed
+    let found : any-below (lost rows) (s .before .args .n) ≡ false = none-any-below (lost rows) (s .before .args .n) (λ k b. any-below-none (lost rows) (s .loop .v) (s .loop .inv .1) k (omega arith)) in
+    (sym found, λ g closed. sym found ∙ unreached-by closed)
 
 pub has-unreached-spec : {M : Type 1} → statement M
 has-unreached-spec =

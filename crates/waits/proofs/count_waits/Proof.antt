@@ -6,7 +6,7 @@ use Prim.Native.Nat.{ℕ, _+_, _-_, _*_, _<_, _≤_}
 use lib.Dec.{eqb, ltb}
 use lib.ListN.{length, getD}
 use Rattle.definitions.specs.Basics.{select-below, test-bit}
-use Rattle.laws.proofs.Counts.{sum-below, sum-below-none, sum-below-more, sum-below-bound, select-length-bound}
+use Rattle.laws.proofs.Counts.{flatMap-length, sum-below, sum-below-none, sum-below-more, sum-below-bound, select-length-bound}
 use Rattle.waits.proofs.Waiting.{count-by}
 use native.Mathlib.Omega.{arith}
 use borrow.Author.Needs.{needs}
@@ -60,11 +60,13 @@ loop-again c =
     (omega arith, omega (arith, s .loop .inv .1, c .count .ensures, sum-below-more (members-of maps) (s .loop .i)))
 
 returns : tie.Need-returns Inv-loop μ-loop
-returns c g h =
+returns c =
     let s = c .before in
     let e : s .loop .i ≡ s .before .args .n = omega arith in
     let few : s .before .args .n ≤ 64 = search needs in
-    s .loop .inv .1 ∙ ap (sum-below (members-of (s .before .args .maps .now))) e ∙ count-by (s .before .args .n) g (s .before .args .maps .now) few h
+    let maps = s .before .args .maps .now in
+    let total = s .loop .inv .1 ∙ ap (sum-below (members-of maps)) e in
+    (total ∙ sym (flatMap-length (λ i. select-below (test-bit (getD maps i 0)) 64) (s .before .args .n)), λ g h. total ∙ count-by (s .before .args .n) g (s .before .args .maps .now) few h)
 
 pub count-waits-spec : {M : Type 1} → statement M
 count-waits-spec =

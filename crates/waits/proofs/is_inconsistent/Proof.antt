@@ -17,7 +17,7 @@ has-loop-requires : tie.Need-has-loop-requires
 has-loop-requires c κs = search needs
 
 returns : tie.Need-returns
-returns c g reaches = c .has-loop .ensures ∙ loop-is-inconsistent reaches
+returns c = (c .has-loop .ensures, λ g reaches. c .has-loop .ensures ∙ loop-is-inconsistent reaches)
 
 pub is-inconsistent-spec : {M : Type 1} → statement M
 is-inconsistent-spec = tie.close (tie.spec has-loop-requires returns)

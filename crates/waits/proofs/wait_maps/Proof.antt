@@ -93,10 +93,11 @@ loop-again c =
 
 returns : tie.Need-returns Inv-loop μ-loop
 unfolding graph
-returns c n known =
+returns c =
     let s = c .before in
     let given = s .before .before .args in
-    maps-by known (pass-all (holds-up (given .reach .now) (given .sets .now)) unpack (given .es .now) (s .loop .k) (search needs) (s .loop .inv .1))
+    let all = pass-all (holds-up (given .reach .now) (given .sets .now)) unpack (given .es .now) (s .loop .k) (search needs) (s .loop .inv .1) in
+    (all, λ n known. maps-by known all)
 
 pub wait-maps-spec : {M : Type 1} → statement M
 wait-maps-spec =
