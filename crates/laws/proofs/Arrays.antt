@@ -1,10 +1,10 @@
 -- An array that is filled from its front: the first i entries are written, the rest are blank. Laws for the start, one entry more, and the end.
-use mathlib.Core.Path.{_≡_, refl, sym, ap, _∙_}
+use mathlib.Core.Path.{_≡_, sym, ap, _∙_}
 use mathlib.Core.List.{List, [], _∷_, _++_}
 use Prim.Native.Nat.{ℕ, zero, suc, _+_, _-_, _≤_, _<_}
 use native.Mathlib.Omega.{arith}
 use native.Mathlib.Numerals.{add-one}
-use lib.ListN.{length, take, drop, set, replicate, length-set, length-take, length-replicate, take-append-drop}
+use lib.ListN.{length, take, drop, set, replicate, length-set, length-replicate, take-append-drop}
 use lib.Seq.{drop-drop, drop-set-lt, take-suc-set, length-take-le}
 use Rattle.definitions.specs.Bytes.{padded}
 

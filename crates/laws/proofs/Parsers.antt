@@ -2,11 +2,11 @@
 -- The loop's invariant is that what is read, put in front of what is left, gives the same answer as the whole.
 use mathlib.Core.Path.{_≡_, refl, sym, ap, _∙_}
 use mathlib.Core.List.{List, [], _∷_, _++_, append-assoc, append-nil}
-use Prim.Native.Nat.{ℕ, zero, suc, _+_, _-_, _≤_, _<_}
+use Prim.Native.Nat.{ℕ, suc, _+_, _-_, _≤_, _<_}
 use native.Mathlib.Omega.{arith}
+use native.Mathlib.Numerals.{add-one}
 use lib.ListN.{length, take, drop, getD, set, replicate, drop-of-length-le, length-drop}
 use lib.Seq.{drop-cons, take-all}
-use native.Mathlib.Numerals.{add-one}
 use Rattle.definitions.specs.Basics.{Outcome, given, refused, when-given}
 use Rattle.definitions.specs.Bytes.{Taken, Parser, records, padded}
 use Rattle.laws.proofs.Arrays.{Filled, none-filled, one-more-filled, take-one-more, filled-later, filled-padded, length-filled}

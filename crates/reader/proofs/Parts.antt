@@ -1,25 +1,25 @@
 -- What the parsers find at a place of the bytes, case by case: the laws that the functions' proofs cite. Each is the parser's text, computed at the bytes that are there.
-use mathlib.Core.Path.{_≡_, refl, sym, ap, _∙_}
-use mathlib.Core.Bool.{Bool, true, false, cond, not, _&&_, _||_}
+use mathlib.Core.Path.{_≡_, refl, ap, _∙_}
+use mathlib.Core.Bool.{Bool, true, false, _||_}
 use mathlib.Core.List.{List, [], _∷_}
-use Prim.Native.Nat.{ℕ, zero, suc, _+_, _*_, _≤_, _<_}
+use Prim.Native.Nat.{ℕ, suc, _+_, _*_, _≤_, _<_}
 use native.Mathlib.Omega.{arith}
-use lib.Dec.{leb, eqb, ltb}
+use lib.Dec.{leb, ltb}
 use lib.ListN.{length, getD, drop}
+use borrow.Author.Tests.{le-ltb, eq-eqb, ne-eqb, le-leb, lt-leb}
 use Rattle.definitions.specs.Basics.{test-bit, Outcome, given, refused, when-given}
-use Rattle.definitions.specs.Bytes.{Taken, Parser, _>>=_, _>>_, give, demand, byte, two-bytes, ticks-if, operation-map, delay-from, operation, link-map, endpoints, rises, bound-from, link, at-end, links, operations, sheet, Records}
+use Rattle.definitions.specs.Bytes.{Taken, _>>=_, _>>_, give, demand, byte, two-bytes, ticks-if, operation-map, delay-from, operation, link-map, endpoints, rises, bound-from, link, at-end, links, operations, sheet}
 use Rattle.definitions.specs.declared.Delay.the-variants.{Open, Fixed}
 use Rattle.definitions.specs.declared.Previous.{Previous}
 use Rattle.definitions.specs.declared.Previous.the-variants.{Pair}
-use borrow.Author.Tests.{le-ltb, eq-eqb, ne-eqb, le-leb, lt-leb}
 use Rattle.definitions.specs.declared.Bound.{Bound}
 use Rattle.definitions.specs.declared.Bound.the-variants.{Absent, Ticks}
 use Rattle.definitions.specs.declared.Link.{Link}
 use Rattle.definitions.specs.declared.Operation.{Operation}
+use Rattle.definitions.specs.Bytes as Bytes
 use Rattle.laws.proofs.Parsers.{when-given-twice, drop-byte, drop-end}
 use Rattle.reader.specs.Parts.{fixed, bound, link-fields, link-pair, last-links, sheet-records, sheet-counted, outcome}
 use Rattle.reader.specs.Answers.{item-at}
-use Rattle.definitions.specs.Bytes as Bytes
 
 -- A number of two bytes.
 module _ (s : List ℕ) (at : ℕ) where

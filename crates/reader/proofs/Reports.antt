@@ -7,9 +7,9 @@ use Rattle.definitions.specs.Numbers.{number, reading-of}
 use Rattle.definitions.specs.Bytes.{Records, held}
 use Rattle.definitions.specs.declared.Refusal.{Refusal}
 use Rattle.definitions.specs.declared.Reading.{Reading}
-use Rattle.definitions.specs.declared.Reading.the-variants as Readings
 use Rattle.definitions.specs.declared.Report.{Report}
 use Rattle.definitions.specs.declared.Sheet.{Sheet}
+use Rattle.definitions.specs.declared.Reading.the-variants as Readings
 use Rattle.reader.specs.Answers.{Reports}
 
 -- An outcome that gives its records, and the sheet that holds them.

@@ -1,17 +1,15 @@
 -- What a loop over records leaves: the row of the array that it filled; and the report that two such rows make.
-use mathlib.Core.Path.{_≡_, refl, sym}
+use mathlib.Core.Path.{refl, sym}
+use mathlib.Core.List.{List}
+use Prim.Native.Nat.{ℕ, _≤_}
 use lib.ListN.{take}
 use Rattle.definitions.specs.Basics.{given, when-given}
-use Rattle.definitions.specs.Bytes.{held, blank-operation, blank-link}
+use Rattle.definitions.specs.Bytes.{held, blank-operation, blank-link, Parser}
 use Rattle.definitions.specs.declared.Operation.{Operation}
 use Rattle.definitions.specs.declared.Link.{Link}
 use Rattle.definitions.specs.declared.Reading.the-variants.{Whole}
-use Rattle.reader.specs.Answers.{Reports}
-use Prim.Native.Nat.{ℕ, _≤_}
-use mathlib.Core.List.{List}
-use Rattle.definitions.specs.Bytes.{Parser}
 use Rattle.laws.proofs.Parsers.{ReadTo, read-count, read-padded}
-use Rattle.reader.specs.Answers.{Row}
+use Rattle.reader.specs.Answers.{Reports, Row}
 
 module _ {A S : Type 0} (item : S → Parser A) (next : A → S) (size : ℕ) (blank : A) (k : ℕ) (fits : k ≤ size) (first : S) (bytes : List ℕ) (i : ℕ) (state : S) (rest : List ℕ) (array : List A) where
   pub row-of : ReadTo item next size blank k first bytes i state rest array → Row size blank k array

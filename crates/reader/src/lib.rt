@@ -1,10 +1,10 @@
 // A sheet is read from its bytes: the records, or the first fault, refusals 1 to 7.
 ghost use mathlib.Core.Path.{_≡_};
-ghost use Prim.Native.Nat.{ℕ, _+_, _-_, _*_, _<_, _≤_};
-ghost use lib.ListN.{length, drop, take};
+ghost use Prim.Native.Nat.{_<_, _≤_};
+ghost use lib.ListN.{length, drop};
 ghost use Rattle.definitions.specs.Basics.{test-bit, refused};
 ghost use Rattle.definitions.specs.Numbers.{number};
-ghost use Rattle.definitions.specs.Bytes.{blank-operation, blank-link, two-bytes, operation, operations, endpoints, rises, link};
+ghost use Rattle.definitions.specs.Bytes.{blank-operation, blank-link, two-bytes, operation, endpoints, rises, link};
 ghost use Rattle.definitions.specs.Bytes as Bytes;
 ghost use Rattle.reader.specs.Parts.{fixed, bound, link-fields, link-pair, sheet-records, sheet-counted, outcome};
 ghost use Rattle.reader.specs.Answers.{NumberReads, OperationReads, OperationsReads, LinksReads, Reports, bound-read, link-read};

@@ -1,13 +1,10 @@
-use mathlib.Core.Path.{_≡_, refl}
-use Rattle.definitions.specs.Bytes.{endpoints}
+-- `reader::endpoints_allowed` meets its contract: the tests that led to each return decide those of the definition.
+use native.Mathlib.Omega.{arith}
 use borrow.Author.Tests.{lt-ltb, le-ltb}
 use borrow.Author.Needs.{needs}
-use native.Mathlib.Omega.{arith}
+use Rattle.definitions.specs.Bytes.{endpoints}
 use Rattle.reader.proofs.endpoints_allowed.Statement.{statement}
 use Rattle.reader.proofs.endpoints_allowed.Tie as tie
-use Rattle.reader.proofs.endpoints_allowed.Reads as reads
-use Rattle.reader.proofs.endpoints_allowed.Lts as lts
-use Rattle.reader.proofs.index.Reads as index-reads
 
 index-requires : tie.Need-index-requires
 index-requires c κs = search needs

@@ -1,15 +1,12 @@
-use mathlib.Core.Path.{_≡_, sym}
+-- `reader::fixed_operation` meets its contract: the number that is read, or its refusal, is put through the laws of Parts.
+use mathlib.Core.Path.{sym}
 use denote.Ref.{now}
+use borrow.Author.Needs.{needs}
 use Rattle.definitions.specs.Bytes.{two-bytes}
 use Rattle.reader.specs.Answers.{NumberReads}
 use Rattle.reader.proofs.Parts.{fixed-there, fixed-refused}
-use borrow.Author.Needs.{needs}
-use native.Mathlib.Omega.{arith}
 use Rattle.reader.proofs.fixed_operation.Statement.{statement}
 use Rattle.reader.proofs.fixed_operation.Tie as tie
-use Rattle.reader.proofs.fixed_operation.Reads as reads
-use Rattle.reader.proofs.fixed_operation.Lts as lts
-use Rattle.reader.proofs.read_number.Reads as read-number-reads
 
 read-number-requires : tie.Need-read-number-requires
 read-number-requires c κs = search needs

@@ -1,10 +1,8 @@
-use Rattle.definitions.specs.Basics.{test-bit}
+-- `reader::has_bit` meets its contract: the code's test is the definition's.
 use borrow.Author.Needs.{needs}
-use native.Mathlib.Omega.{arith}
+use Rattle.definitions.specs.Basics.{test-bit}
 use Rattle.reader.proofs.has_bit.Statement.{statement}
 use Rattle.reader.proofs.has_bit.Tie as tie
-use Rattle.reader.proofs.has_bit.Reads as reads
-use Rattle.reader.proofs.has_bit.Lts as lts
 
 shr-result : tie.Need-shr-result
 shr-result c = search needs

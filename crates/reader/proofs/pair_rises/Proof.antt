@@ -1,12 +1,10 @@
-use mathlib.Core.Path.{_≡_, sym}
+-- `reader::pair_rises` meets its contract: by cases on the pair before; where i is the same, j decides.
+use mathlib.Core.Path.{sym}
+use borrow.Author.Needs.{needs}
 use Rattle.definitions.specs.Bytes.{rises}
 use Rattle.reader.proofs.Parts.{rises-same, rises-other}
-use borrow.Author.Needs.{needs}
-use native.Mathlib.Omega.{arith}
 use Rattle.reader.proofs.pair_rises.Statement.{statement}
 use Rattle.reader.proofs.pair_rises.Tie as tie
-use Rattle.reader.proofs.pair_rises.Reads as reads
-use Rattle.reader.proofs.pair_rises.Lts as lts
 
 enum-told : tie.Need-enum-told
 enum-told c = search needs

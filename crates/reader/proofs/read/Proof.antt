@@ -1,21 +1,16 @@
-use mathlib.Core.Path.{_≡_, sym, _∙_}
+-- `reader::read` meets its contract: N is judged at the first byte, and the rest is `read_counted`'s.
+use mathlib.Core.Path.{_≡_}
 use mathlib.Core.Logic.{_⊎_, ⊎-elim}
-use Prim.Native.Nat.{ℕ, _≤_, _<_}
+use Prim.Native.Nat.{_≤_, _<_}
+use native.Mathlib.Omega.{arith}
 use lib.ListN.{length, getD}
 use denote.Ref.{now}
+use borrow.Author.Needs.{needs}
 use Rattle.definitions.specs.Basics.{refused}
 use Rattle.definitions.specs.Bytes as Bytes
-use Rattle.reader.specs.Answers.{Reports}
 use Rattle.reader.proofs.Parts.{sheet-none, sheet-zero, sheet-above, sheet-there}
-use borrow.Author.Needs.{needs}
-use native.Mathlib.Omega.{arith}
 use Rattle.reader.proofs.read.Statement.{statement}
 use Rattle.reader.proofs.read.Tie as tie
-use Rattle.reader.proofs.read.Reads as reads
-use Rattle.reader.proofs.read.Lts as lts
-use Rattle.reader.proofs.index.Reads as index-reads
-use Rattle.reader.proofs.read_counted.Reads as read-counted-reads
-use Rattle.reader.proofs.refused_report.Reads as refused-report-reads
 
 refused-report-requires : tie.Need-refused-report-requires
 refused-report-requires c κs = search needs

@@ -1,17 +1,14 @@
-use mathlib.Core.Bool.{Bool, true, false}
+-- `reader::read_bound` meets its contract: the field is not there, or is a number, or is cut off.
+use mathlib.Core.Bool.{true, false}
 use mathlib.Core.Path.{_≡_, sym}
 use denote.Ref.{now}
 use borrow.Author.Tests.{not-true, not-false}
+use borrow.Author.Needs.{needs}
 use Rattle.definitions.specs.Bytes.{two-bytes}
 use Rattle.reader.specs.Answers.{NumberReads}
 use Rattle.reader.proofs.Parts.{bound-absent, bound-there, bound-refused}
-use borrow.Author.Needs.{needs}
-use native.Mathlib.Omega.{arith}
 use Rattle.reader.proofs.read_bound.Statement.{statement}
 use Rattle.reader.proofs.read_bound.Tie as tie
-use Rattle.reader.proofs.read_bound.Reads as reads
-use Rattle.reader.proofs.read_bound.Lts as lts
-use Rattle.reader.proofs.read_number.Reads as read-number-reads
 
 returns : tie.Need-returns
 returns c =

@@ -1,20 +1,14 @@
-use mathlib.Core.Path.{_≡_, sym, _∙_}
-use Prim.Native.Nat.{ℕ, _≤_, _<_}
-use lib.ListN.{length, drop}
-use denote.Ref.{now}
-use Rattle.definitions.specs.Bytes.{two-bytes}
-use Rattle.reader.specs.Answers.{NumberReads, Reports}
-use Rattle.reader.proofs.Parts.{counted-refused, counted-above, counted-there}
-use borrow.Author.Needs.{needs}
+-- `reader::read_counted` meets its contract: R is judged once both its bytes are there, and the rest is `read_records`'s.
+use mathlib.Core.Path.{sym}
+use Prim.Native.Nat.{_≤_, _<_}
 use native.Mathlib.Omega.{arith}
+use denote.Ref.{now}
+use borrow.Author.Needs.{needs}
+use Rattle.definitions.specs.Bytes.{two-bytes}
+use Rattle.reader.specs.Answers.{NumberReads}
+use Rattle.reader.proofs.Parts.{counted-refused, counted-above, counted-there}
 use Rattle.reader.proofs.read_counted.Statement.{statement}
 use Rattle.reader.proofs.read_counted.Tie as tie
-use Rattle.reader.proofs.read_counted.Reads as reads
-use Rattle.reader.proofs.read_counted.Lts as lts
-use Rattle.reader.proofs.count_index.Reads as count-index-reads
-use Rattle.reader.proofs.read_number.Reads as read-number-reads
-use Rattle.reader.proofs.read_records.Reads as read-records-reads
-use Rattle.reader.proofs.refused_report.Reads as refused-report-reads
 
 read-number-requires : tie.Need-read-number-requires
 read-number-requires c κs = search needs

@@ -1,19 +1,13 @@
+-- `reader::read_fields` meets its contract: one bound after the other, each tied to the definition by the map's bit.
 use mathlib.Core.Path.{_≡_, sym}
-use Prim.Native.Nat.{ℕ}
 use lib.ListN.{drop}
 use denote.Ref.{now}
-use Rattle.definitions.specs.Basics.{test-bit}
+use borrow.Author.Needs.{needs}
 use Rattle.reader.specs.Answers.{bound-read}
 use Rattle.reader.specs.Parts.{bound}
 use Rattle.reader.proofs.Parts.{fields-there, fields-refused, fields-refused-2}
-use borrow.Author.Needs.{needs}
-use native.Mathlib.Omega.{arith}
 use Rattle.reader.proofs.read_fields.Statement.{statement}
 use Rattle.reader.proofs.read_fields.Tie as tie
-use Rattle.reader.proofs.read_fields.Reads as reads
-use Rattle.reader.proofs.read_fields.Lts as lts
-use Rattle.reader.proofs.has_bit.Reads as has-bit-reads
-use Rattle.reader.proofs.read_bound.Reads as read-bound-reads
 
 has-bit-requires : tie.Need-has-bit-requires
 has-bit-requires c κs = search needs

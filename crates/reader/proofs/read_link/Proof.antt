@@ -1,15 +1,13 @@
-use mathlib.Core.Path.{_≡_, sym, _∙_}
-use Prim.Native.Nat.{ℕ, _+_, _<_}
+-- `reader::read_link` meets its contract: the map is judged first; `link-there` is the definition from the pair on.
+use mathlib.Core.Path.{sym, _∙_}
+use Prim.Native.Nat.{_<_}
+use native.Mathlib.Omega.{arith}
 use lib.ListN.{getD, length}
 use denote.Ref.{now}
-use Rattle.reader.proofs.Parts.{link-none, link-refused, link-there, map-allowed, map-empty, map-unknown}
 use borrow.Author.Needs.{needs}
-use native.Mathlib.Omega.{arith}
+use Rattle.reader.proofs.Parts.{link-none, link-refused, link-there, map-allowed, map-empty, map-unknown}
 use Rattle.reader.proofs.read_link.Statement.{statement}
 use Rattle.reader.proofs.read_link.Tie as tie
-use Rattle.reader.proofs.read_link.Reads as reads
-use Rattle.reader.proofs.read_link.Lts as lts
-use Rattle.reader.proofs.read_pair.Reads as read-pair-reads
 
 returns : tie.Need-returns
 returns c = sym (link-none _ _ _ _ (c .if1 .taken))

@@ -1,8 +1,10 @@
-use mathlib.Core.Path.{_≡_, sym, ap, subst, _∙_}
-use mathlib.Core.List.{List}
-use Prim.Native.Nat.{ℕ, _+_, _-_, _≤_}
-use lib.ListN.{length, take, drop, replicate, set}
+-- `reader::read_links` meets its contract: the loop's invariant is `ReadTo` of the crate laws: the records read, put in front of those that are left, give the same answer as the whole. At its end the bytes must end too.
+use mathlib.Core.Path.{_≡_, sym, subst}
+use Prim.Native.Nat.{_-_, _≤_}
+use native.Mathlib.Omega.{arith}
+use lib.ListN.{drop, replicate}
 use denote.Ref.{now}
+use borrow.Author.Needs.{needs}
 use Rattle.definitions.specs.Bytes.{link, links, pair-of, blank-link}
 use Rattle.definitions.specs.declared.Link.{Link}
 use Rattle.definitions.specs.declared.Previous.the-variants.{Nothing}
@@ -10,14 +12,8 @@ use Rattle.laws.proofs.Parsers.{ReadTo, read-none, read-one-more, read-refused,
 use Rattle.reader.specs.Answers.{link-read}
 use Rattle.reader.proofs.Parts.{links-refused, links-trailing, links-whole}
 use Rattle.reader.proofs.Rows.{row-of}
-use borrow.Author.Needs.{needs}
-use native.Mathlib.Omega.{arith}
 use Rattle.reader.proofs.read_links.Statement.{statement}
 use Rattle.reader.proofs.read_links.Tie as tie
-use Rattle.reader.proofs.read_links.Reads as reads
-use Rattle.reader.proofs.read_links.Lts as lts
-use Rattle.reader.proofs.blank_link.Reads as blank-link-reads
-use Rattle.reader.proofs.read_link.Reads as read-link-reads
 
 abbrev Inv-loop : tie.InvT-loop
 Inv-loop part n r links₀ previous₀ next₀ i₀ links previous next i = ReadTo (link n) pair-of 512 blank-link r Nothing part i previous (drop next part) links

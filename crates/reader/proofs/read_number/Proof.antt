@@ -1,16 +1,14 @@
+-- `reader::read_number` meets its contract: one byte or none there is refusal 1; else the sum of the two.
 use mathlib.Core.Path.{_≡_, sym, ap, _∙_}
 use Prim.Native.Nat.{ℕ, _+_, _*_}
+use native.Mathlib.Omega.{arith}
 use lib.ListN.{getD}
 use denote.Ref.{now}
+use borrow.Author.Needs.{needs}
 use Rattle.reader.specs.Answers.{item-at}
 use Rattle.reader.proofs.Parts.{number-none, number-half, number-there}
-use borrow.Author.Needs.{needs}
-use native.Mathlib.Omega.{arith}
 use Rattle.reader.proofs.read_number.Statement.{statement}
 use Rattle.reader.proofs.read_number.Tie as tie
-use Rattle.reader.proofs.read_number.Reads as reads
-use Rattle.reader.proofs.read_number.Lts as lts
-use Rattle.reader.proofs.wide.Reads as wide-reads
 
 returns : tie.Need-returns
 returns c = record { same = sym (number-none _ _ (c .if1 .taken)); inside = omega arith }

@@ -1,18 +1,16 @@
+-- `reader::read_operation` meets its contract: each arm of the match on the map is one law of Parts.
 use mathlib.Core.Path.{_≡_, sym, _∙_}
-use mathlib.Core.Bool.{Bool, true, false}
+use mathlib.Core.Bool.{true, false}
 use Prim.Native.Nat.{_+_, _<_}
+use native.Mathlib.Omega.{arith}
 use lib.ListN.{getD, length}
+use denote.Ref.{now}
+use borrow.Author.Needs.{needs}
 use Rattle.reader.specs.Answers.{OperationReads}
 use Rattle.reader.specs.Parts.{fixed}
-use denote.Ref.{now}
 use Rattle.reader.proofs.Parts.{operation-none, operation-refused, operation-zero, operation-open, operation-fixed, map-first, map-above}
-use borrow.Author.Needs.{needs}
-use native.Mathlib.Omega.{arith}
 use Rattle.reader.proofs.read_operation.Statement.{statement}
 use Rattle.reader.proofs.read_operation.Tie as tie
-use Rattle.reader.proofs.read_operation.Reads as reads
-use Rattle.reader.proofs.read_operation.Lts as lts
-use Rattle.reader.proofs.fixed_operation.Reads as fixed-operation-reads
 
 returns : tie.Need-returns
 returns c = record { same = sym (operation-none _ _ _ (c .if1 .taken)); inside = omega arith }

@@ -1,23 +1,18 @@
-use Rattle.definitions.specs.Bytes.{operations}
-use Rattle.reader.proofs.Rows.{row-of}
-use mathlib.Core.Path.{_≡_, sym, ap, subst, _∙_}
-use mathlib.Core.Bool.{Bool, true, false}
-use mathlib.Core.List.{List}
-use Prim.Native.Nat.{ℕ, _+_, _-_, _≤_}
-use lib.ListN.{length, take, drop, replicate, set}
+-- `reader::read_operations` meets its contract: the loop's invariant is `ReadTo` of the crate laws: the records read, put in front of those that are left, give the same answer as the whole.
+use mathlib.Core.Path.{sym, subst}
+use mathlib.Core.Bool.{true, false}
+use Prim.Native.Nat.{_-_, _≤_}
+use native.Mathlib.Omega.{arith}
+use lib.ListN.{length, drop, replicate}
 use denote.Ref.{now}
-use Rattle.definitions.specs.Bytes.{operation, blank-operation}
+use borrow.Author.Needs.{needs}
+use Rattle.definitions.specs.Bytes.{operations, operation, blank-operation}
 use Rattle.definitions.specs.declared.Operation.{Operation}
 use Rattle.laws.proofs.Parsers.{ReadTo, read-none, read-one-more, read-refused, read-all}
 use Rattle.reader.specs.Answers.{OperationReads}
-use borrow.Author.Needs.{needs}
-use native.Mathlib.Omega.{arith}
+use Rattle.reader.proofs.Rows.{row-of}
 use Rattle.reader.proofs.read_operations.Statement.{statement}
 use Rattle.reader.proofs.read_operations.Tie as tie
-use Rattle.reader.proofs.read_operations.Reads as reads
-use Rattle.reader.proofs.read_operations.Lts as lts
-use Rattle.reader.proofs.blank_operation.Reads as blank-operation-reads
-use Rattle.reader.proofs.read_operation.Reads as read-operation-reads
 
 abbrev Inv-loop : tie.InvT-loop
 Inv-loop s at n operations₀ first₀ next₀ i₀ operations first next i = (next ≤ length s) × ReadTo operation (λ o. false) 64 blank-operation n true (drop at s) i first (drop next s) operations

@@ -1,20 +1,16 @@
+-- `reader::read_pair` meets its contract: both bytes are there, then 5, then 6; `pair-there` is the definition from the fields on.
 use mathlib.Core.Path.{_≡_, sym, _∙_}
-use mathlib.Core.Bool.{Bool, true, false}
-use Prim.Native.Nat.{ℕ, _+_, _<_}
-use lib.ListN.{getD, drop, length}
+use mathlib.Core.Bool.{true, false}
+use Prim.Native.Nat.{_+_, _<_}
+use native.Mathlib.Omega.{arith}
+use lib.ListN.{getD, length}
 use denote.Ref.{now}
 use borrow.Author.Tests.{not-true, not-false}
+use borrow.Author.Needs.{needs}
 use Rattle.definitions.specs.Bytes.{endpoints, rises}
 use Rattle.reader.proofs.Parts.{pair-none, pair-half, pair-endpoint, pair-order, pair-there}
-use borrow.Author.Needs.{needs}
-use native.Mathlib.Omega.{arith}
 use Rattle.reader.proofs.read_pair.Statement.{statement}
 use Rattle.reader.proofs.read_pair.Tie as tie
-use Rattle.reader.proofs.read_pair.Reads as reads
-use Rattle.reader.proofs.read_pair.Lts as lts
-use Rattle.reader.proofs.endpoints_allowed.Reads as endpoints-allowed-reads
-use Rattle.reader.proofs.pair_rises.Reads as pair-rises-reads
-use Rattle.reader.proofs.read_fields.Reads as read-fields-reads
 
 returns : tie.Need-returns
 returns c = sym (pair-none _ _ _ _ _ (c .if1 .taken))

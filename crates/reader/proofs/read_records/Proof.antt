@@ -1,24 +1,15 @@
+-- `reader::read_records` meets its contract: the step records, then the link records in the part of the bytes from the middle on; their rows make the sheet as it is held.
+use mathlib.Core.Path.{sym}
 use Prim.Native.Nat.{_-_}
-use Rattle.laws.proofs.Parsers.{part-rest}
-use Rattle.reader.proofs.Rows.{report-whole}
-use mathlib.Core.Path.{_≡_, refl, sym, ap, _∙_}
-use mathlib.Core.List.{List}
-use Prim.Native.Nat.{ℕ, _≤_}
 use lib.ListN.{length, take, drop}
 use denote.Ref.{now}
-use Rattle.definitions.specs.Basics.{when-given}
-use Rattle.definitions.specs.Bytes.{held}
-use Rattle.reader.specs.Answers.{OperationsReads, LinksReads, Reports, place-end, row-read}
-use Rattle.reader.proofs.Parts.{steps-refused, pairs-refused, records-whole}
 use borrow.Author.Needs.{needs}
-use native.Mathlib.Omega.{arith}
+use Rattle.laws.proofs.Parsers.{part-rest}
+use Rattle.reader.specs.Answers.{OperationsReads, LinksReads}
+use Rattle.reader.proofs.Rows.{report-whole}
+use Rattle.reader.proofs.Parts.{steps-refused, pairs-refused, records-whole}
 use Rattle.reader.proofs.read_records.Statement.{statement}
 use Rattle.reader.proofs.read_records.Tie as tie
-use Rattle.reader.proofs.read_records.Reads as reads
-use Rattle.reader.proofs.read_records.Lts as lts
-use Rattle.reader.proofs.read_links.Reads as read-links-reads
-use Rattle.reader.proofs.read_operations.Reads as read-operations-reads
-use Rattle.reader.proofs.refused_report.Reads as refused-report-reads
 
 read-operations-requires : tie.Need-read-operations-requires
 read-operations-requires c κs = search needs
@@ -36,7 +27,8 @@ sub-read-links : tie.Need-sub-read-links
 sub-read-links c =
     let a = c .before .before .before .before .before .args in
     let found : OperationsReads (now (a .s)) (a .at) (a .n) (c .before .before .before .read-operations .result) = c .before .before .before .read-operations .ensures in
-    rw (c .before .place2 .given .1) at (found .inside)
+    let inside = rw (c .before .place2 .given .1) at (found .inside) in
+    search needs
 
 part-read-links-start : tie.Need-part-read-links-start
 part-read-links-start c =

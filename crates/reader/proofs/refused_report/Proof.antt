@@ -1,18 +1,14 @@
-use mathlib.Core.Path.{_≡_, refl, ap₂}
+-- `reader::refused_report` meets its contract: the blanks are the definition's, so the sheet is the one that it holds beside a refusal.
+use mathlib.Core.Path.{refl, ap₂}
 use lib.ListN.{replicate}
+use borrow.Author.Needs.{needs}
 use Rattle.definitions.specs.Basics.{when-given}
 use Rattle.definitions.specs.Bytes.{held, blank-operation, blank-link}
 use Rattle.definitions.specs.declared.Operation.{Operation}
 use Rattle.definitions.specs.declared.Link.{Link}
 use Rattle.definitions.specs.declared.Sheet.{Sheet}
-use borrow.Author.Needs.{needs}
-use native.Mathlib.Omega.{arith}
 use Rattle.reader.proofs.refused_report.Statement.{statement}
 use Rattle.reader.proofs.refused_report.Tie as tie
-use Rattle.reader.proofs.refused_report.Reads as reads
-use Rattle.reader.proofs.refused_report.Lts as lts
-use Rattle.reader.proofs.blank_link.Reads as blank-link-reads
-use Rattle.reader.proofs.blank_operation.Reads as blank-operation-reads
 
 blank-operation-requires : tie.Need-blank-operation-requires
 blank-operation-requires c κs = search needs
