@@ -13,11 +13,7 @@ use borrow.Author.Tests.{eq-eqb, le-ltb, lt-ltb, ne-eqb}
 use Rattle.definitions.specs.Basics.{any, test-bit}
 use Rattle.laws.proofs.Bools.{same-or-not}
 use Rattle.laws.proofs.Maps.{same-map, test-zero}
-<<<<<<< HEAD
-use Rattle.laws.proofs.Searches.{any-snoc, map-take-more}
-=======
 use Rattle.laws.proofs.Searches.{any-snoc, map-take-more, or-none}
->>>>>>> fc9c15dee758bd7c12b598d3fea0147e38178b19
 use Rattle.relations.specs.Rows.{row-bit, Gathered}
 
 -- A row that takes in what passes P: that row's bits have it, and no other row changes.

@@ -2,13 +2,8 @@
 use mathlib.Core.Path.{_≡_, ap, _∙_}
 use mathlib.Core.Bool.{Bool, _&&_}
 use mathlib.Core.List.{List}
-<<<<<<< HEAD
-use Prim.Native.Nat.{ℕ, _+_, _-_, _<_, _≤_}
-use lib.Dec.{eqb, ltb}
-=======
 use Prim.Native.Nat.{ℕ, _-_, _≤_}
 use lib.Dec.{ltb}
->>>>>>> fc9c15dee758bd7c12b598d3fea0147e38178b19
 use Rattle.relations.specs.Rows.{row-bit}
 use Rattle.relations.proofs.Gathering.{Made, made-no-row, made-row}
 use Rattle.anchors.specs.Chains.{anchors-to, at-or-before}
@@ -71,11 +66,7 @@ returns c =
     let e : s .loop .v ≡ s .before .args .n = omega arith in
     let few : s .before .args .n ≤ 64 = search needs in
     let whole : (a v : ℕ) → row-bit (s .loop .rows) v a ≡ (ltb v (s .before .args .n) && anchored (s .before .args .closed .now) (s .before .args .targets .now) (s .before .args .n) v a)
-<<<<<<< HEAD
-        = λ a v. s .loop .inv .1 .bits v a ∙ ap (λ (x : ℕ). ltb v x && anchored (s .before .args .closed .now) (s .before .args .targets .now) (s .before .args .n) v a) e in
-=======
     = λ a v. s .loop .inv .1 .bits v a ∙ ap (λ (x : ℕ). ltb v x && anchored (s .before .args .closed .now) (s .before .args .targets .now) (s .before .args .n) v a) e in
->>>>>>> fc9c15dee758bd7c12b598d3fea0147e38178b19
     (whole, λ g closed counted. record { bits = λ a v. whole a v ∙ sets-by closed counted few a v })
 
 pub anchor-sets-spec : {M : Type 1} → statement M

@@ -1,12 +1,5 @@
 -- `anchors::forward` meets its contract: closing the direct predecessors gives the chains.
-<<<<<<< HEAD
-use mathlib.Core.Path.{_≡_, refl, sym, ap, ap₂, _∙_}
-use mathlib.Core.Bool.{Bool, true, false, not, _&&_, _||_}
-use Prim.Native.Nat.{ℕ, _+_, _-_, _<_, _≤_}
-use lib.Dec.{eqb, ltb}
-=======
 use Prim.Native.Nat.{ℕ}
->>>>>>> fc9c15dee758bd7c12b598d3fea0147e38178b19
 use mathlib.Core.List.{List}
 use mathlib.Core.Path.{subst}
 use Rattle.closure.specs.Chains.{Closure}
@@ -25,15 +18,9 @@ close-requires c κs = search needs
 
 returns : tie.Need-returns
 returns c = (
-<<<<<<< HEAD
-      λ rows direct. subst (λ (l : List ℕ). Closure (c .before .before .before .args .n) l (c .close .result)) (gathered-unique precedes (c .before .predecessors .ensures) direct) (c .close .ensures),
-      λ shape. closed-by (c .before .predecessors .ensures) shape (c .close .ensures),
-    )
-=======
   λ rows direct. subst (λ (l : List ℕ). Closure (c .before .before .before .args .n) l (c .close .result)) (gathered-unique precedes (c .before .predecessors .ensures) direct) (c .close .ensures),
   λ shape. closed-by (c .before .predecessors .ensures) shape (c .close .ensures),
 )
->>>>>>> fc9c15dee758bd7c12b598d3fea0147e38178b19
 
 pub forward-spec : {M : Type 1} → statement M
 forward-spec = tie.close (tie.spec predecessors-requires close-requires returns)
