@@ -364,7 +364,8 @@ pub fn row_status(table: &[u32], n: usize, v: usize) -> Status
     if n <= v {
         return Status::Refused(Refusal::BadEndpoint);
     }
-    if table.len() < n * n {
+    let size = n * n;
+    if table.len() < size {
         return Status::Refused(Refusal::TooShort);
     }
     Status::Done
