@@ -47,8 +47,8 @@ module _ (n : ℕ) (g : List Edge) (few : n ≤ 64) where
   pairs-waits =
       flatMap-same (λ a. pairs-of (wait-maps n g) a n) (waits-of n g) (tabulate (λ a. a) n)
       (λ a m. let r = mem-tabulate (λ a. a) n m in let b : a < n = omega (arith, r .1, r .2) in
-        ap (map (λ i. record { anchor = a; target = i }))
-        (select-below-same (λ i. test-bit (getD (wait-maps n g) i 0) a) (waits-for n g a) n (λ i c. wait-bit a i b c)))
+      ap (map (λ i. record { anchor = a; target = i }))
+      (select-below-same (λ i. test-bit (getD (wait-maps n g) i 0) a) (waits-for n g a) n (λ i c. wait-bit a i b c)))
 
   pub serialized-maps : g ++ wait-edges n (wait-maps n g) ≡ serialized n g
   unfolding serialized wait-edges
@@ -87,7 +87,7 @@ plannable-holds {n} {g} {reach} {maps} {sets} {d} few p cells sets-are =
     plan-holds (p .well) (p .gains) few
     (λ a v b c. cells a v b c ∙ ap (λ (l : List Edge). cell (offset-row n l a) v) (ap (λ (m : List ℕ). g ++ wait-edges n m) (p .waits) ∙ serialized-maps n g few))
     (λ a v b.
-      sets-are v a
-      ∙ ap (λ (t : Bool). t && (row-bit reach v a || eqb a 0)) (lt-ltb v n b)
-      ∙ ap (λ (t : Bool). t || eqb a 0) (p .reaches .bits a v b ∙ ap (λ (l : List Edge). after-reaches n l a v) (usable-all g a))
-      ∙ member-reaches (p .well) a v)
+    sets-are v a
+    ∙ ap (λ (t : Bool). t && (row-bit reach v a || eqb a 0)) (lt-ltb v n b)
+    ∙ ap (λ (t : Bool). t || eqb a 0) (p .reaches .bits a v b ∙ ap (λ (l : List Edge). after-reaches n l a v) (usable-all g a))
+    ∙ member-reaches (p .well) a v)

@@ -5,7 +5,6 @@ use definitions::Refusal;
 use definitions::Sheet;
 use definitions::Status;
 use definitions::Verdict;
-
 ghost use mathlib.Core.Path.{_≡_};
 ghost use mathlib.Core.Bool.{false, _&&_, _||_};
 ghost use mathlib.Core.List.{List, _++_};
