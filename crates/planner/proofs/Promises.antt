@@ -1,30 +1,28 @@
 -- The demands 2 and 3 hold of what the library's functions return: the contracts are equations with the definitions of which the crate demands proves them.
-use mathlib.Core.Path.{_≡_, refl, sym, ap, _∙_}
+use mathlib.Core.Path.{_≡_, sym, ap, _∙_}
 use mathlib.Core.Bool.{Bool, true}
-use mathlib.Core.Logic.{_⊎_, inl, inr, _≢_, _↔_}
-use mathlib.Core.List.{List, List·Memᴰ, _++_}
+use mathlib.Core.Logic.{_⊎_, inl, inr, _↔_}
+use mathlib.Core.List.{List}
 use Prim.Native.Nat.{ℕ, suc, _+_, _*_, _≤_, _<_}
 use native.Mathlib.Omega.{arith}
 use native.Mathlib.Nat.{mul-le-mul-right, suc-mul}
-use lib.ListN.{List·getD-append, drop, length}
-use Rattle.definitions.specs.Answers.{count-of, edges-of, judged, planned, serialized-of, starts-answer, waits-answer}
+use lib.ListN.{List·getD-append, drop}
+use Rattle.definitions.specs.Answers.{count-of, judged, serialized-of}
 use Rattle.definitions.specs.Basics.{Outcome, given, refused}
 use Rattle.definitions.specs.Bytes.{Records}
-use Rattle.definitions.specs.Links.{Constraint, Keeps, constraints, maximum, minimum, sequencing}
+use Rattle.definitions.specs.Links.{Constraint, Keeps, maximum, minimum, sequencing}
 use Rattle.definitions.specs.Numbers.{verdict-of}
 use Rattle.definitions.specs.Plan.{delays}
 use Rattle.definitions.specs.Plan as Plan
 use Rattle.definitions.specs.Rounds.{cell}
-use Rattle.definitions.specs.Waits.{WaitPair, wait-maps}
 use Rattle.definitions.specs.declared.Operation.{Operation}
 use Rattle.definitions.specs.declared.Verdict.{Verdict}
-use Rattle.demands.specs.Demands.{Accepted, ImpossibleFor, IsSheet, NoStarts, SomeListLeavesNone, WellFormed, KeepsLinks, our-start, sheet-waits, wait-link}
+use Rattle.demands.specs.Demands.{Accepted, ImpossibleFor, our-start, wait-link}
 use Rattle.demands.proofs.Demands.{calls-exactly, deciding-sets, each-call-refuses, impossible-exactly, nobody-earlier, nobody-earlier-with-waits, offsets-right, starts-kept, starts-returned, waits-listed}
 use Rattle.demands.proofs.Demands as Demands
 use Rattle.demands.proofs.Edges.{Ends, sheet-ends}
 use Rattle.demands.proofs.Reading.{read-fits}
-use Rattle.planner.specs.declared.WaitMaps.{WaitMaps}
-use Rattle.planner.specs.Promises.{EachCall, Impossible, ImpossibleFromEachCall, PlanHeld, PlanIsThat, StartsKeep, StartsKeepAndNobodyIsEarlier, WaitsAreThose, WaitsHeld}
+use Rattle.planner.specs.Promises.{Impossible, ImpossibleFromEachCall, PlanIsThat, StartsKeepAndNobodyIsEarlier, WaitsAreThose}
 
 -- A verdict that refuses with 10 and with 11 exactly where judging does.
 impossible-by : {s : List ℕ} {allow : Bool} {q : Records} (r : Verdict) → ImpossibleFor s allow q → ((k : ℕ) → k ≤ 12 → (verdict-of r ≡ refused k) ↔ (judged s allow ≡ refused k)) → Impossible q r

@@ -1,6 +1,6 @@
 -- From what the analysis found of accepted edges to the tables that plans and start times are made from.
-use mathlib.Core.Path.{_≡_, refl, sym, ap, ap₂, _∙_}
-use mathlib.Core.Bool.{Bool, true, false, _&&_, _||_}
+use mathlib.Core.Path.{_≡_, refl, ap, ap₂, _∙_}
+use mathlib.Core.Bool.{Bool, true, _&&_, _||_}
 use mathlib.Core.Logic.{_⊎_, inl, inr}
 use mathlib.Core.List.{List, [], _∷_, _++_, map, flatMap, List·Memᴰ, List·Memᴰ·head, List·Memᴰ·tail}
 use Prim.Native.Nat.{ℕ, _<_, _≤_}
@@ -9,7 +9,7 @@ use lib.Dec.{eqb, ltb}
 use lib.ListN.{getD}
 use borrow.Author.Tests.{eq-eqb, eqb-true, lt-ltb}
 use Rattle.definitions.specs.Anchors.{InAnchorSet, is-source, chain, in-anchor-set}
-use Rattle.definitions.specs.Basics.{select-below, tabulate, test-bit}
+use Rattle.definitions.specs.Basics.{tabulate, test-bit}
 use Rattle.definitions.specs.Links.{Edge, members}
 use Rattle.definitions.specs.Plan.{offset-row}
 use Rattle.definitions.specs.Rounds.{after-reaches, cell}
@@ -20,7 +20,7 @@ use Rattle.laws.proofs.Tests.{mem-tabulate, select-below-same}
 use Rattle.relations.specs.Rows.{row-bit}
 use Rattle.schedule.specs.Working.{Holds}
 use Rattle.schedule.proofs.Accepted.{plan-holds}
-use Rattle.theory.specs.Graphs.{Shape, Well}
+use Rattle.theory.specs.Graphs.{Well}
 use Rattle.theory.proofs.Plans.{plan-posed, plan-well}
 use Rattle.theory.proofs.Reachability.{after-reaches-iff, in-anchor-set-iff}
 use Rattle.theory.proofs.Serialization.{after-back}

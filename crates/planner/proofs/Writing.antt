@@ -74,9 +74,6 @@ module _ {n : ℕ} {g : List Edge} {allow : Bool} {found : Analysis} (analysed :
       never true = refl
       never false = refl
 
-  judge-is : Bool → Type 0
-  judge-is b = is-given (verdict-of (found .verdict)) ≡ b
-
   -- The verdict of judging is passed on: where it is a refusal, and where nothing else refuses.
   passed-on : (f : ℕ → Outcome ℕ) (new lent : List ℕ) → is-given (verdict-of (found .verdict)) ≡ false → Answered (when-given (judge-edges n g allow) f) new lent (found .verdict) lent
   passed-on f new lent h =

@@ -5,9 +5,8 @@ use mathlib.Core.Bool.{Bool, true, cond}
 use mathlib.Core.Logic.{_⊎_, _≢_, _↔_}
 use mathlib.Core.List.{List, List·Memᴰ}
 use Prim.Native.Nat.{ℕ, _+_, _*_, _≤_, _<_}
-use lib.ListN.{getD, length}
 use Rattle.definitions.specs.Answers.{count-of, edges-of, judged, planned, starts-answer, waits-answer}
-use Rattle.definitions.specs.Basics.{Outcome, given, refused, test-bit}
+use Rattle.definitions.specs.Basics.{given, refused, test-bit}
 use Rattle.definitions.specs.Bytes.{Records}
 use Rattle.definitions.specs.Links.{Constraint, Keeps, KeepsAll, constraints, members}
 use Rattle.definitions.specs.Numbers.{verdict-of}

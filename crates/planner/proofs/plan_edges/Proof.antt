@@ -1,5 +1,5 @@
 -- `planner::plan_edges` meets its contract, path by path: a refusal of judging, 14, the plan.
-use mathlib.Core.Path.{_≡_, sym, _∙_}
+use mathlib.Core.Path.{sym, _∙_}
 use native.Mathlib.Omega.{arith}
 use borrow.Author.Needs.{needs}
 use borrow.Author.Tests.{not-true, not-false}

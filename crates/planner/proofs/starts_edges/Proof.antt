@@ -1,6 +1,5 @@
 -- `planner::starts_edges` meets its contract, path by path: a refusal of judging, 13, 14 for the list and for the numbers to be written, the starts.
-use mathlib.Core.Path.{_≡_, sym, _∙_}
-use native.Mathlib.Omega.{arith}
+use mathlib.Core.Path.{sym, _∙_}
 use borrow.Author.Needs.{needs}
 use borrow.Author.Tests.{not-true, not-false}
 use Rattle.planner.proofs.Writing.{list-short, out-short, plannable, starts-passed, starts-short, starts-written, starts-wrong}

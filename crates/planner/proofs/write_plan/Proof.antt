@@ -1,5 +1,4 @@
 -- `planner::write_plan` meets its contract: the tables that it makes hold the walks and anchor sets of the edges with the waits in.
-use native.Mathlib.Omega.{arith}
 use borrow.Author.Needs.{needs}
 use Rattle.planner.proofs.Judging.{shape-inside}
 use Rattle.planner.proofs.Tables.{plannable-holds}

@@ -1,5 +1,4 @@
 -- `planner::write_starts` meets its contract: as for a plan, and starts of a list that is not refused have 32 bits.
-use native.Mathlib.Omega.{arith}
 use borrow.Author.Needs.{needs}
 use Prim.Native.Nat.{_≤_}
 use Rattle.schedule.proofs.Accepted.{plan-starts-fit}
