@@ -25,7 +25,7 @@ use Rattle.theory.proofs.Reachability.{after-reaches-iff, in-anchor-set-iff}
 use Rattle.theory.proofs.Serialization.{after-back}
 use Rattle.theory.proofs.WaitLists.{serialized-waited, usable-all}
 use Rattle.theory.proofs.Walks.{after-mono, after-start-below, chain-after, member-after}
-use Rattle.planner.specs.Answers.{Plannable}
+use Rattle.analysis.specs.Outcomes.{Plannable}
 
 -- With the waits in, the members of an anchor set other than 0 are the anchors that reach the step on the sheet as sent: each wait stands for such a walk, and well-posedness carries a member along
 -- every walk.
