@@ -1,7 +1,8 @@
 -- `planner::row_status` meets its contract: the tests of the code are those of the definition, one by one.
 use native.Mathlib.Omega.{arith}
 use denote.Ref.{now}
-use Rattle.planner.proofs.Parts.{row-none, row-many, row-outside, row-short, row-there, square-small}
+use Rattle.analysis.proofs.Writing.{square-small}
+use Rattle.planner.proofs.Parts.{row-none, row-many, row-outside, row-short, row-there}
 use Rattle.planner.proofs.row_status.Statement.{statement}
 use Rattle.planner.proofs.row_status.Tie as tie
 use Rattle.planner.proofs.row_status.Reads as reads

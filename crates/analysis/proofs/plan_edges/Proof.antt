@@ -1,17 +1,16 @@
--- `planner::plan_edges` meets its contract, path by path: a refusal of judging, 14, the plan.
+-- `analysis::plan_edges` meets its contract, path by path: a refusal of judging, 14, the plan.
 use mathlib.Core.Path.{sym, _∙_}
 use native.Mathlib.Omega.{arith}
 use borrow.Author.Needs.{needs}
 use borrow.Author.Tests.{not-true, not-false}
-use Rattle.planner.proofs.Parts.{square-small}
-use Rattle.planner.proofs.Writing.{plan-passed, plan-short, plan-written, plannable}
-use Rattle.planner.proofs.plan_edges.Statement.{statement}
-use Rattle.planner.proofs.plan_edges.Tie as tie
-use Rattle.planner.proofs.plan_edges.Reads as reads
-use Rattle.planner.proofs.plan_edges.Lts as lts
-use Rattle.planner.proofs.analyse.Reads as analyse-reads
-use Rattle.planner.proofs.accepted.Reads as accepted-reads
-use Rattle.planner.proofs.write_plan.Reads as write-plan-reads
+use Rattle.analysis.proofs.Writing.{square-small, plan-passed, plan-short, plan-written, plannable}
+use Rattle.analysis.proofs.plan_edges.Statement.{statement}
+use Rattle.analysis.proofs.plan_edges.Tie as tie
+use Rattle.analysis.proofs.plan_edges.Reads as reads
+use Rattle.analysis.proofs.plan_edges.Lts as lts
+use Rattle.analysis.proofs.analyse.Reads as analyse-reads
+use Rattle.analysis.proofs.accepted.Reads as accepted-reads
+use Rattle.analysis.proofs.write_plan.Reads as write-plan-reads
 
 analyse-requires : tie.Need-analyse-requires
 analyse-requires c κs = search needs

@@ -20,8 +20,8 @@ use Rattle.reach.specs.Pushes.{Reached}
 use Rattle.theory.specs.Graphs.{Shape}
 use Rattle.theory.proofs.WaitLists.{usable-all}
 use Rattle.waits.specs.Reaching.{Reaches}
-use Rattle.planner.specs.declared.Analysis.{Analysis}
-use Rattle.planner.specs.Analysis.{judge-first, judge-waits, judge-rest, Serial, Blank, Serialized, Analysed}
+use Rattle.analysis.specs.declared.Analysis.{Analysis}
+use Rattle.analysis.specs.Analysis.{judge-first, judge-waits, judge-rest, Serial, Blank, Serialized, Analysed}
 
 -- Refusals in a row are the first of them, and then the rest.
 split : {A : Type 0} (a b c : Bool) (i j k : ℕ) (rest : Outcome A) → refuse-if a i (refuse-if b j (refuse-if c k rest)) ≡ when-given {A = Unit {0}} (refuse-if a i (refuse-if b j (refuse-if c k (given tt)))) (λ u. rest)

@@ -1,11 +1,11 @@
--- `planner::waits_verdict` meets its contract.
+-- `analysis::waits_verdict` meets its contract.
 use mathlib.Core.Path.{sym, _∙_}
 use native.Mathlib.Omega.{arith}
-use Rattle.planner.proofs.Judging.{waits-none, waits-allowed, waits-refused}
-use Rattle.planner.proofs.waits_verdict.Statement.{statement}
-use Rattle.planner.proofs.waits_verdict.Tie as tie
-use Rattle.planner.proofs.waits_verdict.Reads as reads
-use Rattle.planner.proofs.waits_verdict.Lts as lts
+use Rattle.analysis.proofs.Judging.{waits-none, waits-allowed, waits-refused}
+use Rattle.analysis.proofs.waits_verdict.Statement.{statement}
+use Rattle.analysis.proofs.waits_verdict.Tie as tie
+use Rattle.analysis.proofs.waits_verdict.Reads as reads
+use Rattle.analysis.proofs.waits_verdict.Lts as lts
 
 returns : tie.Need-returns
 returns c n g e = sym (waits-none n g (sym e ∙ c .if1 .taken) _)

@@ -1,22 +1,21 @@
 -- From what the analysis found of accepted edges to the tables that plans and start times are made from.
-use mathlib.Core.Path.{_≡_, refl, ap, ap₂, _∙_}
+use mathlib.Core.Path.{_≡_, ap, _∙_}
 use mathlib.Core.Bool.{Bool, true, _&&_, _||_}
 use mathlib.Core.Logic.{_⊎_, inl, inr}
-use mathlib.Core.List.{List, [], _∷_, _++_, map, flatMap, List·Memᴰ, List·Memᴰ·head, List·Memᴰ·tail}
+use mathlib.Core.List.{List, [], _++_}
 use Prim.Native.Nat.{ℕ, _<_, _≤_}
 use native.Mathlib.Omega.{arith}
 use lib.Dec.{eqb, ltb}
 use lib.ListN.{getD}
 use borrow.Author.Tests.{eq-eqb, eqb-true, lt-ltb}
 use Rattle.definitions.specs.Anchors.{InAnchorSet, is-source, chain, in-anchor-set}
-use Rattle.definitions.specs.Basics.{tabulate, test-bit}
 use Rattle.definitions.specs.Links.{Edge, members}
 use Rattle.definitions.specs.Plan.{offset-row}
 use Rattle.definitions.specs.Rounds.{after-reaches, cell}
-use Rattle.definitions.specs.Waits.{WaitPair, serialized, wait-edge, wait-list, wait-maps, waits-for, waits-of}
-use Rattle.edges.specs.Serial.{pairs, pairs-of, wait-edges}
+use Rattle.definitions.specs.Waits.{serialized}
+use Rattle.edges.specs.Serial.{wait-edges}
+use Rattle.edges.proofs.Serializing.{serialized-maps}
 use Rattle.laws.proofs.Bools.{and-join, and-split, or-left, or-right, or-split, same-test}
-use Rattle.laws.proofs.Tests.{mem-tabulate, select-below-same}
 use Rattle.relations.specs.Rows.{row-bit}
 use Rattle.schedule.specs.Working.{Holds}
 use Rattle.schedule.proofs.Accepted.{plan-holds}
@@ -24,35 +23,9 @@ use Rattle.theory.specs.Graphs.{Well}
 use Rattle.theory.proofs.Plans.{plan-posed, plan-well}
 use Rattle.theory.proofs.Reachability.{after-reaches-iff, in-anchor-set-iff}
 use Rattle.theory.proofs.Serialization.{after-back}
-use Rattle.theory.proofs.WaitLists.{serialized-waited, usable-all, wait-map-bit, wait-maps-at}
+use Rattle.theory.proofs.WaitLists.{serialized-waited, usable-all}
 use Rattle.theory.proofs.Walks.{after-mono, after-start-below, chain-after, member-after}
-use Rattle.planner.specs.Answers.{Plannable}
-
--- Two functions that agree on a list's members give the same lists end to end.
-flatMap-same : {A B : Type 0} (f g : A → List B) (xs : List A) → ((x : A) → List·Memᴰ x xs → f x ≡ g x) → flatMap f xs ≡ flatMap g xs
-unfolding flatMap
-flatMap-same f g [] h = refl
-flatMap-same f g (x ∷ xs) h = ap₂ (λ l m. l ++ m) (h x (List·Memᴰ·head refl)) (flatMap-same f g xs (λ y m. h y (List·Memᴰ·tail m)))
-
-module _ (n : ℕ) (g : List Edge) (few : n ≤ 64) where
-  -- The maps hold the waits, bit by bit; so the edges read off them are those of the waits.
-  wait-bit : (a i : ℕ) → a < n → i < n → test-bit (getD (wait-maps n g) i 0) a ≡ waits-for n g a i
-  wait-bit a i b c =
-      ap (λ (m : ℕ). test-bit m a) (wait-maps-at n g i (omega arith))
-      ∙ wait-map-bit n g i a
-      ∙ ap₂ (λ x y. x && (y && waits-for n g a i)) (lt-ltb a n b) (lt-ltb i n c)
-
-  pairs-waits : pairs n (wait-maps n g) ≡ wait-list n g
-  unfolding pairs pairs-of wait-list waits-of
-  pairs-waits =
-      flatMap-same (λ a. pairs-of (wait-maps n g) a n) (waits-of n g) (tabulate (λ a. a) n)
-      (λ a m. let r = mem-tabulate (λ a. a) n m in let b : a < n = omega (arith, r .1, r .2) in
-      ap (map (λ i. record { anchor = a; target = i }))
-      (select-below-same (λ i. test-bit (getD (wait-maps n g) i 0) a) (waits-for n g a) n (λ i c. wait-bit a i b c)))
-
-  pub serialized-maps : g ++ wait-edges n (wait-maps n g) ≡ serialized n g
-  unfolding serialized wait-edges
-  serialized-maps = ap (λ (l : List WaitPair). g ++ map wait-edge l) pairs-waits
+use Rattle.analysis.specs.Outcomes.{Plannable}
 
 -- With the waits in, the members of an anchor set other than 0 are the anchors that reach the step on the sheet as sent: each wait stands for such a walk, and well-posedness carries a member along
 -- every walk.

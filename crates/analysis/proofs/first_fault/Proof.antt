@@ -1,12 +1,12 @@
--- `planner::first_fault` meets its contract.
+-- `analysis::first_fault` meets its contract.
 use mathlib.Core.Path.{sym, _∙_}
 use borrow.Author.Needs.{needs}
 use borrow.Author.Tests.{not-true, not-false}
-use Rattle.planner.proofs.Judging.{first-8, first-9, first-10, first-done, shape-inside}
-use Rattle.planner.proofs.first_fault.Statement.{statement}
-use Rattle.planner.proofs.first_fault.Tie as tie
-use Rattle.planner.proofs.first_fault.Reads as reads
-use Rattle.planner.proofs.first_fault.Lts as lts
+use Rattle.analysis.proofs.Judging.{first-8, first-9, first-10, first-done, shape-inside}
+use Rattle.analysis.proofs.first_fault.Statement.{statement}
+use Rattle.analysis.proofs.first_fault.Tie as tie
+use Rattle.analysis.proofs.first_fault.Reads as reads
+use Rattle.analysis.proofs.first_fault.Lts as lts
 use Rattle.anchors.proofs.has_cycle.Reads as has-cycle-reads
 use Rattle.anchors.proofs.has_unreached.Reads as has-unreached-reads
 use Rattle.heaviest.proofs.feasible.Reads as feasible-reads

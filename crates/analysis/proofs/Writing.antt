@@ -4,6 +4,7 @@ use mathlib.Core.Bool.{Bool, true, false, cond, not, _&&_, _||_, true≢false, f
 use mathlib.Core.List.{List, _++_}
 use Prim.Native.Nat.{ℕ, _*_, _<_, _≤_}
 use native.Mathlib.Omega.{arith}
+use native.Mathlib.Nat.{le-trans, mul-le-mul-left}
 use lib.Dec.{ltb}
 use lib.ListN.{drop, length}
 use borrow.Author.Tests.{le-ltb, lt-ltb}
@@ -23,9 +24,13 @@ use Rattle.laws.proofs.Bools.{or-left, or-right}
 use Rattle.theory.specs.Graphs.{Gains, Shape}
 use Rattle.theory.proofs.PlanTables.{plan-table-length}
 use Rattle.theory.proofs.StartTimes.{start-times-length}
-use Rattle.planner.specs.declared.Analysis.{Analysis}
-use Rattle.planner.specs.Analysis.{Analysed}
-use Rattle.planner.specs.Answers.{Plannable, is-given, plan-outcome, starts-outcome}
+use Rattle.analysis.specs.declared.Analysis.{Analysis}
+use Rattle.analysis.specs.Analysis.{Analysed}
+use Rattle.analysis.specs.Outcomes.{Plannable, is-given, plan-outcome, starts-outcome}
+
+-- The square of a count fits.
+pub square-small : (n : ℕ) → n ≤ 64 → n * n ≤ 4096
+square-small n h = le-trans (mul-le-mul-left n h) (omega arith)
 
 -- An outcome that is an answer, and one that is not.
 given-value : (o : Outcome ℕ) → is-given o ≡ true → (v : ℕ) × (o ≡ given v)

@@ -1,17 +1,17 @@
--- `planner::analyse` meets its contract.
+-- `analysis::analyse` meets its contract.
 use mathlib.Core.Path.{sym, ap, _∙_}
 use borrow.Author.Needs.{needs}
 use Rattle.definitions.specs.Numbers.{status-of}
 use Rattle.definitions.specs.declared.Status.{Status}
-use Rattle.planner.proofs.Judging.{analysed-refused, analysed-rest}
-use Rattle.planner.proofs.analyse.Statement.{statement}
-use Rattle.planner.proofs.analyse.Tie as tie
-use Rattle.planner.proofs.analyse.Reads as reads
-use Rattle.planner.proofs.analyse.Lts as lts
+use Rattle.analysis.proofs.Judging.{analysed-refused, analysed-rest}
+use Rattle.analysis.proofs.analyse.Statement.{statement}
+use Rattle.analysis.proofs.analyse.Tie as tie
+use Rattle.analysis.proofs.analyse.Reads as reads
+use Rattle.analysis.proofs.analyse.Lts as lts
 use Rattle.anchors.proofs.forward.Reads as forward-reads
-use Rattle.planner.proofs.first_fault.Reads as first-fault-reads
-use Rattle.planner.proofs.refused_analysis.Reads as refused-analysis-reads
-use Rattle.planner.proofs.serialize.Reads as serialize-reads
+use Rattle.analysis.proofs.first_fault.Reads as first-fault-reads
+use Rattle.analysis.proofs.refused_analysis.Reads as refused-analysis-reads
+use Rattle.analysis.proofs.serialize.Reads as serialize-reads
 
 forward-requires : tie.Need-forward-requires
 forward-requires c κs = search needs

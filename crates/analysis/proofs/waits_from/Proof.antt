@@ -1,9 +1,9 @@
--- `planner::waits_from` meets its contract.
+-- `analysis::waits_from` meets its contract.
 use borrow.Author.Needs.{needs}
-use Rattle.planner.proofs.waits_from.Statement.{statement}
-use Rattle.planner.proofs.waits_from.Tie as tie
-use Rattle.planner.proofs.waits_from.Reads as reads
-use Rattle.planner.proofs.waits_from.Lts as lts
+use Rattle.analysis.proofs.waits_from.Statement.{statement}
+use Rattle.analysis.proofs.waits_from.Tie as tie
+use Rattle.analysis.proofs.waits_from.Reads as reads
+use Rattle.analysis.proofs.waits_from.Lts as lts
 use Rattle.anchors.proofs.anchor_sets.Reads as anchor-sets-reads
 use Rattle.anchors.proofs.targets.Reads as targets-reads
 use Rattle.waits.proofs.wait_maps.Reads as wait-maps-reads

@@ -1,14 +1,14 @@
--- `planner::serialize` meets its contract.
+-- `analysis::serialize` meets its contract.
 use mathlib.Core.Path.{sym, _∙_}
 use borrow.Author.Needs.{needs}
-use Rattle.planner.proofs.Judging.{reached-reaches, serialized-refused, serialized-found}
-use Rattle.planner.proofs.serialize.Statement.{statement}
-use Rattle.planner.proofs.serialize.Tie as tie
-use Rattle.planner.proofs.serialize.Reads as reads
-use Rattle.planner.proofs.serialize.Lts as lts
-use Rattle.planner.proofs.refused_analysis.Reads as refused-analysis-reads
-use Rattle.planner.proofs.waits_from.Reads as waits-from-reads
-use Rattle.planner.proofs.waits_verdict.Reads as waits-verdict-reads
+use Rattle.analysis.proofs.Judging.{reached-reaches, serialized-refused, serialized-found}
+use Rattle.analysis.proofs.serialize.Statement.{statement}
+use Rattle.analysis.proofs.serialize.Tie as tie
+use Rattle.analysis.proofs.serialize.Reads as reads
+use Rattle.analysis.proofs.serialize.Lts as lts
+use Rattle.analysis.proofs.refused_analysis.Reads as refused-analysis-reads
+use Rattle.analysis.proofs.waits_from.Reads as waits-from-reads
+use Rattle.analysis.proofs.waits_verdict.Reads as waits-verdict-reads
 use Rattle.reach.proofs.reach.Reads as reach-reads
 use Rattle.waits.proofs.count_waits.Reads as count-waits-reads
 use Rattle.waits.proofs.is_inconsistent.Reads as is-inconsistent-reads

@@ -10,7 +10,7 @@ use Rattle.definitions.specs.Links.{Edge}
 use Rattle.definitions.specs.Numbers.{verdict-of}
 use Rattle.definitions.specs.Waits.{wait-maps, wait-count, needs-waits}
 use Rattle.waits.specs.Reaching.{Reaches}
-use Rattle.planner.specs.declared.Analysis.{Analysis}
+use Rattle.analysis.specs.declared.Analysis.{Analysis}
 
 -- Judging in two parts: 8 to 10, and from 11 on.
 unfoldable pub judge-first : ℕ → List Edge → Outcome (Unit {0})
