@@ -1,13 +1,12 @@
 -- What closed rows say: chains over the rows of direct predecessors are chains of forward edges; refusals 8 and 9 and the anchor sets are read off them.
 use mathlib.Core.Path.{_≡_, refl, sym, ap, _∙_}
-use mathlib.Core.Bool.{Bool, true, false, not, _&&_, _||_}
-use mathlib.Core.Logic.{_⊎_, inl, inr, _↔_, _≢_}
-use mathlib.Core.List.{List, List·Memᴰ}
+use mathlib.Core.Bool.{Bool, true, not, _&&_, _||_}
+use mathlib.Core.Logic.{_⊎_, inl, inr, _≢_}
+use mathlib.Core.List.{List}
 use Prim.Native.Nat.{ℕ, suc, _+_, _<_, _≤_}
 use native.Mathlib.Omega.{arith}
 use native.Mathlib.Decide.{decLt}
 use lib.Dec.{eqb, ltb}
-use lib.ListN.{getD}
 use borrow.Author.Tests.{eq-eqb, eqb-true, le-ltb, not-true}
 use Rattle.definitions.specs.Anchors.{InAnchorSet, is-source, chain, in-anchor-set}
 use Rattle.definitions.specs.Answers.{closes-circle, unreached}
@@ -15,13 +14,13 @@ use Rattle.definitions.specs.Basics.{any, any-below}
 use Rattle.definitions.specs.Links.{Edge, Graph, Forward, Walk, Joined, After, forwards, members, step, stop}
 use Rattle.definitions.specs.Rounds.{reaches}
 use Rattle.closure.specs.Chains.{Chain, link, more, Linked, Closure}
-use Rattle.laws.proofs.Bools.{and-join, and-split, bool-cases, or-left, or-right, or-split, same-or-not, same-test}
+use Rattle.laws.proofs.Bools.{and-join, and-split, or-left, or-right, or-split, same-or-not, same-test}
 use Rattle.laws.proofs.Searches.{any-below-same}
 use Rattle.laws.proofs.Tests.{any-by, any-has, any-below-by, any-below-has}
-use Rattle.relations.specs.Rows.{row-bit, Gathered}
+use Rattle.relations.specs.Rows.{row-bit}
 use Rattle.theory.specs.Graphs.{Shape}
 use Rattle.theory.proofs.Reachability.{forwards-mem, mem-forwards, forwards-shape, reaches-joined, joined-reaches, in-anchor-set-iff}
-use Rattle.theory.proofs.Walks.{walk-edge, walk-from, walk-to, join, joined-mono, after-by, counted-forward}
+use Rattle.theory.proofs.Walks.{walk-from, walk-to, joined-mono, after-by, counted-forward}
 use Rattle.anchors.specs.Chains.{Travels, Predecessors, Targets, precedes, counts-to, Closed, anchors-to, at-or-before}
 
 -- A walk of at least one edge is a walk and a last edge; every walk is empty or has at least one edge.

@@ -13,12 +13,8 @@ use borrow.Author.Tests.{eq-eqb, le-ltb, lt-ltb, ne-eqb}
 use Rattle.definitions.specs.Basics.{any, test-bit}
 use Rattle.laws.proofs.Bools.{same-or-not}
 use Rattle.laws.proofs.Maps.{same-map, test-zero}
-use Rattle.laws.proofs.Searches.{any-snoc, map-take-more}
+use Rattle.laws.proofs.Searches.{any-snoc, map-take-more, or-none}
 use Rattle.relations.specs.Rows.{row-bit, Gathered}
-
-or-nothing : (b : Bool) → b ≡ (b || false)
-or-nothing true = refl
-or-nothing false = refl
 
 -- A row that takes in what passes P: that row's bits have it, and no other row changes.
 pub store-bit : (rows : List ℕ) (v m : ℕ) (P : ℕ → Bool) → v < length rows → ((k : ℕ) → test-bit m k ≡ (row-bit rows v k || P k)) → (w k : ℕ) → row-bit (set rows v m) w k ≡ (row-bit rows w k || (eqb w v && P k))
@@ -33,7 +29,7 @@ store-bit rows v m P b f w k = go (same-or-not w v)
         ∙ ap (λ (t : Bool). row-bit rows w k || (t && P k)) (sym (eq-eqb w v e))
     go (inr e) =
         ap (λ (x : ℕ). test-bit x k) (getD-set-other rows v w m 0 e)
-        ∙ or-nothing (row-bit rows w k)
+        ∙ sym (or-none (row-bit rows w k))
         ∙ ap (λ (t : Bool). row-bit rows w k || (t && P k)) (sym (ne-eqb w v e))
 
 zeros-at : (n v : ℕ) → getD (replicate {A = ℕ} n 0) v 0 ≡ 0
@@ -72,7 +68,7 @@ module _ {A : Type 0} (test : ℕ → ℕ → A → Bool) where
 
 -- A part that is taken in under a condition: it is left out where the condition fails, and is there where it holds.
 pub or-skip : (b t c : Bool) → t ≡ false → b ≡ (b || (t && c))
-or-skip b t c h = or-nothing b ∙ ap (λ (x : Bool). b || (x && c)) (sym h)
+or-skip b t c h = sym (or-none b) ∙ ap (λ (x : Bool). b || (x && c)) (sym h)
 
 pub or-take : (b t c : Bool) → t ≡ true → (b || c) ≡ (b || (t && c))
 or-take b t c h = ap (λ (x : Bool). b || (x && c)) (sym h)
@@ -88,7 +84,7 @@ below-or-at : (w v : ℕ) (s t : Bool) → (w ≡ v → s ≡ t) → ((ltb w v &
 below-or-at w v s t h = go (same-or-not w v)
   where
     beside : (b : Bool) → ((b && t) || false) ≡ (b && t)
-    beside b = sym (or-nothing (b && t))
+    beside b = or-none (b && t)
 
     apart : w ≢ v → ltb w v ≡ ltb w (v + 1)
     apart d = side (decLt w v)
@@ -143,6 +139,6 @@ made-row F {v} {rows} m b h f = record { long = length-set rows v m ∙ h .long;
     at w k (inr e) =
         ap (λ (x : ℕ). test-bit x k) (getD-set-other rows v w m 0 e)
         ∙ h .bits w k
-        ∙ or-nothing (ltb w v && F w k)
+        ∙ sym (or-none (ltb w v && F w k))
         ∙ ap (λ (t : Bool). (ltb w v && F w k) || (t && F w k)) (sym (ne-eqb w v e))
         ∙ below-or-at w v (F w k) (F w k) (λ d. refl)

@@ -235,5 +235,7 @@ module _ {n : ℕ} {es : List Edge} {d : List (List ℕ)} {sets : List ℕ} (h :
 pub planned : {n : ℕ} {d : List (List ℕ)} {sets lent after : List ℕ} → after ≡ first-rows d sets n n ++ drop (n * n) lent → Planned n d sets lent after
 planned {n} {lent = lent} e = record { read = e; plan = λ es h. e ∙ ap (λ (l : List ℕ). l ++ drop (n * n) lent) (table-plan h) }
 
-pub started : {n : ℕ} {d : List (List ℕ)} {sets list lent after : List ℕ} → after ≡ tabulate (cut-start (row-after d sets n list n)) n ++ drop n lent → Started n d sets list lent after
-started {n} {list = list} {lent = lent} e = record { read = e; times = λ es h s. e ∙ ap (λ (l : List ℕ). l ++ drop n lent) (starts-times h list s) }
+pub started : {n : ℕ} {d : List (List ℕ)} {sets list lent after row : List ℕ} → row ≡ row-after d sets n list n → after ≡ tabulate (cut-start row) n ++ drop n lent → Started n d sets list lent after
+started {n} {d} {sets} {list} {lent} {after} f e =
+    let read : after ≡ tabulate (cut-start (row-after d sets n list n)) n ++ drop n lent = e ∙ ap (λ (l : List ℕ). tabulate (cut-start l) n ++ drop n lent) f in
+    record { read = read; times = λ es h s. read ∙ ap (λ (l : List ℕ). l ++ drop n lent) (starts-times h list s) }

@@ -1,7 +1,7 @@
 -- What the rows of waits are: the maps of the definition, and their count.
-use mathlib.Core.Path.{_≡_, refl, sym, ap, _∙_}
-use mathlib.Core.Bool.{Bool, true, false, cond, not, _&&_}
-use mathlib.Core.List.{List, List·Memᴰ, map}
+use mathlib.Core.Path.{_≡_, sym, ap, _∙_}
+use mathlib.Core.Bool.{Bool, true, cond, not, _&&_}
+use mathlib.Core.List.{List}
 use Prim.Native.Nat.{ℕ, _+_, _-_, _<_, _≤_}
 use native.Mathlib.Omega.{arith}
 use lib.Dec.{eqb, ltb}
@@ -10,17 +10,16 @@ use lib.Seq.{ext-getD}
 use borrow.Author.Tests.{eq-eqb, eqb-true, le-ltb, lt-ltb, ltb-true, not-true}
 use Rattle.definitions.specs.Anchors.{in-anchor-set}
 use Rattle.definitions.specs.Answers.{inconsistent}
-use Rattle.definitions.specs.Basics.{any, any-below, select-below, tabulate, test-bit}
-use Rattle.definitions.specs.Links.{Edge, members, usable}
+use Rattle.definitions.specs.Basics.{any, any-below, select-below, test-bit}
+use Rattle.definitions.specs.Links.{Edge, usable}
 use Rattle.definitions.specs.Rounds.{after-reaches}
 use Rattle.definitions.specs.Waits.{WaitPair, wait-count, wait-list, wait-map, wait-maps, waits-for, waits-of}
-use Rattle.laws.proofs.Bools.{and-join, and-split, not-passing, both-ways, same-test}
+use Rattle.laws.proofs.Bools.{and-join, and-split, same-test}
 use Rattle.laws.proofs.Counts.{sum-below, sum-below-same, sum-below-cut, sum-below-swap, select-length, flatMap-length}
 use Rattle.laws.proofs.Maps.{same-map}
 use Rattle.laws.proofs.Searches.{any-below-same}
 use Rattle.laws.proofs.Tests.{any-by, any-has, tabulate-length}
 use Rattle.relations.specs.Rows.{row-bit, Gathered}
-use Rattle.theory.specs.Graphs.{Shape}
 use Rattle.theory.proofs.Reachability.{after-reaches-iff}
 use Rattle.theory.proofs.WaitLists.{usable-all, wait-map-bit, wait-maps-at}
 use Rattle.theory.proofs.Walks.{after-start-below}

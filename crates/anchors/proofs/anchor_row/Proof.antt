@@ -1,8 +1,8 @@
 -- `anchors::anchor_row` meets its contract. Invariant: the row holds the anchors below a.
-use mathlib.Core.Path.{_≡_, refl, sym, ap, ap₂, _∙_}
-use mathlib.Core.Bool.{Bool, true, false, not, _&&_, _||_}
-use Prim.Native.Nat.{ℕ, _+_, _-_, _<_, _≤_}
-use lib.Dec.{eqb, ltb}
+use mathlib.Core.Path.{_≡_, ap, _∙_}
+use mathlib.Core.Bool.{_&&_}
+use Prim.Native.Nat.{ℕ, _-_, _≤_}
+use lib.Dec.{ltb}
 use Rattle.definitions.specs.Basics.{test-bit}
 use Rattle.relations.proofs.Gathering.{made-none, made-more}
 use Rattle.anchors.specs.Chains.{anchors-to}
@@ -10,9 +10,6 @@ use native.Mathlib.Omega.{arith}
 use borrow.Author.Needs.{needs}
 use Rattle.anchors.proofs.anchor_row.Statement.{statement}
 use Rattle.anchors.proofs.anchor_row.Tie as tie
-use Rattle.anchors.proofs.anchor_row.Reads as reads
-use Rattle.anchors.proofs.anchor_row.Lts as lts
-use Rattle.anchors.proofs.with_anchor.Reads as with-anchor-reads
 
 abbrev Inv-loop : tie.InvT-loop
 Inv-loop before targets n row₀ a₀ row a = (a ≤ n) × ((k : ℕ) → test-bit row k ≡ (ltb k a && anchors-to targets (test-bit before) k))
@@ -40,8 +37,7 @@ loop-less c = search needs
 
 loop-again : tie.Need-loop-again Inv-loop μ-loop
 loop-again c =
-    let s = c .before .before .before in
-    (
+    let s = c .before .before .before in (
       omega arith,
       made-more (anchors-to (s .before .args .targets .now) (test-bit (s .before .args .before))) (s .loop .row) (c .with-anchor .result) (s .loop .a) (s .loop .inv .1) (c .with-anchor .ensures),
     )

@@ -1,9 +1,9 @@
 -- `anchors::anchor_sets` meets its contract. Invariant: the rows below v are made.
-use mathlib.Core.Path.{_≡_, refl, sym, ap, ap₂, _∙_}
-use mathlib.Core.Bool.{Bool, true, false, not, _&&_, _||_}
+use mathlib.Core.Path.{_≡_, ap, _∙_}
+use mathlib.Core.Bool.{Bool, _&&_}
 use mathlib.Core.List.{List}
-use Prim.Native.Nat.{ℕ, _+_, _-_, _<_, _≤_}
-use lib.Dec.{eqb, ltb}
+use Prim.Native.Nat.{ℕ, _-_, _≤_}
+use lib.Dec.{ltb}
 use Rattle.relations.specs.Rows.{row-bit}
 use Rattle.relations.proofs.Gathering.{Made, made-no-row, made-row}
 use Rattle.anchors.specs.Chains.{anchors-to, at-or-before}
@@ -12,10 +12,6 @@ use native.Mathlib.Omega.{arith}
 use borrow.Author.Needs.{needs}
 use Rattle.anchors.proofs.anchor_sets.Statement.{statement}
 use Rattle.anchors.proofs.anchor_sets.Tie as tie
-use Rattle.anchors.proofs.anchor_sets.Reads as reads
-use Rattle.anchors.proofs.anchor_sets.Lts as lts
-use Rattle.anchors.proofs.anchor_row.Reads as anchor-row-reads
-use Rattle.bitmaps.proofs.insert.Reads as insert-reads
 
 -- Row w holds the anchors below n whose targets are w or come before w.
 abbrev anchored : List ℕ → List ℕ → ℕ → ℕ → ℕ → Bool
@@ -59,8 +55,7 @@ loop-again c =
     let s = c .before .before .before .before in
     let closed = s .before .args .closed .now in
     let targets = s .before .args .targets .now in
-    let n = s .before .args .n in
-    (
+    let n = s .before .args .n in (
       omega arith,
       made-row (anchored closed targets n) (c .anchor-row .result) (search needs) (s .loop .inv .1) (λ k. c .anchor-row .ensures k ∙ ap (λ (b : Bool). ltb k n && b) (anchors-same targets k (c .before .insert .ensures))),
     )
@@ -71,7 +66,7 @@ returns c =
     let e : s .loop .v ≡ s .before .args .n = omega arith in
     let few : s .before .args .n ≤ 64 = search needs in
     let whole : (a v : ℕ) → row-bit (s .loop .rows) v a ≡ (ltb v (s .before .args .n) && anchored (s .before .args .closed .now) (s .before .args .targets .now) (s .before .args .n) v a)
-        = λ a v. s .loop .inv .1 .bits v a ∙ ap (λ (x : ℕ). ltb v x && anchored (s .before .args .closed .now) (s .before .args .targets .now) (s .before .args .n) v a) e in
+    = λ a v. s .loop .inv .1 .bits v a ∙ ap (λ (x : ℕ). ltb v x && anchored (s .before .args .closed .now) (s .before .args .targets .now) (s .before .args .n) v a) e in
     (whole, λ g closed counted. record { bits = λ a v. whole a v ∙ sets-by closed counted few a v })
 
 pub anchor-sets-spec : {M : Type 1} → statement M

@@ -1,22 +1,14 @@
 -- `anchors::forward` meets its contract: closing the direct predecessors gives the chains.
-use mathlib.Core.Path.{_≡_, refl, sym, ap, ap₂, _∙_}
-use mathlib.Core.Bool.{Bool, true, false, not, _&&_, _||_}
-use Prim.Native.Nat.{ℕ, _+_, _-_, _<_, _≤_}
-use lib.Dec.{eqb, ltb}
+use Prim.Native.Nat.{ℕ}
 use mathlib.Core.List.{List}
 use mathlib.Core.Path.{subst}
 use Rattle.closure.specs.Chains.{Closure}
 use Rattle.relations.proofs.Gathering.{gathered-unique}
 use Rattle.anchors.specs.Chains.{precedes}
 use Rattle.anchors.proofs.Travelling.{closed-by}
-use native.Mathlib.Omega.{arith}
 use borrow.Author.Needs.{needs}
 use Rattle.anchors.proofs.forward.Statement.{statement}
 use Rattle.anchors.proofs.forward.Tie as tie
-use Rattle.anchors.proofs.forward.Reads as reads
-use Rattle.anchors.proofs.forward.Lts as lts
-use Rattle.anchors.proofs.predecessors.Reads as predecessors-reads
-use Rattle.closure.proofs.close.Reads as close-reads
 
 predecessors-requires : tie.Need-predecessors-requires
 predecessors-requires c κs = search needs
@@ -26,9 +18,9 @@ close-requires c κs = search needs
 
 returns : tie.Need-returns
 returns c = (
-      λ rows direct. subst (λ (l : List ℕ). Closure (c .before .before .before .args .n) l (c .close .result)) (gathered-unique precedes (c .before .predecessors .ensures) direct) (c .close .ensures),
-      λ shape. closed-by (c .before .predecessors .ensures) shape (c .close .ensures),
-    )
+  λ rows direct. subst (λ (l : List ℕ). Closure (c .before .before .before .args .n) l (c .close .result)) (gathered-unique precedes (c .before .predecessors .ensures) direct) (c .close .ensures),
+  λ shape. closed-by (c .before .predecessors .ensures) shape (c .close .ensures),
+)
 
 pub forward-spec : {M : Type 1} → statement M
 forward-spec = tie.close (tie.spec predecessors-requires close-requires returns)

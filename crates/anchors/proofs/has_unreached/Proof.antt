@@ -1,8 +1,8 @@
 -- `anchors::has_unreached` meets its contract. Invariant: every step below v is step 0 or comes after it.
-use mathlib.Core.Path.{_≡_, refl, sym, ap, ap₂, _∙_}
-use mathlib.Core.Bool.{Bool, true, false, not, _&&_, _||_}
-use Prim.Native.Nat.{ℕ, _+_, _-_, _<_, _≤_}
-use lib.Dec.{eqb, ltb}
+use mathlib.Core.Path.{_≡_, refl, sym, ap₂, _∙_}
+use mathlib.Core.Bool.{Bool, true, false, not, _||_}
+use Prim.Native.Nat.{ℕ, _-_, _≤_}
+use lib.Dec.{eqb}
 use borrow.Author.Tests.{ne-eqb, not-true, not-false}
 use mathlib.Core.List.{List}
 use Rattle.definitions.specs.Basics.{any-below}
@@ -14,9 +14,6 @@ use native.Mathlib.Omega.{arith}
 use borrow.Author.Needs.{needs}
 use Rattle.anchors.proofs.has_unreached.Statement.{statement}
 use Rattle.anchors.proofs.has_unreached.Tie as tie
-use Rattle.anchors.proofs.has_unreached.Reads as reads
-use Rattle.anchors.proofs.has_unreached.Lts as lts
-use Rattle.bitmaps.proofs.has.Reads as has-reads
 
 -- v is not step 0, and does not come after it
 abbrev lost : List ℕ → ℕ → Bool

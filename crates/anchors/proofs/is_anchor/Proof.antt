@@ -1,16 +1,8 @@
 -- `anchors::is_anchor` meets its contract: the two cases of the test.
-use mathlib.Core.Path.{_≡_, refl, sym, ap, _∙_}
-use mathlib.Core.Bool.{Bool, true, false, not, _&&_, _||_}
-use Prim.Native.Nat.{ℕ, _+_, _-_, _<_, _≤_}
-use lib.Dec.{eqb, ltb}
 use borrow.Author.Tests.{eq-eqb, ne-eqb}
-use native.Mathlib.Omega.{arith}
 use borrow.Author.Needs.{needs}
 use Rattle.anchors.proofs.is_anchor.Statement.{statement}
 use Rattle.anchors.proofs.is_anchor.Tie as tie
-use Rattle.anchors.proofs.is_anchor.Reads as reads
-use Rattle.anchors.proofs.is_anchor.Lts as lts
-use Rattle.bitmaps.proofs.meets.Reads as meets-reads
 
 returns : tie.Need-returns
 returns c = simp (eq-eqb _ 0 (c .if1 .taken))

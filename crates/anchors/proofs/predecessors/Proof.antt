@@ -1,8 +1,8 @@
 -- `anchors::predecessors` meets its contract. Invariant: the rows hold what the words passed over say.
-use mathlib.Core.Path.{_≡_, refl, sym, ap, _∙_}
-use mathlib.Core.Bool.{Bool, true, false, not, _&&_, _||_}
-use Prim.Native.Nat.{ℕ, _+_, _-_, _<_, _≤_}
-use lib.Dec.{eqb, ltb}
+use mathlib.Core.Path.{sym, ap}
+use mathlib.Core.Bool.{not, _&&_}
+use Prim.Native.Nat.{ℕ, _-_, _≤_}
+use lib.Dec.{eqb}
 use lib.ListN.{length, getD, take}
 use Rattle.edges.specs.Words.{unpack, graph}
 use Rattle.relations.specs.Rows.{Gathered}
@@ -12,10 +12,6 @@ use native.Mathlib.Omega.{arith}
 use borrow.Author.Needs.{needs}
 use Rattle.anchors.proofs.predecessors.Statement.{statement}
 use Rattle.anchors.proofs.predecessors.Tie as tie
-use Rattle.anchors.proofs.predecessors.Reads as reads
-use Rattle.anchors.proofs.predecessors.Lts as lts
-use Rattle.anchors.proofs.with_predecessor.Reads as with-predecessor-reads
-use Rattle.edges.proofs.edge_to.Reads as edge-to-reads
 
 abbrev Inv-loop : tie.InvT-loop
 Inv-loop es rows₀ i₀ rows i = (i ≤ length es) × Gathered precedes (graph (take i es)) rows
@@ -62,8 +58,7 @@ unfolding graph
 loop-again c =
     let s = c .before .before .before .before in
     let es = s .before .before .args .es .now in
-    let e = unpack (getD es (s .loop .i) 0) in
-    (
+    let e = unpack (getD es (s .loop .i) 0) in (
       omega arith,
       pass-more precedes unpack es (s .loop .i) 0 (c .before .edge-to .result) (c .with-predecessor .result) (λ k. not (e .back) && eqb k (e .from)) (search needs) (s .loop .inv .1) (c .before .edge-to .ensures .1) (c .with-predecessor .ensures) (λ w k. ap (λ (x : ℕ). eqb w x && (not (e .back) && eqb k (e .from))) (sym (c .before .edge-to .ensures .0))),
     )

@@ -1,8 +1,8 @@
 -- `anchors::targets` meets its contract. Invariant: the rows hold what the words passed over say.
-use mathlib.Core.Path.{_≡_, refl, sym, ap, _∙_}
-use mathlib.Core.Bool.{Bool, true, false, not, _&&_, _||_}
-use Prim.Native.Nat.{ℕ, _+_, _-_, _<_, _≤_}
-use lib.Dec.{eqb, ltb}
+use mathlib.Core.Path.{sym, ap}
+use mathlib.Core.Bool.{_&&_}
+use Prim.Native.Nat.{ℕ, _-_, _≤_}
+use lib.Dec.{eqb}
 use lib.ListN.{length, getD, take}
 use Rattle.edges.specs.Words.{unpack, graph}
 use Rattle.relations.specs.Rows.{Gathered}
@@ -12,10 +12,6 @@ use native.Mathlib.Omega.{arith}
 use borrow.Author.Needs.{needs}
 use Rattle.anchors.proofs.targets.Statement.{statement}
 use Rattle.anchors.proofs.targets.Tie as tie
-use Rattle.anchors.proofs.targets.Reads as reads
-use Rattle.anchors.proofs.targets.Lts as lts
-use Rattle.anchors.proofs.with_target.Reads as with-target-reads
-use Rattle.edges.proofs.edge_from.Reads as edge-from-reads
 
 abbrev Inv-loop : tie.InvT-loop
 Inv-loop es rows₀ i₀ rows i = (i ≤ length es) × Gathered counts-to (graph (take i es)) rows
@@ -62,8 +58,7 @@ unfolding graph
 loop-again c =
     let s = c .before .before .before .before in
     let es = s .before .before .args .es .now in
-    let e = unpack (getD es (s .loop .i) 0) in
-    (
+    let e = unpack (getD es (s .loop .i) 0) in (
       omega arith,
       pass-more counts-to unpack es (s .loop .i) 0 (c .before .edge-from .result) (c .with-target .result) (λ k. e .counted && eqb k (e .to)) (search needs) (s .loop .inv .1) (c .before .edge-from .ensures .1) (c .with-target .ensures) (λ w k. ap (λ (x : ℕ). eqb w x && (e .counted && eqb k (e .to))) (sym (c .before .edge-from .ensures .0))),
     )

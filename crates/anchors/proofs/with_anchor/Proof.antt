@@ -1,18 +1,13 @@
 -- `anchors::with_anchor` meets its contract: an anchor is put in, any other number changes nothing.
-use mathlib.Core.Path.{_≡_, refl, sym, ap, _∙_}
-use mathlib.Core.Bool.{Bool, true, false, not, _&&_, _||_}
-use Prim.Native.Nat.{ℕ, _+_, _-_, _<_, _≤_}
-use lib.Dec.{eqb, ltb}
+use mathlib.Core.Path.{sym, _∙_}
+use mathlib.Core.Bool.{_&&_, _||_}
+use Prim.Native.Nat.{ℕ}
+use lib.Dec.{eqb}
 use Rattle.definitions.specs.Basics.{any-below, test-bit}
 use Rattle.relations.proofs.Gathering.{or-skip, or-take}
-use native.Mathlib.Omega.{arith}
 use borrow.Author.Needs.{needs}
 use Rattle.anchors.proofs.with_anchor.Statement.{statement}
 use Rattle.anchors.proofs.with_anchor.Tie as tie
-use Rattle.anchors.proofs.with_anchor.Reads as reads
-use Rattle.anchors.proofs.with_anchor.Lts as lts
-use Rattle.anchors.proofs.is_anchor.Reads as is-anchor-reads
-use Rattle.bitmaps.proofs.insert.Reads as insert-reads
 
 is-anchor-requires : tie.Need-is-anchor-requires
 is-anchor-requires c κs = search needs

@@ -1,20 +1,14 @@
 -- `anchors::with_predecessor` meets its contract: a backward edge changes nothing, a forward edge puts its start in.
-use mathlib.Core.Path.{_≡_, refl, sym, ap, _∙_}
-use mathlib.Core.Bool.{Bool, true, false, not, _&&_, _||_}
-use Prim.Native.Nat.{ℕ, _+_, _-_, _<_, _≤_}
-use lib.Dec.{eqb, ltb}
+use mathlib.Core.Path.{sym, ap, _∙_}
+use mathlib.Core.Bool.{not, _||_}
+use Prim.Native.Nat.{ℕ}
+use lib.Dec.{eqb}
 use Rattle.definitions.specs.Basics.{test-bit}
 use Rattle.edges.specs.Words.{unpack}
 use Rattle.relations.proofs.Gathering.{or-skip, or-take}
-use native.Mathlib.Omega.{arith}
 use borrow.Author.Needs.{needs}
 use Rattle.anchors.proofs.with_predecessor.Statement.{statement}
 use Rattle.anchors.proofs.with_predecessor.Tie as tie
-use Rattle.anchors.proofs.with_predecessor.Reads as reads
-use Rattle.anchors.proofs.with_predecessor.Lts as lts
-use Rattle.bitmaps.proofs.insert.Reads as insert-reads
-use Rattle.edges.proofs.edge_from.Reads as edge-from-reads
-use Rattle.edges.proofs.is_back.Reads as is-back-reads
 
 is-back-requires : tie.Need-is-back-requires
 is-back-requires c κs = search needs

@@ -1,20 +1,14 @@
 -- `anchors::with_target` meets its contract: a counted edge puts its end in, any other changes nothing.
-use mathlib.Core.Path.{_≡_, refl, sym, ap, _∙_}
-use mathlib.Core.Bool.{Bool, true, false, not, _&&_, _||_}
-use Prim.Native.Nat.{ℕ, _+_, _-_, _<_, _≤_}
-use lib.Dec.{eqb, ltb}
+use mathlib.Core.Path.{sym, ap, _∙_}
+use mathlib.Core.Bool.{_||_}
+use Prim.Native.Nat.{ℕ}
+use lib.Dec.{eqb}
 use Rattle.definitions.specs.Basics.{test-bit}
 use Rattle.edges.specs.Words.{unpack}
 use Rattle.relations.proofs.Gathering.{or-skip, or-take}
-use native.Mathlib.Omega.{arith}
 use borrow.Author.Needs.{needs}
 use Rattle.anchors.proofs.with_target.Statement.{statement}
 use Rattle.anchors.proofs.with_target.Tie as tie
-use Rattle.anchors.proofs.with_target.Reads as reads
-use Rattle.anchors.proofs.with_target.Lts as lts
-use Rattle.bitmaps.proofs.insert.Reads as insert-reads
-use Rattle.edges.proofs.edge_to.Reads as edge-to-reads
-use Rattle.edges.proofs.is_counted.Reads as is-counted-reads
 
 is-counted-requires : tie.Need-is-counted-requires
 is-counted-requires c κs = search needs

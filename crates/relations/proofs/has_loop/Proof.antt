@@ -10,9 +10,6 @@ use Rattle.laws.proofs.Tests.{any-below-by}
 use Rattle.relations.specs.Rows.{row-bit}
 use Rattle.relations.proofs.has_loop.Statement.{statement}
 use Rattle.relations.proofs.has_loop.Tie as tie
-use Rattle.relations.proofs.has_loop.Reads as reads
-use Rattle.relations.proofs.has_loop.Lts as lts
-use Rattle.bitmaps.proofs.has.Reads as has-reads
 
 abbrev Inv-loop : tie.InvT-loop
 Inv-loop rows n v₀ v = (v ≤ n) × (any-below (λ (w : ℕ). row-bit rows w w) v ≡ false)

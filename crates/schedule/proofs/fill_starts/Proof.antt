@@ -1,7 +1,6 @@
 -- The invariant: the first v numbers are the starts, the others as lent. The measure is the number of starts that are left. Assumes nothing.
-use mathlib.Core.Path.{_≡_, refl, ap, _∙_}
-use mathlib.Core.List.{List}
-use Prim.Native.Nat.{ℕ, _-_, _≤_}
+use mathlib.Core.Path.{_≡_, refl}
+use Prim.Native.Nat.{_-_, _≤_}
 use lib.ListN.{length, length-set}
 use Rattle.schedule.specs.Working.{cut-start}
 use Rattle.schedule.proofs.Loops.{laid, laid-none, laid-more}
@@ -54,11 +53,8 @@ same-length c = search needs
 
 returns : tie.Need-returns Inv-loop μ-loop
 returns c =
-    let args = c .before .before .before .before .before .args in
-    let e : c .before .loop .v ≡ args .n = omega arith in
-    started
-    ((rw e at (c .before .loop .inv .2))
-    ∙ ap (λ (row : List ℕ). laid (cut-start row) (args .n) (args .out .now)) (c .before .before .turns .ensures))
+    let e : c .before .loop .v ≡ c .before .before .before .before .before .args .n = omega arith in
+    started (c .before .before .turns .ensures) (rw e at (c .before .loop .inv .2))
 
 pub fill-starts-spec : {M : Type 1} → statement M
 fill-starts-spec =

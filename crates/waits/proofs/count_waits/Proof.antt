@@ -1,9 +1,7 @@
 -- `waits::count_waits` meets its contract. Invariant: the total is the sum of the members of the maps passed over.
-use mathlib.Core.Path.{_≡_, refl, sym, ap, _∙_}
-use mathlib.Core.Bool.{Bool, true, false, not, _&&_, _||_}
+use mathlib.Core.Path.{_≡_, sym, ap, _∙_}
 use mathlib.Core.List.{List}
-use Prim.Native.Nat.{ℕ, _+_, _-_, _*_, _<_, _≤_}
-use lib.Dec.{eqb, ltb}
+use Prim.Native.Nat.{ℕ, _-_, _*_, _≤_}
 use lib.ListN.{length, getD}
 use Rattle.definitions.specs.Basics.{select-below, test-bit}
 use Rattle.laws.proofs.Counts.{flatMap-length, sum-below, sum-below-none, sum-below-more, sum-below-bound, select-length-bound}
@@ -12,9 +10,6 @@ use native.Mathlib.Omega.{arith}
 use borrow.Author.Needs.{needs}
 use Rattle.waits.proofs.count_waits.Statement.{statement}
 use Rattle.waits.proofs.count_waits.Tie as tie
-use Rattle.waits.proofs.count_waits.Reads as reads
-use Rattle.waits.proofs.count_waits.Lts as lts
-use Rattle.bitmaps.proofs.count.Reads as count-reads
 
 -- The number of members of map k.
 abbrev members-of : List ℕ → ℕ → ℕ

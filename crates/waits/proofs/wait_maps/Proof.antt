@@ -1,11 +1,9 @@
 -- `waits::wait_maps` meets its contract. Invariant: the maps hold what the words passed over make wait.
-use mathlib.Core.Path.{_≡_, refl, sym, ap, ap₂, _∙_}
-use mathlib.Core.Bool.{Bool, true, false, not, _&&_, _||_}
-use mathlib.Core.List.{List}
-use Prim.Native.Nat.{ℕ, _+_, _-_, _*_, _<_, _≤_}
-use lib.Dec.{eqb, ltb}
+use mathlib.Core.Path.{sym, ap₂}
+use mathlib.Core.Bool.{not, _&&_}
+use Prim.Native.Nat.{ℕ, _-_, _≤_}
+use lib.Dec.{eqb}
 use lib.ListN.{length, getD, take}
-use Rattle.definitions.specs.Basics.{test-bit}
 use Rattle.edges.specs.Words.{unpack, graph}
 use Rattle.relations.specs.Rows.{row-bit, Gathered}
 use Rattle.relations.proofs.Gathering.{pass-none, pass-more, pass-all}
@@ -15,11 +13,6 @@ use native.Mathlib.Omega.{arith}
 use borrow.Author.Needs.{needs}
 use Rattle.waits.proofs.wait_maps.Statement.{statement}
 use Rattle.waits.proofs.wait_maps.Tie as tie
-use Rattle.waits.proofs.wait_maps.Reads as reads
-use Rattle.waits.proofs.wait_maps.Lts as lts
-use Rattle.edges.proofs.edge_from.Reads as edge-from-reads
-use Rattle.edges.proofs.edge_to.Reads as edge-to-reads
-use Rattle.waits.proofs.with_waits.Reads as with-waits-reads
 
 abbrev Inv-loop : tie.InvT-loop
 Inv-loop es reach sets maps₀ k₀ maps k = (k ≤ length es) × Gathered (holds-up reach sets) (graph (take k es)) maps
@@ -85,8 +78,7 @@ loop-again c =
     let sets = s .before .before .args .sets .now in
     let e = unpack (getD es (s .loop .k) 0) in
     let to = c .before .before .before .edge-to in
-    let from = c .before .before .before .before .edge-from in
-    (
+    let from = c .before .before .before .before .edge-from in (
       omega arith,
       pass-more (holds-up reach sets) unpack es (s .loop .k) 0 (to .result) (c .with-waits .result) (λ a. e .back && (row-bit reach (from .result) a && not (row-bit sets (to .result) a))) (search needs) (s .loop .inv .1) (to .ensures .1) (c .with-waits .ensures) (λ i a. ap₂ (λ (x y : ℕ). eqb i x && (e .back && (row-bit reach y a && not (row-bit sets x a)))) (sym (to .ensures .0)) (sym (from .ensures .0))),
     )

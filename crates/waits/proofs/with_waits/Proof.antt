@@ -1,21 +1,12 @@
 -- `waits::with_waits` meets its contract: a backward edge brings its waits in, a forward edge changes nothing.
-use mathlib.Core.Path.{_≡_, refl, sym, ap, _∙_}
-use mathlib.Core.Bool.{Bool, true, false, not, _&&_, _||_}
-use mathlib.Core.List.{List}
-use Prim.Native.Nat.{ℕ, _+_, _-_, _*_, _<_, _≤_}
-use lib.Dec.{eqb, ltb}
+use mathlib.Core.Path.{sym, ap, _∙_}
+use mathlib.Core.Bool.{Bool, not, _&&_, _||_}
 use Rattle.definitions.specs.Basics.{test-bit}
 use Rattle.edges.specs.Words.{unpack}
 use Rattle.relations.proofs.Gathering.{or-skip, or-take}
-use native.Mathlib.Omega.{arith}
 use borrow.Author.Needs.{needs}
 use Rattle.waits.proofs.with_waits.Statement.{statement}
 use Rattle.waits.proofs.with_waits.Tie as tie
-use Rattle.waits.proofs.with_waits.Reads as reads
-use Rattle.waits.proofs.with_waits.Lts as lts
-use Rattle.bitmaps.proofs.minus.Reads as minus-reads
-use Rattle.bitmaps.proofs.union.Reads as union-reads
-use Rattle.edges.proofs.is_back.Reads as is-back-reads
 
 is-back-requires : tie.Need-is-back-requires
 is-back-requires c κs = search needs

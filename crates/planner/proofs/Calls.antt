@@ -1,0 +1,120 @@
+-- The answers of the calls over bytes, from what reading gives.
+use mathlib.Core.Path.{_≡_, refl, sym, ap, _∙_}
+use mathlib.Core.Bool.{Bool, true}
+use mathlib.Core.Logic.{_⊎_, inl, inr}
+use mathlib.Core.List.{List, [], _∷_, List·Memᴰ, List·Memᴰ·not-nil, List·Memᴰ·cases-cons}
+use Prim.Native.Nat.{ℕ, suc, _<_}
+use native.Mathlib.Omega.{arith}
+use lib.ListN.{getD, length, replicate, take}
+use Rattle.definitions.specs.Answers.{count-of, edges-of, judge-edges, judge-records, judged, no-waits, plan-read, plan-verdict, planned, serialized-of, starts-answer, starts-read, starts-verdict, waits-answer, waits-read, waits-when}
+use Rattle.definitions.specs.Basics.{Outcome, given, refused, test-bit, when-given}
+use Rattle.definitions.specs.Bytes.{Records, held, read}
+use Rattle.definitions.specs.Links.{Edge, members}
+use Rattle.definitions.specs.Numbers.{verdict-of}
+use Rattle.definitions.specs.Plan.{delays, plan-table, start-times}
+use Rattle.definitions.specs.Waits.{serialized}
+use Rattle.definitions.specs.declared.Operation.{Operation}
+use Rattle.definitions.specs.declared.Report.{Report}
+use Rattle.definitions.specs.declared.Reading.the-variants as Readings
+use Rattle.definitions.specs.declared.Sheet.{Sheet}
+use Rattle.definitions.specs.declared.Verdict.{Verdict}
+use Rattle.demands.specs.Demands.{Bytes}
+use Rattle.demands.proofs.Reading.{Fits, read-fits}
+use Rattle.edges.specs.Sheets.{Listed}
+use Rattle.edges.specs.Words.{graph}
+use Rattle.reader.specs.Answers.{Reports}
+use Rattle.reader.proofs.Reports.{Holds, report-given}
+use Rattle.schedule.specs.Delays.{unbounded-at}
+use Rattle.theory.specs.Graphs.{Gains, Shape}
+use Rattle.planner.specs.declared.Analysis.{Analysis}
+use Rattle.planner.specs.declared.WaitMaps.{WaitMaps}
+use Rattle.planner.specs.Analysis.{Analysed}
+use Rattle.planner.specs.Answers.{Lists, plan-outcome, starts-outcome}
+use Rattle.planner.proofs.Held.{by-held, held-count, held-gains, held-shape, held-steps}
+use Rattle.planner.proofs.Writing.{Answered}
+
+-- The elements of a list of bytes are below 256, from each place.
+pub bytes-by : (s : List ℕ) → ((i : ℕ) → getD s i 0 < 256) → Bytes s
+bytes-by [] h b m = absurd (List·Memᴰ·not-nil m)
+bytes-by (x ∷ s) h b m = go (List·Memᴰ·cases-cons m) (bytes-by s (λ i. h (suc i)) b)
+  where
+    go : (b ≡ x) ⊎ List·Memᴰ b s → (List·Memᴰ b s → b < 256) → b < 256
+    go (inl e) below = omega (arith, e, h 0)
+    go (inr n) below = below n
+
+-- A report on bytes that are read whole: the sheet's records, within their limits.
+pub record Whole (s : List ℕ) (report : Report) : Type 0 where
+  pub holds : Holds (read s) (report .sheet)
+  pub fits : Fits (holds .whole)
+
+pub whole : (s : List ℕ) (report : Report) → ((i : ℕ) → getD s i 0 < 256) → Reports (read s) report → report .reading ≡ Readings.Whole → Whole s report
+whole s report small reports e =
+    let h = report-given (read s) report reports e in
+    record { holds = h; fits = read-fits s (h .whole) (bytes-by s small) (h .is-given) }
+
+-- Where reading refuses, each call does, and leaves the lent numbers.
+module _ (s : List ℕ) {k : ℕ} (e : read s ≡ refused k) where
+  pub judged-refused : (allow : Bool) → judged s allow ≡ refused k
+  unfolding judged when-given
+  judged-refused allow = rw e
+
+  pub lists-refused : {r : WaitMaps} → verdict-of (r .verdict) ≡ refused k → r .maps ≡ replicate 64 0 → r .count ≡ 0 → Lists (waits-answer s) r
+  unfolding waits-answer waits-read no-waits
+  lists-refused v m n = rw e (record { verdict = v; maps = m; count = n })
+
+  pub plan-refused : (allow : Bool) (table : List ℕ) → (refused k ≡ planned s allow table .verdict) × (table ≡ planned s allow table .numbers)
+  unfolding planned plan-read
+  plan-refused allow table = (rw e, rw e)
+
+  pub starts-refused : (allow : Bool) (list out : List ℕ) → (refused k ≡ starts-answer s allow list out .verdict) × (out ≡ starts-answer s allow list out .numbers)
+  unfolding starts-answer starts-read
+  starts-refused allow list out = (rw e, rw e)
+
+-- The answer of a sheet as it is held, from that of the words that stand for its edges: the definitions of records are those of their steps and edges.
+module _ {q : Records} {sheet : Sheet} (fits : Fits q) (same : sheet ≡ held (given q)) {words : List ℕ} {count : ℕ} (listed : Listed (take (sheet .n) (sheet .operations)) (take (sheet .r) (sheet .links)) (sheet .r) words count) (allow : Bool) (r : Verdict) where
+  abbrev word-edges : List Edge
+  word-edges = graph (take count words)
+
+  plan-records : (table after : List ℕ) → Answered (plan-outcome (count-of q) (edges-of q) allow table) (plan-table (count-of q) (serialized (count-of q) (edges-of q))) table r after → Answered (plan-verdict q allow table) (plan-table (count-of q) (serialized-of q)) table r after
+  unfolding plan-outcome plan-verdict judge-records serialized-of
+  plan-records table after a = a
+
+  pub sheet-planned : (table : List ℕ) {after : List ℕ} → (Shape (sheet .n) (members word-edges) → Gains (members word-edges) 65535 → Answered (plan-outcome (sheet .n) word-edges allow table) (plan-table (sheet .n) (serialized (sheet .n) word-edges)) table r after) → Answered (plan-verdict q allow table) (plan-table (count-of q) (serialized-of q)) table r after
+  sheet-planned table {after} answer =
+      plan-records table after
+      (by-held fits same listed (λ n g. Answered (plan-outcome n g allow table) (plan-table n (serialized n g)) table r after) (answer (held-shape fits same listed) (held-gains fits same listed)))
+
+  starts-records : (list out after : List ℕ) → Answered (starts-outcome (count-of q) (edges-of q) allow (q .steps) list out) (start-times (count-of q) (serialized (count-of q) (edges-of q)) (delays list)) out r after → Answered (starts-verdict q allow list out) (start-times (count-of q) (serialized-of q) (delays list)) out r after
+  unfolding starts-outcome starts-verdict judge-records serialized-of
+  starts-records list out after a = a
+
+  pub sheet-started : (unbounded : ℕ) (list out : List ℕ) {after : List ℕ} → ((i : ℕ) → test-bit unbounded i ≡ unbounded-at (take (sheet .n) (sheet .operations)) i) → (Shape (sheet .n) (members word-edges) → Gains (members word-edges) 65535 → (os : List Operation) → length os ≡ sheet .n → ((i : ℕ) → i < sheet .n → test-bit unbounded i ≡ unbounded-at os i) → Answered (starts-outcome (sheet .n) word-edges allow os list out) (start-times (sheet .n) (serialized (sheet .n) word-edges) (delays list)) out r after) → Answered (starts-verdict q allow list out) (start-times (count-of q) (serialized-of q) (delays list)) out r after
+  sheet-started unbounded list out {after} map answer =
+      starts-records list out after
+      (by-held fits same listed (λ n g. Answered (starts-outcome n g allow (q .steps) list out) (start-times n (serialized n g) (delays list)) out r after)
+      (answer (held-shape fits same listed) (held-gains fits same listed) (q .steps) (sym (held-count fits same)) (λ i b. map i ∙ ap (λ (os : List Operation). unbounded-at os i) (held-steps fits same))))
+
+-- The waits of the analysis, by whether it accepts.
+waits-when-lists : (q : Records) (found : Analysis) (o : Outcome ℕ) → judge-edges (count-of q) (edges-of q) true ≡ o → Analysed (count-of q) (edges-of q) true found → Lists (waits-when q o) (record { verdict = found .verdict; maps = found .maps; count = found .count })
+unfolding waits-when no-waits
+waits-when-lists q found (given v) h analysed =
+    let serial = analysed .found v h in
+    record { verdict = analysed .judges ∙ h; maps = serial .maps; count = serial .count }
+waits-when-lists q found (refused k) h analysed =
+    let blank = analysed .blank k h in
+    record { verdict = analysed .judges ∙ h; maps = blank .maps; count = blank .count }
+
+-- Where the sheet is read, each call answers by its records.
+module _ (s : List ℕ) {q : Records} (e : read s ≡ given q) where
+  pub plan-given : (allow : Bool) (table : List ℕ) (r : Verdict) {after : List ℕ} → Answered (plan-verdict q allow table) (plan-table (count-of q) (serialized-of q)) table r after → (verdict-of r ≡ planned s allow table .verdict) × (after ≡ planned s allow table .numbers)
+  unfolding planned plan-read
+  plan-given allow table r {after} (v, w) = (v ∙ ap (λ (o : Outcome Records). plan-read o allow table .verdict) (sym e), w ∙ ap (λ (o : Outcome Records). plan-read o allow table .numbers) (sym e))
+
+  pub starts-given : (allow : Bool) (list out : List ℕ) (r : Verdict) {after : List ℕ} → Answered (starts-verdict q allow list out) (start-times (count-of q) (serialized-of q) (delays list)) out r after → (verdict-of r ≡ starts-answer s allow list out .verdict) × (after ≡ starts-answer s allow list out .numbers)
+  unfolding starts-answer starts-read
+  starts-given allow list out r {after} (v, w) =
+      (v ∙ ap (λ (o : Outcome Records). starts-read o allow list out .verdict) (sym e), w ∙ ap (λ (o : Outcome Records). starts-read o allow list out .numbers) (sym e))
+
+  pub waits-given : {found : Analysis} → Analysed (count-of q) (edges-of q) true found → Lists (waits-answer s) (record { verdict = found .verdict; maps = found .maps; count = found .count })
+  unfolding waits-answer waits-read judge-records
+  waits-given {found} analysed = rw e (waits-when-lists q found (judge-edges (count-of q) (edges-of q) true) refl analysed)
