@@ -22,7 +22,7 @@ use Rattle.laws.proofs.Outcomes.{given-not-refused, given-same, refused-same, r
 use Rattle.planner.specs.Answers.{Lists}
 use Rattle.planner.specs.declared.WaitMaps.{WaitMaps}
 use Rattle.planner.proofs.Parts.{square-small}
-use Rattle.printer.specs.Texts.{plan-text, refusal-text}
+use Rattle.printer.specs.Texts.{Printed, plan-text, refusal-text}
 use Rattle.printer.proofs.Listings.{standplan-plan, standplan-refusal, wait-maps-bits, written-plan}
 use Rattle.theory.proofs.PlanTables.{plan-table-length}
 use Rattle.listing.specs.Plans.{Plans}
@@ -100,13 +100,17 @@ module _ (s : List ℕ) (bytes : Bytes s) (table : List ℕ) (long : 4096 ≤ le
   refuses (given q) e h = rw e (plan-judges table (count-of q * count-of q) (fits-room e) (judge-records q true) h)
 
   -- What planning answers, of a table with room for every plan: the plan, or a refusal, which is the text printed.
-  pub plan-plans : {v : ℕ} → given v ≡ planned s true table .verdict → Plans s v (planned s true table .numbers)
+  pub plan-plans : {v : ℕ} {after : List ℕ} → given v ≡ planned s true table .verdict → after ≡ planned s true table .numbers → Plans s v after
   unfolding planned
-  plan-plans h = accepts (read s) refl (sym h)
+  plan-plans h e = rw e (accepts (read s) refl (sym h))
 
   pub plan-refuses : {k : ℕ} → refused k ≡ planned s true table .verdict → refusal-text k ≡ standplan s
   unfolding planned
   plan-refuses {k} h = standplan-refusal s k (refuses (read s) refl (sym h))
+
+-- A text under another name.
+pub printed-as : {t u : List ℕ} {size : ℕ} {old new : List ℕ} → t ≡ u → Printed t size old new → Printed u size old new
+printed-as {size = size} {old = old} {new = new} e p = subst (λ (t : List ℕ). Printed t size old new) e p
 
 -- The waits of an accepted sheet are those of its edges.
 module _ {s : List ℕ} {v : ℕ} {table : List ℕ} (plans : Plans s v table) where
