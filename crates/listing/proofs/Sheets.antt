@@ -112,6 +112,10 @@ module _ (s : List ℕ) (bytes : Bytes s) (table : List ℕ) (long : 4096 ≤ le
 pub printed-as : {t u : List ℕ} {size : ℕ} {old new : List ℕ} → t ≡ u → Printed t size old new → Printed u size old new
 printed-as {size = size} {old = old} {new = new} e p = subst (λ (t : List ℕ). Printed t size old new) e p
 
+-- The text lies within the buffer.
+pub printed-within : {t : List ℕ} {size : ℕ} {old new : List ℕ} → Printed t size old new → size ≤ length new
+printed-within {t} {size} {old} p = omega (arith, p .long, ap length (p .bytes), length-append t (drop (length t) old))
+
 -- The waits of an accepted sheet are those of its edges.
 module _ {s : List ℕ} {v : ℕ} {table : List ℕ} (plans : Plans s v table) where
   abbrev q : Records
