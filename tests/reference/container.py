@@ -100,10 +100,10 @@ def largest_sheets(rng: random.Random) -> list[bytes]:
         draft.order = [0] + rng.sample(range(1, 64), 63)
         draft.fields = {}
         draft.forward_part(0)
-        draft.return_part(12 if waits else 0)
         while len(draft.fields) < 512:
             a, b = sorted(rng.sample(range(64), 2))
-            draft.put(draft.order[a], draft.order[b], at_least=0)
+            draft.put(draft.order[a], draft.order[b], **draft.some_forward())
+        draft.return_part(12 if waits else 0)
         steps, records = draft.pieces()
         sheets.append(bytes([64]) + two(512) + b"".join(steps) + b"".join(records))
     whole = sheets[0]

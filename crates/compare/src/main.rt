@@ -3,7 +3,7 @@
 // For each sheet the input holds: two bytes of length, the sheet; two bytes, the length of the table that is lent for its plan; a byte, the number of lists, and the lists.
 // A list is a byte that says whether waits are allowed (1), two bytes, the number of its entries, two bytes, the length of the list that is lent for the start times, and the entries, four bytes each.
 // Numbers have the low byte first. Lent numbers are 4,294,967,294, which no answer holds.
-ghost use Prim.Native.Nat.{_<_};
+ghost use Prim.Native.Nat.{_<_, _≤_};
 
 fn wide(x: u8) -> usize
     ensures { λ r. ⌜ r < 256 ⌝ }
@@ -65,14 +65,22 @@ fn put_line(
     console::put_newline(out, q)
 }
 
-// Where x stands in a list of numbers, how often.
+// 1 where two numbers are equal, else 0.
+fn same(x: u32, y: u32) -> u64
+    ensures { λ r. ⌜ r ≤ 1 ⌝ }
+{
+    if x == y {
+        return 1;
+    }
+    0
+}
+
+// How often x stands among numbers.
 fn occurrences(x: u32, numbers: &[u32]) -> u64 {
     let mut k = 0;
     let mut i = 0;
     while i < numbers.len() {
-        if numbers[i] == x {
-            k += 1;
-        }
+        k += same(x, numbers[i]);
         i += 1;
     }
     k
@@ -150,34 +158,87 @@ fn put_judgements(s: &[u8], out: &mut [u8], at: usize) -> usize {
     put_line(b"judge 1", free, out, p)
 }
 
-fn put_plan(s: &[u8], out: &mut [u8], at: usize) -> usize {
-    let length = read_number();
-    if 4096 < length {
-        return at;
-    }
-    let mut table = [4294967294u32; 4096];
-    let verdict = planner::plan(s, true, &mut table[..length]);
+// The plan, into the table that is lent.
+fn put_plan_into(s: &[u8], table: &mut [u32], out: &mut [u8], at: usize) -> usize {
+    let verdict = planner::plan(s, true, table);
     let p = put_line(b"plan", verdict, out, at);
-    put_numbers(&table[..length], out, p)
+    put_numbers(table, out, p)
 }
 
-// The start times for the list that the input has next.
+// The same, into the first `length` numbers.
+fn put_plan_in(
+    s: &[u8],
+    table: &mut [u32],
+    length: usize,
+    out: &mut [u8],
+    at: usize,
+) -> usize {
+    if length <= table.len() {
+        return put_plan_into(s, &mut table[..length], out, at);
+    }
+    at
+}
+
+fn put_plan(s: &[u8], out: &mut [u8], at: usize) -> usize {
+    let mut table = [4294967294u32; 4096];
+    let length = read_number();
+    put_plan_in(s, &mut table, length, out, at)
+}
+
+// The start times for the list that the input has next, into the list that is lent for them.
+fn put_starts_into(
+    s: &[u8],
+    allow: bool,
+    list: &mut [u32],
+    times: &mut [u32],
+    out: &mut [u8],
+    at: usize,
+) -> usize {
+    read_entries(list);
+    let verdict = planner::starts(s, allow, list, times);
+    let p = put_line(b"starts", verdict, out, at);
+    put_numbers(times, out, p)
+}
+
+// The same, into the first `length` numbers.
+fn put_starts_in(
+    s: &[u8],
+    allow: bool,
+    list: &mut [u32],
+    times: &mut [u32],
+    length: usize,
+    out: &mut [u8],
+    at: usize,
+) -> usize {
+    if length <= times.len() {
+        return put_starts_into(s, allow, list, &mut times[..length], out, at);
+    }
+    at
+}
+
+// The same, for a list of so many entries.
+fn put_starts_from(
+    s: &[u8],
+    allow: bool,
+    list: &mut [u32],
+    entries: usize,
+    length: usize,
+    out: &mut [u8],
+    at: usize,
+) -> usize {
+    let mut times = [4294967294u32; 128];
+    if entries <= list.len() {
+        return put_starts_in(s, allow, &mut list[..entries], &mut times, length, out, at);
+    }
+    at
+}
+
 fn put_starts(s: &[u8], out: &mut [u8], at: usize) -> usize {
+    let mut list = [0u32; 128];
     let allow = read_byte();
     let entries = read_number();
     let length = read_number();
-    if 128 < entries {
-        return at;
-    }
-    if 128 < length {
-        return at;
-    }
-    let mut list = [0u32; 128];
-    read_entries(&mut list[..entries]);
-    let mut times = [4294967294u32; 128];
-    let verdict = planner::starts(s, allow == 1, &list[..entries], &mut times[..length]);
-    let p = put_line(b"starts", verdict, out, at);
-    put_numbers(&times[..length], out, p)
+    put_starts_from(s, allow == 1, &mut list, entries, length, out, at)
 }
 
 fn put_lists(s: &[u8], out: &mut [u8], at: usize) -> usize {
@@ -202,17 +263,25 @@ fn put_answers(s: &[u8], out: &mut [u8], at: usize) -> usize {
     put_lists(s, out, v)
 }
 
-// Reads a sheet of `size` bytes, and prints the answers for it.
+// Reads a sheet into the bytes that are lent, and prints the answers for it.
+fn put_sheet_into(bytes: &mut [u8], out: &mut [u8], at: usize) -> usize {
+    let got = io::read_full(libc::STDIN_FILENO, bytes);
+    if got < bytes.len() {
+        return at;
+    }
+    put_answers(bytes, out, at)
+}
+
+fn put_sheet_in(bytes: &mut [u8], size: usize, out: &mut [u8], at: usize) -> usize {
+    if size <= bytes.len() {
+        return put_sheet_into(&mut bytes[..size], out, at);
+    }
+    at
+}
+
 fn put_sheet(size: usize, out: &mut [u8], at: usize) -> usize {
     let mut bytes = io::buffer();
-    if bytes.len() < size {
-        return at;
-    }
-    let got = io::read_full(libc::STDIN_FILENO, &mut bytes[..size]);
-    if got < size {
-        return at;
-    }
-    put_answers(&bytes[..size], out, at)
+    put_sheet_in(&mut bytes, size, out, at)
 }
 
 // Sheets to the end of the input. Nothing says that an input ends, so the loop counts its turns down, from a number that no run uses up.
