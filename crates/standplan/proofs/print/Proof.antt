@@ -1,0 +1,37 @@
+-- `standplan::print` is safe: the text lies within the buffer.
+use mathlib.Core.Path.{sym}
+use native.Mathlib.Omega.{arith}
+use lib.Seq.{length-take-le}
+use borrow.Author.Needs.{needs}
+use Rattle.listing.proofs.Sheets.{printed-within}
+use Rattle.standplan.proofs.print.Statement.{statement}
+use Rattle.standplan.proofs.print.Tie as tie
+
+slice-aggregate-standplan : tie.Need-slice-aggregate-standplan
+slice-aggregate-standplan c = search needs
+
+standplan-requires : tie.Need-standplan-requires
+standplan-requires c κs = search needs
+
+array-share-prefix-text : tie.Need-array-share-prefix-text
+array-share-prefix-text c = omega (arith, printed-within (c .before .standplan .ensures))
+
+slice-aggregate-write-all : tie.Need-slice-aggregate-write-all
+slice-aggregate-write-all c = sym (length-take-le (c .before .before .standplan .result) _ (printed-within (c .before .before .standplan .ensures)))
+
+write-all-requires : tie.Need-write-all-requires
+write-all-requires c κs = search needs
+
+returns : tie.Need-returns
+returns c = search needs
+
+pub print-spec : {M : Type 1} → statement M
+print-spec =
+    tie.close
+    (tie.spec
+    slice-aggregate-standplan
+    standplan-requires
+    array-share-prefix-text
+    slice-aggregate-write-all
+    write-all-requires
+    returns)

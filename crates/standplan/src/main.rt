@@ -1,0 +1,15 @@
+// Reads one sheet from standard input, allows waits, and prints its plan or its refusal.
+// The longest sheet has 3,777 bytes, so the first 4,096 bytes of an input decide what is printed of it.
+
+// Prints the text of the bytes of a sheet.
+fn print(s: &[u8]) {
+    let mut text = [0u8; 139300];
+    let size = listing::standplan(s, &mut text);
+    io::write_all(libc::STDOUT_FILENO, &text[..size]);
+}
+
+fn main() {
+    let mut input = io::buffer();
+    let n = io::read_full(libc::STDIN_FILENO, &mut input);
+    print(&input[..n]);
+}
