@@ -1,0 +1,86 @@
+// The library for C and Rust: the planner's functions on numbers and slices. A verdict is returned as one number: 0 or 1 where the sheet is accepted, 256 + k where it is refused by k.
+// Each function is thin over the planner's, and its answer is that of the definitions for every input.
+use definitions::Refusal;
+use definitions::Verdict;
+ghost use mathlib.Core.Path.{_≡_};
+ghost use Prim.Native.Nat.{_≤_};
+ghost use Rattle.definitions.specs.Answers.{judged, planned, starts-answer, waits-answer};
+ghost use Rattle.definitions.specs.Numbers.{number, verdict-of};
+ghost use Rattle.boundary.specs.Codes.{code};
+
+// ---- a verdict as a number
+
+// A refusal's number in document 01.
+fn number_of(k: Refusal) -> u32
+    ensures { λ r. ⌜ (r ≡ number k) × (r ≤ 18) ⌝ }
+{
+    match k {
+        Refusal::Truncated => 1,
+        Refusal::OperationCount => 2,
+        Refusal::LinkCount => 3,
+        Refusal::BadMap => 4,
+        Refusal::BadEndpoint => 5,
+        Refusal::BadOrder => 6,
+        Refusal::Trailing => 7,
+        Refusal::ForwardCycle => 8,
+        Refusal::Unreachable => 9,
+        Refusal::Infeasible => 10,
+        Refusal::Inconsistent => 11,
+        Refusal::WaitsNeeded => 12,
+        Refusal::BadDelays => 13,
+        Refusal::TooShort => 14,
+        Refusal::NotBegun => 15,
+        Refusal::AlreadyBegun => 16,
+        Refusal::CannotFinish => 17,
+        Refusal::ClockEnd => 18,
+    }
+}
+
+fn verdict_code(verdict: Verdict) -> u32
+    ensures { λ r. ⌜ r ≡ code (verdict-of verdict) ⌝ }
+{
+    match verdict {
+        Verdict::WellPosed => 0,
+        Verdict::Serialized => 1,
+        Verdict::Refused(k) => 256 + number_of(k),
+    }
+}
+
+// ---- the exported functions
+
+// Judges a sheet. `allow` says whether waits are allowed.
+#[no_mangle]
+pub extern "C" fn standplan_judge(sheet: &[u8], allow: bool) -> u32
+    ensures { λ r. ⌜ r ≡ code (judged (now (sheet .entry)) allow) ⌝ }
+{
+    verdict_code(planner::judge(sheet, allow))
+}
+
+// Lists the waits of a sheet: bit a of map i, and their count; on a refusal maps of 0 and count 0.
+#[no_mangle]
+pub extern "C" fn standplan_waits(sheet: &[u8], maps: &mut [u64; 64], count: &mut u32) -> u32
+    ensures { λ r. ⌜ (r ≡ code (waits-answer (now (sheet .entry)) .verdict)) × (now (maps .exit) ≡ waits-answer (now (sheet .entry)) .maps) × (now (count .exit) ≡ waits-answer (now (sheet .entry)) .count) ⌝ }
+{
+    let found = planner::waits(sheet);
+    let verdict = found.verdict;
+    let listed = found.maps;
+    *maps = listed;
+    *count = found.count;
+    verdict_code(verdict)
+}
+
+// Plans a sheet: on acceptance the first n × n numbers of the table are its plan. All other numbers stay as lent.
+#[no_mangle]
+pub extern "C" fn standplan_plan(sheet: &[u8], allow: bool, table: &mut [u32]) -> u32
+    ensures { λ r. ⌜ (r ≡ code (planned (now (sheet .entry)) allow (now (table .entry)) .verdict)) × (now (table .exit) ≡ planned (now (sheet .entry)) allow (now (table .entry)) .numbers) ⌝ }
+{
+    verdict_code(planner::plan(sheet, allow, table))
+}
+
+// Works out the start times of a sheet for a list of durations: on acceptance they are the first n numbers of `out`. All other numbers stay as lent.
+#[no_mangle]
+pub extern "C" fn standplan_starts(sheet: &[u8], allow: bool, list: &[u32], out: &mut [u32]) -> u32
+    ensures { λ r. ⌜ (r ≡ code (starts-answer (now (sheet .entry)) allow (now (list .entry)) (now (out .entry)) .verdict)) × (now (out .exit) ≡ starts-answer (now (sheet .entry)) allow (now (list .entry)) (now (out .entry)) .numbers) ⌝ }
+{
+    verdict_code(planner::starts(sheet, allow, list, out))
+}
