@@ -23,6 +23,7 @@ use Rattle.schedule.proofs.Loops.{getD-there}
 
 -- ---- lists
 
+-- The limit by the two cases of a delay; step 0 has 0 in both.
 limit-by : (i : ℕ) (delay : Delay) → cond (not (eqb i 0) && is-open delay) 16777215 0 ≡ delay-limit i delay
 unfolding delay-limit
 limit-by i (Fixed ticks) = ap (λ (t : Bool). cond t 16777215 0) (and-false (not (eqb i 0)))
@@ -60,10 +61,12 @@ unbounded-source : (os : List Operation) → unbounded-at os 0 ≡ false
 unfolding unbounded-at
 unbounded-source os = refl
 
+-- Step 0 is never in the map.
 pub mapped-source : (os : List Operation) → Mapped os 1 0
 mapped-source os zero = test-zero 0 ∙ sym (ap (λ (t : Bool). ltb 0 1 && t) (unbounded-source os) ∙ and-false (ltb 0 1))
 mapped-source os (suc j) = test-zero (suc j) ∙ ap (λ (t : Bool). t && unbounded-at os (suc j)) (sym (le-ltb (suc j) 1 (omega arith)))
 
+-- At i the map takes in what the operation is, and elsewhere it stays.
 pub mapped-more : (os : List Operation) (z : Operation) (i map next : ℕ) → 1 ≤ i → i < length os → Mapped os i map → ((j : ℕ) → test-bit next j ≡ (test-bit map j || eqb j i && is-open (getD os i z .delay))) → Mapped os (i + 1) next
 unfolding unbounded-at delay-at
 mapped-more os z i map next b l m s j = s j ∙ ap (λ (o : Operation). test-bit map j || eqb j i && is-open (o .delay)) (getD-there os i z blank-operation l) ∙ go (eqb j i) refl

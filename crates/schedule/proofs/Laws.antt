@@ -101,11 +101,13 @@ module _ (d : List (List ℕ)) (sets : List ℕ) (n : ℕ) where
 -- ---- sums stay small, whatever the tables hold
 
 module _ (d : List (List ℕ)) (sets : List ℕ) (n : ℕ) (list : List ℕ) (short : (a : ℕ) → getD list a 0 ≤ 4294967295) where
+  -- The largest of terms that are each small.
   start-at-small : (row : List ℕ) (x : ℕ) → ((a : ℕ) → cell row a ≤ x) → (v : ℕ) → start-at d sets n list row v ≤ x + 8589934590
   unfolding start-at
   start-at-small row x h zero = omega arith
   start-at-small row x h (suc v) = largest-below (member sets (suc v)) (term d list row (suc v)) n (x + 8589934590) (λ a b m. omega (arith, h a, short a))
 
+  -- Past n the row holds 0.
   next-row-small : (row : List ℕ) (x : ℕ) → ((a : ℕ) → cell row a ≤ x) → (v : ℕ) → cell (next-row d sets n list row) v ≤ x + 8589934590
   unfolding next-row
   next-row-small row x h v = go (decLt v n)
@@ -120,12 +122,14 @@ module _ (d : List (List ℕ)) (sets : List ℕ) (n : ℕ) (list : List ℕ) (sh
   row-after-small zero v = omega (arith, zeros-at 64 v)
   row-after-small (suc k) v = omega (arith, next-row-small (row-after d sets n list k) (k * 8589934590) (row-after-small k) v)
 
+  -- 64 turns stay below 2 ^ 40.
   pub row-fits : (k : ℕ) (row : List ℕ) → k ≤ 64 → row ≡ row-after d sets n list k → Fits row
   row-fits k row h e v = omega (arith, row-after-small k v, ap (λ (l : List ℕ). cell l v) e)
 
 -- ---- turns that change nothing
 
 module _ (d : List (List ℕ)) (sets : List ℕ) (n : ℕ) (list : List ℕ) where
+  -- A turn reads the first n numbers of a row alone.
   start-at-cells : (row other : List ℕ) → ((a : ℕ) → a < n → cell row a ≡ cell other a) → (v : ℕ) → start-at d sets n list row v ≡ start-at d sets n list other v
   unfolding start-at
   start-at-cells row other h zero = refl
@@ -136,6 +140,7 @@ module _ (d : List (List ℕ)) (sets : List ℕ) (n : ℕ) (list : List ℕ) whe
   next-row-cells row other h =
       ap (λ (l : List ℕ). l ++ drop n (replicate 64 0)) (tabulate-same (start-at d sets n list row) (start-at d sets n list other) n (λ v b. start-at-cells row other h v))
 
+  -- Two rows with the same first n numbers have the same next row. Induction on the turns that follow.
   settled : (k : ℕ) → ((a : ℕ) → a < n → cell (row-after d sets n list k) a ≡ cell (row-after d sets n list (suc k)) a) → (j : ℕ) → row-after d sets n list (suc k + j) ≡ row-after d sets n list (suc k)
   unfolding row-after
   settled k h zero = ap (row-after d sets n list) (let e : suc k + 0 ≡ suc k = omega arith in e)
@@ -173,6 +178,7 @@ module _ {n : ℕ} {es : List Edge} {d : List (List ℕ)} {sets : List ℕ} (h :
   unfolding offset
   weight-offset a v p q m = omega (arith, h .cells a v p q, h .small a v p q m)
 
+  -- The test compares offsets only of members, and those are not cut.
   overriding-same : (a v b : ℕ) → a < n → v < n → b < n → in-anchor-set n es a v ≡ true → overriding d sets v a b ≡ overrides n es a v b
   unfolding overriding overrides
   overriding-same a v b p q r m =
@@ -182,6 +188,7 @@ module _ {n : ℕ} {es : List Edge} {d : List (List ℕ)} {sets : List ℕ} (h :
       let u = and-split (not (eqb b a)) (in-anchor-set n es b v) (s .0) in
       ap₂ leb (weight-offset a v p q m) (ap₂ _+_ (weight-offset a b p r (s .1)) (weight-offset b v r q (u .1))))
 
+  -- Likewise, for a member a; for others both sides fail.
   deciding-same : (a v : ℕ) → a < n → v < n → deciding d sets n v a ≡ decides n es a v
   unfolding deciding decides
   deciding-same a v p q =
@@ -193,12 +200,14 @@ module _ {n : ℕ} {es : List Edge} {d : List (List ℕ)} {sets : List ℕ} (h :
   unfolding decides
   decides-member a v m = and-split (in-anchor-set n es a v) (not (any-below (overrides n es a v) n)) m .0
 
+  -- A deciding member is a member, so its offset is not cut.
   entry-plan : (a v : ℕ) → a < n → v < n → entry-at d sets n v a ≡ plan-entry n es v a
   unfolding entry-at plan-entry
   entry-plan a v p q =
       ap (λ (t : Bool). cond t (weight d v a) undecided) (deciding-same a v p q)
       ∙ cond-guard (decides n es a v) (weight d v a) (offset n es a v) undecided (λ m. weight-offset a v p q (decides-member a v m))
 
+  -- Induction on the rows.
   rows-plan : (k : ℕ) → k ≤ n → first-rows d sets n k ≡ plan-rows n es k
   unfolding first-rows plan-rows plan-row
   rows-plan zero b = refl
@@ -208,6 +217,7 @@ module _ {n : ℕ} {es : List Edge} {d : List (List ℕ)} {sets : List ℕ} (h :
   unfolding plan-table
   table-plan = rows-plan n (omega arith)
 
+  -- The same members, and the same term for each.
   start-at-from : (list row other : List ℕ) → ((a : ℕ) → a < n → cell row a ≡ cell other a) → (v : ℕ) → v < n → start-at d sets n list row v ≡ start-from n es (delays list) other v
   unfolding start-at start-from
   start-at-from list row other s zero b = refl

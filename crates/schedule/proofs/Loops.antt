@@ -9,12 +9,13 @@ use native.Mathlib.Decide.{decLt}
 use native.Mathlib.Nat.{suc-mul, mul-le-mul, le-refl}
 use native.Mathlib.Numerals.{add-one}
 use borrow.Rule.Slice.PartMut.{putMid}
-use lib.ListN.{length, getD, set, take, drop, length-append, length-drop, List·getD-append}
+use lib.ListN.{length, getD, set, take, drop, length-append, List·getD-append}
 use lib.Seq.{drop-cons, set-at, ext-getD, getD-append-add, getD-drop, take-at, drop-at, take-length, drop-length}
 use Rattle.definitions.specs.Basics.{any-below, all-below, largest, tabulate}
 use Rattle.laws.proofs.Bools.{both-ways, not-passing}
 use Rattle.laws.proofs.Tests.{all-below-each, tabulate-at, tabulate-length}
 
+-- A number is below n or not.
 pub below-or-not : (k n : ℕ) → (k < n) ⊎ (n ≤ k)
 below-or-not k n = go (decLt k n)
   where
@@ -22,6 +23,7 @@ below-or-not k n = go (decLt k n)
     go (yes b) = inl b
     go (no b) = inr (omega arith)
 
+-- What a loop knows before the first number, and after one number more.
 module _ (test : ℕ → Bool) where
   pub any-below-none-yet : any-below test 0 ≡ false
   unfolding any-below
@@ -67,9 +69,6 @@ module _ {A : Type 0} (f : ℕ → A) where
       ∙ ap (λ (m : List A). set (tabulate f k ++ m) k (f k)) (drop-cons l k z h)
       ∙ set-at (tabulate f k) _ (drop (suc k) l) (f k) k (tabulate-length f k)
       ∙ rw (add-one k) (sym (append-assoc (tabulate f k) (f k ∷ []) (drop (suc k) l)))
-
-  pub laid-length : (k : ℕ) (l : List A) → k ≤ length l → length (laid f k l) ≡ length l
-  laid-length k l h = omega (arith, length-append (tabulate f k) (drop k l), tabulate-length f k, length-drop k l)
 
   pub laid-at : (k : ℕ) (l : List A) (i : ℕ) (z : A) → i < k → getD (laid f k l) i z ≡ f i
   laid-at k l i z h = List·getD-append (tabulate f k) (drop k l) z i (rw tabulate-length h) ∙ tabulate-at f k i z h
