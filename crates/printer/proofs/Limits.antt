@@ -1,5 +1,4 @@
 -- How long the texts can be: a plan of up to 64 steps fits its room, whatever numbers it holds.
-use mathlib.Core.Path.{_≡_, ap}
 use mathlib.Core.Bool.{Bool, true, false, cond}
 use mathlib.Core.List.{List, [], _++_}
 use Prim.Native.Nat.{ℕ, zero, suc, _+_, _*_, _≤_, _<_}
@@ -9,8 +8,8 @@ use lib.Dec.{eqb}
 use lib.ListN.{length, getD, length-append}
 use Rattle.definitions.specs.Basics.{test-bit}
 use Rattle.definitions.specs.Plan.{undecided}
-use Rattle.definitions.specs.Output.{field, newline, word-verdict, word-waits, word-wait, word-start, word-refused, wait-text, start-text}
-use Rattle.printer.specs.Texts.{texts, heading, wait-line, start-line, wait-cell, maps-row, maps-text, cell-at, start-cell, table-row, table-text, plan-text, refusal-text, plan-room}
+use Rattle.definitions.specs.Output.{field, newline, word-verdict, word-waits, word-wait, word-start, wait-text, start-text}
+use Rattle.printer.specs.Texts.{texts, heading, wait-line, start-line, wait-cell, maps-row, maps-text, cell-at, start-cell, table-row, table-text, plan-text, plan-room}
 use Rattle.printer.proofs.Digits.{field-length, field-short}
 
 -- n texts of at most m bytes.

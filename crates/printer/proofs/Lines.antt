@@ -1,6 +1,6 @@
 -- The lines, part by part: where there is room for a line, there is room for what it begins with.
 use mathlib.Core.Path.{_≡_, refl}
-use mathlib.Core.List.{List, [], _∷_, _++_}
+use mathlib.Core.List.{List, _++_}
 use Prim.Native.Nat.{ℕ, _+_, _≤_}
 use lib.ListN.{length}
 use Rattle.definitions.specs.Output.{field, newline, word-wait, word-start, wait-text, start-text}

@@ -1,11 +1,11 @@
 -- What the writers put is what the definitions list: of maps that hold the waits, and of a table that holds the plan.
-use mathlib.Core.Path.{_≡_, refl, sym, ap, ap₂, subst, _∙_}
+use mathlib.Core.Path.{_≡_, refl, sym, ap, ap₂, _∙_}
 use mathlib.Core.Bool.{Bool, true, false, cond, _&&_, not}
 use mathlib.Core.Logic.{_⊎_, inl, inr}
 use mathlib.Core.List.{List, [], _∷_, _++_, map, flatMap, append-assoc, append-nil}
 use Prim.Native.Nat.{ℕ, zero, suc, _+_, _*_, _≤_, _<_}
 use native.Mathlib.Omega.{arith}
-use lib.Dec.{eqb, ltb}
+use lib.Dec.{eqb}
 use lib.ListN.{length, getD, take}
 use lib.Seq.{getD-take, take-at}
 use borrow.Author.Tests.{lt-ltb, eq-eqb, ne-eqb}
@@ -13,14 +13,14 @@ use Rattle.definitions.specs.Basics.{tabulate, select-below, any-below, test-bi
 use Rattle.definitions.specs.Bytes.{Records, read}
 use Rattle.definitions.specs.Links.{Edge}
 use Rattle.definitions.specs.Anchors.{in-anchor-set}
-use Rattle.definitions.specs.Waits.{WaitPair, waits-for, waits-of, wait-list, wait-maps, wait-count}
+use Rattle.definitions.specs.Waits.{waits-for, waits-of, wait-list, wait-maps, wait-count}
 use Rattle.definitions.specs.Plan.{offset, overrides, decides, undecided, plan-entry, plan-table}
 use Rattle.definitions.specs.Answers.{count-of, edges-of, serialized-of, judge-records, judged}
-use Rattle.definitions.specs.Output.{StartLine, lines-of, start-lines, Listing, list-records, listed, field, newline, word-verdict, word-waits, wait-text, start-text, listing-text, standplan}
+use Rattle.definitions.specs.Output.{lines-of, start-lines, Listing, list-records, listed, field, newline, word-verdict, word-waits, wait-text, start-text, listing-text, standplan}
 use Rattle.laws.proofs.Bools.{bool-cases, and-split, cond-true, cond-false}
 use Rattle.theory.proofs.PlanTables.{plan-table-length, plan-table-at}
 use Rattle.theory.proofs.WaitLists.{wait-map-bit, wait-maps-at}
-use Rattle.printer.specs.Texts.{texts, heading, wait-line, start-line, wait-cell, maps-row, maps-text, cell-at, start-cell, table-row, table-text, plan-text, refusal-text}
+use Rattle.printer.specs.Texts.{texts, heading, wait-line, start-line, wait-cell, maps-text, cell-at, start-cell, table-text, plan-text, refusal-text}
 use Rattle.printer.proofs.Cells.{cell-below}
 use Rattle.printer.proofs.FlatMaps.{flatMap-append, flatMap-map, flatMap-flatMap}
 

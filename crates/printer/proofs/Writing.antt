@@ -2,12 +2,12 @@
 use mathlib.Core.Path.{_≡_, refl, sym, ap, ap₂, subst, _∙_}
 use mathlib.Core.Logic.{_⊎_, inl, inr}
 use mathlib.Core.List.{List, [], _∷_, _++_, append-assoc, append-nil}
-use Prim.Native.Nat.{ℕ, zero, suc, _+_, _-_, _*_, _≤_, _<_}
+use Prim.Native.Nat.{ℕ, zero, suc, _+_, _≤_, _<_}
 use native.Mathlib.Omega.{arith}
 use native.Mathlib.Decide.{decLt}
 use native.Mathlib.Numerals.{add-one}
 use lib.ListN.{length, getD, take, drop, set, length-append, length-take, length-drop, take-append-drop}
-use lib.Seq.{take-suc, take-length, take-at, drop-at, drop-append-add, drop-drop, drop-cons, set-split, length-take-le, append-snoc}
+use lib.Seq.{take-suc, take-length, take-at, drop-append-add, drop-drop, set-split, length-take-le, append-snoc}
 use Rattle.laws.proofs.Tests.{last-or-below}
 use Rattle.printer.specs.Texts.{overlay, Put, Printed, texts}
 

@@ -1,7 +1,6 @@
 // What `standplan` prints, formatted into a lent buffer. A writer puts its text at a position and returns the next one.
-ghost use mathlib.Core.Path.{_≡_};
-ghost use mathlib.Core.List.{List, [], _∷_, _++_};
-ghost use Prim.Native.Nat.{ℕ, _+_, _*_, _<_, _≤_};
+ghost use mathlib.Core.List.{[], _∷_};
+ghost use Prim.Native.Nat.{_+_, _*_, _<_, _≤_};
 ghost use lib.ListN.{length};
 ghost use Rattle.definitions.specs.Output.{decimal, field, newline};
 ghost use Rattle.printer.specs.Texts.{Put, Printed, heading, wait-line, start-line, wait-cell, maps-row, maps-text, start-cell, table-row, table-text, plan-text, refusal-text, plan-room};

@@ -1,15 +1,14 @@
 -- The proof of the cycle of calls {put_number}. The measure is the number. A number below ten is its digit; another is the digits of its tenth part and its last digit.
 -- Assumes nothing.
-use mathlib.Core.Path.{_≡_, ap, subst, sym}
-use mathlib.Core.List.{List, [], _∷_, _++_}
-use Prim.Native.Nat.{ℕ, _<_, _≤_, _+_, _/_, _%_}
+use mathlib.Core.Path.{ap, sym}
+use mathlib.Core.List.{[], _∷_}
+use Prim.Native.Nat.{ℕ, _<_, _+_, _/_, _%_}
 use native.Mathlib.Omega.{arith}
 use borrow.Author.Needs.{needs}
 use lib.ListN.{length, length-append}
 use borrow.Fn.Kinds.{In}
 use borrow.Fn.PlainCycle.{Measures, is, falls, and}
 use Rattle.definitions.specs.Output.{decimal}
-use Rattle.printer.specs.Texts.{Put}
 use Rattle.printer.proofs.Digits.{decimal-digit, decimal-tenth}
 use Rattle.printer.proofs.Writing.{put-as, put-then, put-room}
 use Rattle.printer.proofs.put_number.Reads as put-number

@@ -1,5 +1,4 @@
 -- The two headings, the waits and the starts, from the front; the room is enough for all of them. Assumes nothing.
-use Prim.Native.Nat.{_≤_}
 use native.Mathlib.Omega.{arith}
 use Rattle.definitions.specs.Output.{word-verdict, word-waits}
 use Rattle.printer.specs.Texts.{heading, maps-text, table-text, plan-text}

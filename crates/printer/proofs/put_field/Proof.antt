@@ -1,9 +1,9 @@
 -- A space, then the digits. Assumes nothing.
-use mathlib.Core.Path.{_≡_, ap, sym}
+use mathlib.Core.Path.{ap, sym}
 use native.Mathlib.Omega.{arith}
 use borrow.Author.Needs.{needs}
 use lib.ListN.{length}
-use Rattle.definitions.specs.Output.{decimal, field, newline}
+use Rattle.definitions.specs.Output.{decimal}
 use Rattle.printer.proofs.Digits.{field-parts}
 use Rattle.printer.proofs.Writing.{put-as, put-then, put-room}
 use Rattle.printer.proofs.put_field.Statement.{statement}

@@ -1,9 +1,7 @@
 -- The word, the number, the end of the line. Assumes nothing.
-use mathlib.Core.Path.{_≡_, ap, sym}
 use native.Mathlib.Omega.{arith}
 use borrow.Author.Needs.{needs}
-use lib.ListN.{length}
-use Rattle.definitions.specs.Output.{decimal, field, newline}
+use Rattle.definitions.specs.Output.{field, newline}
 use Rattle.printer.proofs.Lines.{heading-parts, heading-all-room, heading-field-room, heading-word-room}
 use Rattle.printer.proofs.Writing.{put-as, put-then, put-room}
 use Rattle.printer.proofs.put_heading.Statement.{statement}

@@ -1,5 +1,5 @@
 -- By the number: the line, or nothing. Assumes nothing.
-use mathlib.Core.Path.{_≡_, ap}
+use mathlib.Core.Path.{ap}
 use native.Mathlib.Omega.{arith}
 use lib.ListN.{length}
 use Rattle.printer.proofs.Cells.{start-stands, start-absent, cell-below, square-limit}

@@ -1,9 +1,7 @@
 -- The word, the two numbers, the end of the line. Assumes nothing.
-use mathlib.Core.Path.{_≡_, ap, sym}
 use native.Mathlib.Omega.{arith}
 use borrow.Author.Needs.{needs}
-use lib.ListN.{length}
-use Rattle.definitions.specs.Output.{decimal, field, newline}
+use Rattle.definitions.specs.Output.{field, newline}
 use Rattle.printer.proofs.Lines.{wait-parts, wait-all-room, wait-target-room, wait-anchor-room, wait-word-room}
 use Rattle.printer.proofs.Writing.{put-as, put-then, put-room}
 use Rattle.printer.proofs.put_wait.Statement.{statement}

@@ -1,5 +1,5 @@
 -- By the bit: the line, or nothing. Assumes nothing.
-use mathlib.Core.Path.{_≡_, ap, sym, _∙_}
+use mathlib.Core.Path.{ap, sym, _∙_}
 use native.Mathlib.Omega.{arith}
 use lib.ListN.{length}
 use Rattle.printer.proofs.Cells.{wait-stands, wait-absent}

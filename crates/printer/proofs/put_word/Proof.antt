@@ -1,10 +1,10 @@
 -- The invariant: the first i bytes of the word are written. The measure is the number of bytes that are left. Assumes nothing.
 use mathlib.Core.Path.{_≡_, ap, subst, _∙_}
 use mathlib.Core.List.{List}
-use Prim.Native.Nat.{ℕ, _-_, _≤_, _+_}
+use Prim.Native.Nat.{ℕ, _-_, _≤_}
 use native.Mathlib.Omega.{arith}
 use borrow.Author.Needs.{needs}
-use lib.ListN.{length, take}
+use lib.ListN.{length}
 use Rattle.printer.specs.Texts.{Put, texts}
 use Rattle.printer.proofs.Writing.{put-none, byte-text, texts-word, texts-length, next-room, next-text}
 use Rattle.printer.proofs.put_word.Statement.{statement}
