@@ -50,6 +50,7 @@ count-fits n h = leb-true n 64 (and-split (leb 1 n) (leb n 64) (not-false _ h) .
 pub square-small : (n : ℕ) → n ≤ 64 → n * n ≤ 4096
 square-small n h = mul-le-mul h h
 
+-- A table that is not refused 14.
 pub long-enough : (table : List ℕ) (size : ℕ) → too-short table size ≡ false → size ≤ length table
 unfolding too-short
 long-enough table size h = ltb-false (length table) size h
@@ -109,6 +110,7 @@ refuse-past k h e = rw h e
 pub returns-as : {st : State} {o p : Outcome Progress} {r : Dispatch} → Returns st o r → o ≡ p → Returns st p r
 returns-as {st} {r = r} R e = subst (λ x. Returns st x r) e R
 
+-- A refusal by computing, and an accepted call field by field.
 pub refusal-returns : (st : State) (why : Refusal) → Returns st (refused (number why)) (record { status = Refused why; state = st; map = 0 })
 unfolding state-after map-after
 refusal-returns st why = record { answer = refl; state = refl; map = refl }
@@ -140,6 +142,7 @@ unfolding sweep
 swept-now st table m s =
     record { status = refl; state = ap₂ (λ x y. record { n = st .n; unbounded = st .unbounded; tick = st .tick; started = bitOr (st .started) x; finished = st .finished; start = y; finish = st .finish }) m s; map = m }
 
+-- One bit more in the map of the finished.
 pub ended-now : (st : State) (s : ℕ) {p : ℕ} → p ≡ 2 ^ s → record { n = st .n; unbounded = st .unbounded; tick = st .tick; started = st .started; finished = bitOr (st .finished) p; start = st .start; finish = set (st .finish) s (st .tick) } ≡ ended st s
 unfolding ended
 ended-now st s e = ap (λ x. record { n = st .n; unbounded = st .unbounded; tick = st .tick; started = st .started; finished = bitOr (st .finished) x; start = st .start; finish = set (st .finish) s (st .tick) }) e

@@ -15,6 +15,7 @@ use Rattle.laws.proofs.Bools.{both-ways, not-passing}
 use Rattle.laws.proofs.Tests.{all-below-each}
 use Rattle.dispatcher.specs.Rows.{due-in, names-in, row-ready, ready-in}
 
+-- An operation that has not finished is not due; one that has is compared.
 pub due-unfinished : (finished : ℕ) (finish : List ℕ) (clock a offset : ℕ) → test-bit finished a ≡ false → due-in finished finish clock a offset ≡ false
 unfolding due-in
 due-unfinished finished finish clock a offset h = rw h
@@ -30,6 +31,7 @@ pub record Passed (finished : ℕ) (finish : List ℕ) (clock : ℕ) (row : List
   pub each : all-below (λ k. not (names-in row k) || due-in finished finish clock k (getD row k 0)) a ≡ true
 
 module _ {finished : ℕ} {finish : List ℕ} {clock : ℕ} {row : List ℕ} where
+  -- None so far.
   pub passed-none : Passed finished finish clock row false 0
   unfolding any-below all-below
   passed-none = record { within = omega arith; some = refl; each = refl }
@@ -66,6 +68,7 @@ module _ {finished : ℕ} {finish : List ℕ} {clock : ℕ} {row : List ℕ} whe
       fails : all-below (λ k. not (names-in row k) || due-in finished finish clock k (getD row k 0)) (length row) ≡ false
       fails = not-passing _ (λ t. both-ways (all-below-each _ (length row) t a h) (rw (ne-eqb (getD row a 0) undecided e) d))
 
+  -- All of them: the row's answer is whether one was named.
   pub passed-all : {named : Bool} {a : ℕ} → Passed finished finish clock row named a → length row ≤ a → named ≡ row-ready finished finish clock row (length row)
   unfolding row-ready
   passed-all {named} {a} P h =
@@ -83,7 +86,7 @@ row-inside n v size h k = omega (arith, mul-le-mul-right n (suc-le h), suc-mul v
     suc-le : v < n → suc v ≤ n
     suc-le q = q
 
--- The state's own test is the row's.
+-- An operation that has started is not ready; one that has not is ready by its row.
 pub ready-started : (started finished : ℕ) (finish : List ℕ) (clock : ℕ) (table : List ℕ) (n v : ℕ) → test-bit started v ≡ true → ready-in started finished finish clock table n v ≡ false
 unfolding ready-in
 ready-started started finished finish clock table n v h = rw h
@@ -92,6 +95,7 @@ pub ready-row : (started finished : ℕ) (finish : List ℕ) (clock : ℕ) (tabl
 unfolding ready-in
 ready-row started finished finish clock table n v h = rw h
 
+-- A row has n entries.
 pub row-length : (table : List ℕ) (n v : ℕ) → v < n → n * n ≤ length table → length (row-part table n v) ≡ n
 unfolding row-part
 row-length table n v h k = simp (length-take, length-drop) (omega (arith, row-inside n v (length table) h k))

@@ -23,6 +23,7 @@ module _ (st : State) (table : List ℕ) where
   abbrev pub row-test : ℕ → Bool
   row-test v = ready-in (st .started) (st .finished) (st .finish) (st .tick) table (st .n) v
 
+  -- Entry a of row v is the table's at v × n + a; so the same operations are named, and due.
   row-entry : (v a : ℕ) → a < st .n → getD (row-part table (st .n) v) a 0 ≡ entry st table v a
   unfolding row-part entry
   row-entry v a h = getD-take (st .n) (drop (v * st .n) table) a 0 h ∙ getD-drop (v * st .n) table a 0
@@ -44,12 +45,14 @@ module _ (st : State) (table : List ℕ) where
       (any-below-same _ _ (st .n) (row-names v))
       (all-below-same _ _ (st .n) (λ a h. ap₂ (λ (x y : Bool). not x || y) (row-names v a h) (row-dues v a h)))
 
+  -- The operations below v have been looked at: the map and the start ticks are the definition's so far.
   pub record SweptBelow (start : List ℕ) (map v : ℕ) : Type 0 where
     pub within : v ≤ st .n
     pub map-is : map ≡ bits-below (ready st table) v
     pub start-is : start ≡ start-ticks st table v
 
 module _ {st : State} {table : List ℕ} where
+  -- None so far.
   pub swept-none : SweptBelow st table (st .start) 0 0
   unfolding bits-below start-ticks
   swept-none = record { within = omega arith; map-is = refl; start-is = refl }
@@ -75,6 +78,7 @@ module _ {st : State} {table : List ℕ} where
       let m : 2 ^ suc v ≤ 2 ^ 64 = pow-mono (let l : suc v ≤ 64 = omega arith in l) in
       omega (arith, S .map-is, bits-below-lt (ready st table) v, pow-suc 2 v, m)
 
+  -- All of them: the definition's map and start ticks.
   pub swept-map : {start : List ℕ} {map v : ℕ} → SweptBelow st table start map v → st .n ≤ v → map ≡ starting st table
   unfolding starting
   swept-map {v = v} S h = let e : v ≡ st .n = omega (arith, S .within) in S .map-is ∙ ap (bits-below (ready st table)) e

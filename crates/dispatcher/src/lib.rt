@@ -15,6 +15,7 @@ use definitions::Refusal;
 use definitions::State;
 use definitions::Status;
 
+// A number of 32 bits at 64 bits, where the sum of two fits.
 fn wide(x: u32) -> u64
     ensures { λ r. ⌜ (r ≡ x) × (r < 4294967296) ⌝ }
 {
@@ -73,6 +74,7 @@ fn is_ready(
     row_due(&table[at..end], finished, finish, clock)
 }
 
+// The map whose one member is k.
 fn power(k: usize) -> u64
     requires { ⌜ k < 64 ⌝ }
     ensures { λ r. ⌜ r ≡ 2 ^ k ⌝ }
@@ -86,6 +88,7 @@ struct Starting {
     start: [u32; 64],
 }
 
+// One sweep over the operations that exist.
 fn starting_now(st: State, table: &[u32]) -> Starting
     requires { ⌜ (st .n ≤ 64) × (st .n * st .n ≤ length (now table)) ⌝ }
     ensures { λ r. ⌜ (r .map ≡ starting st (now (table .entry))) × (r .start ≡ start-ticks st (now (table .entry)) (st .n)) ⌝ }
@@ -225,7 +228,7 @@ fn ended(st: State, s: usize) -> State
     next
 }
 
-// Begin.
+// Begin: all is set anew and the source starts and finishes. Refuses 16, 2, 14, in this order.
 pub fn begin(st: State, n: usize, unbounded: u64, table: &[u32]) -> Dispatch
     ensures { λ r. ⌜ Returns st (Dispatcher.begin st n unbounded (now (table .entry))) r ⌝ }
 {
@@ -244,7 +247,7 @@ pub fn begin(st: State, n: usize, unbounded: u64, table: &[u32]) -> Dispatch
     all
 }
 
-// Tick.
+// Tick: the tick grows by one. Refuses 15, 14, 18, in this order.
 pub fn tick(st: State, table: &[u32]) -> Dispatch
     ensures { λ r. ⌜ Returns st (Dispatcher.tick st (now (table .entry))) r ⌝ }
 {
@@ -260,7 +263,7 @@ pub fn tick(st: State, table: &[u32]) -> Dispatch
     sweep(ticked(st), table)
 }
 
-// Finish.
+// Finish: the open operation s ends at this tick. Refuses 15, 14, 17, in this order.
 pub fn finish(st: State, s: usize, table: &[u32]) -> Dispatch
     ensures { λ r. ⌜ Returns st (Dispatcher.finish st s (now (table .entry))) r ⌝ }
 {
