@@ -4,17 +4,16 @@ use mathlib.Core.List.{List}
 use Prim.Native.Nat.{ℕ}
 use Rattle.definitions.specs.Basics.{Outcome}
 use Rattle.definitions.specs.Dispatcher.{Progress, Returns}
-use Rattle.definitions.specs.Numbers.{status-of}
 use Rattle.definitions.specs.declared.Dispatch.{Dispatch}
 use Rattle.definitions.specs.declared.State.{State}
-use Rattle.boundary.specs.Runs.{Leaves, call-code, words-of}
+use Rattle.boundary.specs.Runs.{Leaves, Stores, call-code, words-of}
 
--- What the dispatcher returns is stored part by part.
-stored : (st : State) (o : Outcome Progress) (d : Dispatch) (r : ℕ) (words : List ℕ) → Returns st o d → ((g : Progress) → r ≡ call-code (status-of (d .status) g)) → words ≡ words-of (d .state) → Leaves st o r words (d .state .tick) (d .state .start) (d .state .finish) (d .map)
-stored st o d r words returned coded same =
-    record { answer = coded (record { state = d .state; map = d .map }) ∙ ap call-code (returned .answer); words = same ∙ ap words-of (returned .state); tick = ap (λ (s : State). s .tick) (returned .state); start = ap (λ (s : State). s .start) (returned .state); finish = ap (λ (s : State). s .finish) (returned .state); map = returned .map }
+module _ {d : Dispatch} {r : ℕ} {words : List ℕ} {tick : ℕ} {start finish : List ℕ} {map : ℕ} (stores : Stores d r words tick start finish map) where
+  -- What the dispatcher returns is stored part by part.
+  stored : {st : State} {o : Outcome Progress} → Returns st o d → Leaves st o r words tick start finish map
+  stored returned =
+      record { answer = stores .answer (record { state = d .state; map = d .map }) ∙ ap call-code (returned .answer); words = stores .words ∙ ap words-of (returned .state); tick = stores .tick ∙ ap (λ (s : State). s .tick) (returned .state); start = stores .start ∙ ap (λ (s : State). s .start) (returned .state); finish = stores .finish ∙ ap (λ (s : State). s .finish) (returned .state); map = stores .map ∙ returned .map }
 
--- The same of the state as it was read from the memory.
-pub leaves : (call : State → Outcome Progress) {st lent : State} {d : Dispatch} {r : ℕ} {words : List ℕ} → st ≡ lent → Returns st (call st) d → ((g : Progress) → r ≡ call-code (status-of (d .status) g)) → words ≡ words-of (d .state) → Leaves lent (call lent) r words (d .state .tick) (d .state .start) (d .state .finish) (d .map)
-leaves call {st} {lent} {d} {r} {words} e returned coded same =
-    subst (λ (s : State). Leaves s (call s) r words (d .state .tick) (d .state .start) (d .state .finish) (d .map)) e (stored st (call st) d r words returned coded same)
+  -- The same of the state as it was read from the memory.
+  pub leaves : (call : State → Outcome Progress) {st lent : State} → st ≡ lent → Returns st (call st) d → Leaves lent (call lent) r words tick start finish map
+  leaves call e returned = subst (λ (s : State). Leaves s (call s) r words tick start finish map) e (stored returned)

@@ -1,5 +1,6 @@
 // The library for C and Rust: the planner's functions on numbers and slices. A verdict is returned as one number: 0 or 1 where the sheet is accepted, 256 + k where it is refused by k.
 // Each function is thin over the planner's, and its answer is that of the definitions for every input.
+use definitions::Dispatch;
 use definitions::Refusal;
 use definitions::State;
 use definitions::Status;
@@ -11,7 +12,7 @@ ghost use Rattle.definitions.specs.Answers.{judged, planned, starts-answer, wai
 ghost use Rattle.definitions.specs.Dispatcher as Dispatcher;
 ghost use Rattle.definitions.specs.Numbers.{number, status-of, verdict-of};
 ghost use Rattle.boundary.specs.Codes.{code};
-ghost use Rattle.boundary.specs.Runs.{Leaves, call-code, state-in, words-of};
+ghost use Rattle.boundary.specs.Runs.{Leaves, Stores, call-code, state-in, words-of};
 
 // ---- a verdict as a number
 
@@ -127,6 +128,30 @@ fn words_of(st: State) -> [u64; 4]
     words
 }
 
+// Stores what a call of the dispatcher returns in the memory that is lent.
+fn store(
+    done: Dispatch,
+    words: &mut [u64; 4],
+    tick: &mut u32,
+    start: &mut [u32; 64],
+    finish: &mut [u32; 64],
+    map: &mut u64,
+) -> u32
+    ensures { λ r. ⌜ Stores done r (now (words .exit)) (now (tick .exit)) (now (start .exit)) (now (finish .exit)) (now (map .exit)) ⌝ }
+{
+    let next = done.state;
+    let new_words = words_of(next);
+    let new_starts = next.start;
+    let new_ends = next.finish;
+    *words = new_words;
+    *tick = next.tick;
+    *start = new_starts;
+    *finish = new_ends;
+    *map = done.map;
+    let status = done.status;
+    status_code(status)
+}
+
 // Begins a run of n steps, with the map of those that are open.
 #[no_mangle]
 pub extern "C" fn standplan_begin(
@@ -144,19 +169,9 @@ pub extern "C" fn standplan_begin(
     let lent = *words;
     let starts = *start;
     let ends = *finish;
-    let st = state_in(lent, *tick, starts, ends);
-    let done = dispatcher::begin(st, n, unbounded, table);
-    let next = done.state;
-    let new_words = words_of(next);
-    let new_starts = next.start;
-    let new_ends = next.finish;
-    *words = new_words;
-    *tick = next.tick;
-    *start = new_starts;
-    *finish = new_ends;
-    *map = done.map;
-    let status = done.status;
-    status_code(status)
+    let at_begin = state_in(lent, *tick, starts, ends);
+    let begun = dispatcher::begin(at_begin, n, unbounded, table);
+    store(begun, words, tick, start, finish, map)
 }
 
 // The tick grows by one.
@@ -174,19 +189,9 @@ pub extern "C" fn standplan_tick(
     let lent = *words;
     let starts = *start;
     let ends = *finish;
-    let st = state_in(lent, *tick, starts, ends);
-    let done = dispatcher::tick(st, table);
-    let next = done.state;
-    let new_words = words_of(next);
-    let new_starts = next.start;
-    let new_ends = next.finish;
-    *words = new_words;
-    *tick = next.tick;
-    *start = new_starts;
-    *finish = new_ends;
-    *map = done.map;
-    let status = done.status;
-    status_code(status)
+    let at_tick = state_in(lent, *tick, starts, ends);
+    let ticked = dispatcher::tick(at_tick, table);
+    store(ticked, words, tick, start, finish, map)
 }
 
 // Open step s ends at this tick.
@@ -205,17 +210,7 @@ pub extern "C" fn standplan_finish(
     let lent = *words;
     let starts = *start;
     let ends = *finish;
-    let st = state_in(lent, *tick, starts, ends);
-    let done = dispatcher::finish(st, s, table);
-    let next = done.state;
-    let new_words = words_of(next);
-    let new_starts = next.start;
-    let new_ends = next.finish;
-    *words = new_words;
-    *tick = next.tick;
-    *start = new_starts;
-    *finish = new_ends;
-    *map = done.map;
-    let status = done.status;
-    status_code(status)
+    let at_finish = state_in(lent, *tick, starts, ends);
+    let ended = dispatcher::finish(at_finish, s, table);
+    store(ended, words, tick, start, finish, map)
 }
