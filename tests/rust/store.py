@@ -105,7 +105,8 @@ def calls(rng, state, n, open_, table, count):
             verdict, state = p.tick(state, lent_)
             line = f"tick {size}"
         else:
-            s = rng.choice([rng.randrange(n + 1), rng.choice([v for v in range(64) if open_ >> v & 1] or [0])])
+            can = [v for v in range(64) if open_ & state.started & ~state.finished & ~1 & 1 << v]
+            s = rng.choice([rng.randrange(n + 1), rng.choice(can or [0]), rng.choice(can or [0])])
             verdict, state = p.finish(state, s, lent_)
             line = f"finish {size} {s}"
         yield f"{line}; {words_of(verdict)}; {state_words(state)}"
@@ -121,11 +122,11 @@ def runs():
         open_ = sum(1 << v for v, step in enumerate(steps) if step is p.OPEN)
         table = p.plan(sheet, True, [0] * (n * n))[1]
         if n <= 12:
-            yield from calls(rng, p.State(), n, open_, table, 30)
-    for _ in range(12):
+            yield from calls(rng, p.State(), n, open_, table, 25)
+    for j in range(12):
         n = rng.randint(1, 6)
         table = [rng.choice([p.UNDECIDED, 0, 1, 2, p.UNDECIDED - 1]) for _ in range(n * n + rng.randint(0, 2))]
-        state = p.State(rng.choice([n, n, n, 0, 65, 2**64 - 1]), rng.getrandbits(64), rng.choice([0, 5, p.LAST_TICK - 2]),
+        state = p.State([n, n, n, 0, 65, 2**64 - 1][j % 6], rng.getrandbits(64), [0, 5, p.LAST_TICK - 1][j % 3],
                         rng.getrandbits(64) | 1, rng.getrandbits(64),
                         tuple(rng.getrandbits(32) for _ in range(64)), tuple(rng.choice([0, 3, rng.getrandbits(32)]) for _ in range(64)))
         yield from calls(rng, state, n, state.open, table, 12)
