@@ -34,6 +34,28 @@ uint32_t standplan_plan(const uint8_t *sheet, size_t sheet_len, bool allow_waits
  * On a refusal, 1 to 12, 13 (a duration that the list may not have) or 14 (list or out is shorter than N), all stay as lent. */
 uint32_t standplan_starts(const uint8_t *sheet, size_t sheet_len, bool allow_waits, const uint32_t *list, size_t list_len, uint32_t *out, size_t out_len);
 
+/* The runner. Its state is held by the caller, in memory of fixed size; standplan_run is one way to hold it.
+ * words: the step count, the map of open steps, the map of steps that have started, the map of those that have finished.
+ * start and finish: the tick at which each step started and finished. All zeros is the state of no run; any other state is answered too.
+ *
+ * table is the plan of the sheet, as lent at each call. A call returns 0 and puts the map of the steps that it started into *map,
+ * or returns 256 + k, a refusal: then *map is 0 and the state stays as lent. */
+typedef struct standplan_run {
+    uint64_t words[4];
+    uint32_t tick;
+    uint32_t start[64];
+    uint32_t finish[64];
+} standplan_run;
+
+/* Begins a run of n steps with the map of the open ones. Refusals 16 (a run has begun), 2 (n is not 1 to 64), 14 (the table is too short). */
+uint32_t standplan_begin(uint64_t words[4], uint32_t *tick, uint32_t start[64], uint32_t finish[64], uint64_t *map, size_t n, uint64_t open, const uint32_t *table, size_t table_len);
+
+/* The tick grows by one. Refusals 15 (no run has begun), 14, 18 (the clock's end). */
+uint32_t standplan_tick(uint64_t words[4], uint32_t *tick, uint32_t start[64], uint32_t finish[64], uint64_t *map, const uint32_t *table, size_t table_len);
+
+/* Open step s ends at this tick. Refusals 15, 14, 17 (s cannot finish now). */
+uint32_t standplan_finish(uint64_t words[4], uint32_t *tick, uint32_t start[64], uint32_t finish[64], uint64_t *map, size_t s, const uint32_t *table, size_t table_len);
+
 #ifdef __cplusplus
 }
 #endif

@@ -1,6 +1,8 @@
-"""Stores answers of the reference planner (tests/reference) for sheets of every verdict: python3 store.py > data/answers.txt
+"""Stores answers of the reference planner (tests/reference): python3 store.py
 
-A line for a sheet, then lines for what is asked of it. Fields are parted by semicolons; '-' is the number for undecided.
+data/answers.txt: for sheets of every verdict a line for the sheet, then lines for what is asked of it.
+data/runs.txt: runs, by lines that set the table or the state, and lines for calls, with the answer and the state after it.
+Fields are parted by semicolons; '-' is the number for undecided.
 """
 import random
 import sys
@@ -50,28 +52,90 @@ def durations(rng, sheet, size):
     return numbers
 
 
-def main():
+def words_of(verdict):
+    return f"{verdict[0]} {verdict[1]}"
+
+
+def answers():
+    """The lines of data/answers.txt."""
     rng = random.Random(1)
     for sheet in chosen():
         # A refused sheet is lent little: no size makes a difference.
         n = (sheet[0] if p.judge(sheet, True)[0] == "ok" else 3) if sheet else 0
-        print(f"sheet {sheet.hex()}")
+        yield f"sheet {sheet.hex()}"
         for allow in (0, 1):
-            print(f"judge {allow}; {words_of(p.judge(sheet, bool(allow)))}")
+            yield f"judge {allow}; {words_of(p.judge(sheet, bool(allow)))}"
         maps, count, verdict = p.waits(sheet)
-        print(f"waits; {words_of(verdict)}; {count}; {' '.join(f'{m:x}' for m in maps)}")
+        yield f"waits; {words_of(verdict)}; {count}; {' '.join(f'{m:x}' for m in maps)}"
         sizes = [(0, n * n + 3), (1, n * n), (1, n * n + 2)] + ([(1, n * n - 1)] if n else [])
         for allow, size in sizes if n < 64 else [(1, n * n + 1)]:
             verdict, after = p.plan(sheet, bool(allow), lent(size))
-            print(f"plan {allow}; {words_of(verdict)}; {words(after)}")
+            yield f"plan {allow}; {words_of(verdict)}; {words(after)}"
         for allow, short, room in [(0, 0, 2), (1, 0, 0), (1, 0, 3), (1, 1, 0), (1, 0, -1), (1, -2, 1)]:
             list_ = durations(rng, sheet, max(0, n - short))
             verdict, after = p.starts(sheet, bool(allow), list_, lent(max(0, n + room)))
-            print(f"starts {allow}; {words_of(verdict)}; {words(list_)}; {words(after)}")
+            yield f"starts {allow}; {words_of(verdict)}; {words(list_)}; {words(after)}"
 
 
-def words_of(verdict):
-    return f"{verdict[0]} {verdict[1]}"
+def ticks(numbers):
+    """Ticks without the zeros at their end."""
+    numbers = list(numbers)
+    while numbers and numbers[-1] == 0:
+        numbers.pop()
+    return " ".join(map(str, numbers))
+
+
+def state_words(state):
+    return f"{state.n} {state.open} {state.tick} {state.started} {state.finished}; {ticks(state.start)}; {ticks(state.finish)}"
+
+
+def calls(rng, state, n, open_, table, count):
+    """Random calls from a state, the first two of them Begin."""
+    yield f"table; {' '.join(map(str, table))}"
+    yield f"state; {state_words(state)}"
+    for i in range(count):
+        size = len(table) if rng.random() < 0.93 else rng.randint(0, len(table))
+        lent_ = table[:size]
+        kind = rng.random()
+        if i < 2 or kind < 0.06:
+            m = n if rng.random() < 0.7 else rng.choice([0, 65])
+            verdict, state = p.begin(state, m, open_, lent_)
+            line = f"begin {size} {m} {open_}"
+        elif kind < 0.6:
+            verdict, state = p.tick(state, lent_)
+            line = f"tick {size}"
+        else:
+            can = [v for v in range(64) if open_ & state.started & ~state.finished & ~1 & 1 << v]
+            s = rng.choice([rng.randrange(n + 1), rng.choice(can or [0]), rng.choice(can or [0])])
+            verdict, state = p.finish(state, s, lent_)
+            line = f"finish {size} {s}"
+        yield f"{line}; {words_of(verdict)}; {state_words(state)}"
+
+
+def runs():
+    """The lines of data/runs.txt: runs of accepted sheets, then runs from any state on any table."""
+    rng = random.Random(2)
+    accepted = [s for s in chosen() if p.judge(s, True)[0] == "ok"]
+    for sheet in accepted:
+        n = sheet[0]
+        steps = p.read(sheet)[1][0]
+        open_ = sum(1 << v for v, step in enumerate(steps) if step is p.OPEN)
+        table = p.plan(sheet, True, [0] * (n * n))[1]
+        if n <= 12:
+            yield from calls(rng, p.State(), n, open_, table, 25)
+    for j in range(12):
+        n = rng.randint(1, 6)
+        table = [rng.choice([p.UNDECIDED, 0, 1, 2, p.UNDECIDED - 1]) for _ in range(n * n + rng.randint(0, 2))]
+        state = p.State([n, n, n, 0, 65, 2**64 - 1][j % 6], rng.getrandbits(64), [0, 5, p.LAST_TICK - 1][j % 3],
+                        rng.getrandbits(64) | 1, rng.getrandbits(64),
+                        tuple(rng.getrandbits(32) for _ in range(64)), tuple(rng.choice([0, 3, rng.getrandbits(32)]) for _ in range(64)))
+        yield from calls(rng, state, n, state.open, table, 12)
+
+
+def main():
+    data = Path(__file__).parent / "data"
+    for name, lines in (("answers.txt", answers()), ("runs.txt", runs())):
+        (data / name).write_text("".join(line + "\n" for line in lines))
 
 
 main()

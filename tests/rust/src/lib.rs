@@ -25,6 +25,36 @@ mod raw {
             out: *mut u32,
             out_len: usize,
         ) -> u32;
+        pub fn standplan_begin(
+            words: *mut [u64; 4],
+            tick: *mut u32,
+            start: *mut [u32; 64],
+            finish: *mut [u32; 64],
+            map: *mut u64,
+            n: usize,
+            open: u64,
+            table: *const u32,
+            table_len: usize,
+        ) -> u32;
+        pub fn standplan_tick(
+            words: *mut [u64; 4],
+            tick: *mut u32,
+            start: *mut [u32; 64],
+            finish: *mut [u32; 64],
+            map: *mut u64,
+            table: *const u32,
+            table_len: usize,
+        ) -> u32;
+        pub fn standplan_finish(
+            words: *mut [u64; 4],
+            tick: *mut u32,
+            start: *mut [u32; 64],
+            finish: *mut [u32; 64],
+            map: *mut u64,
+            s: usize,
+            table: *const u32,
+            table_len: usize,
+        ) -> u32;
     }
 }
 
@@ -91,4 +121,91 @@ pub fn starts(sheet: &[u8], allow: bool, list: &[u32], out: &mut [u32]) -> Verdi
             out.len(),
         )
     })
+}
+
+/// The state of a run. `Run::new()` is that of no run; any other is answered too.
+#[derive(Clone, Debug, PartialEq, Eq)]
+pub struct Run {
+    /// The step count.
+    pub n: usize,
+    /// The maps of the open steps, of those that have started, and of those that have finished.
+    pub open: u64,
+    pub started: u64,
+    pub finished: u64,
+    pub tick: u32,
+    /// The start and finish tick of each step.
+    pub start: [u32; 64],
+    pub finish: [u32; 64],
+}
+
+impl Default for Run {
+    fn default() -> Run {
+        Run::new()
+    }
+}
+
+/// What a call of the runner answers: the map of the steps that it started, or the refusal's number.
+pub type Started = Result<u64, u32>;
+
+impl Run {
+    pub const fn new() -> Run {
+        Run { n: 0, open: 0, started: 0, finished: 0, tick: 0, start: [0; 64], finish: [0; 64] }
+    }
+
+    /// Begins a run of n steps by the plan in `table`, with the map of the open ones. Refusals 16, 2, 14.
+    pub fn begin(&mut self, n: usize, open: u64, table: &[u32]) -> Started {
+        self.call(|words, run, map| unsafe {
+            raw::standplan_begin(
+                words,
+                &mut run.tick,
+                &mut run.start,
+                &mut run.finish,
+                map,
+                n,
+                open,
+                table.as_ptr(),
+                table.len(),
+            )
+        })
+    }
+
+    /// The tick grows by one. Refusals 15, 14, 18.
+    pub fn tick(&mut self, table: &[u32]) -> Started {
+        self.call(|words, run, map| unsafe {
+            raw::standplan_tick(
+                words,
+                &mut run.tick,
+                &mut run.start,
+                &mut run.finish,
+                map,
+                table.as_ptr(),
+                table.len(),
+            )
+        })
+    }
+
+    /// Open step s ends at this tick. Refusals 15, 14, 17.
+    pub fn finish(&mut self, s: usize, table: &[u32]) -> Started {
+        self.call(|words, run, map| unsafe {
+            raw::standplan_finish(
+                words,
+                &mut run.tick,
+                &mut run.start,
+                &mut run.finish,
+                map,
+                s,
+                table.as_ptr(),
+                table.len(),
+            )
+        })
+    }
+
+    fn call(&mut self, call: impl FnOnce(&mut [u64; 4], &mut Run, &mut u64) -> u32) -> Started {
+        let mut words = [self.n as u64, self.open, self.started, self.finished];
+        let mut map = 0;
+        let code = call(&mut words, self, &mut map);
+        self.n = words[0] as usize;
+        [self.open, self.started, self.finished] = [words[1], words[2], words[3]];
+        if code == 0 { Ok(map) } else { Err(code - 256) }
+    }
 }

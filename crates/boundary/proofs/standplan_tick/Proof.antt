@@ -1,0 +1,30 @@
+-- `boundary::standplan_tick` meets its contract: the dispatcher's call on the state that is lent.
+use denote.Ref.{now}
+use Rattle.definitions.specs.Dispatcher.{tick}
+use Rattle.definitions.specs.declared.State.{State}
+use Rattle.boundary.proofs.Calls.{leaves}
+use borrow.Author.Needs.{needs}
+use Rattle.boundary.proofs.standplan_tick.Statement.{statement}
+use Rattle.boundary.proofs.standplan_tick.Tie as tie
+use Rattle.boundary.proofs.standplan_tick.Reads as reads
+use Rattle.boundary.proofs.standplan_tick.Lts as lts
+use Rattle.boundary.proofs.state_in.Reads as state-in-reads
+use Rattle.boundary.proofs.store.Reads as store-reads
+use Rattle.dispatcher.proofs.tick.Reads as tick-reads
+
+state-in-requires : tie.Need-state-in-requires
+state-in-requires c κs = search needs
+
+tick-requires : tie.Need-tick-requires
+tick-requires c κs = search needs
+
+store-requires : tie.Need-store-requires
+store-requires c κs = search needs
+
+returns : tie.Need-returns
+returns c =
+    let s = c .before .before .before .before .before .before .before .before .before .before .before .before .before in
+    leaves (c .store .ensures) (λ (st : State). tick st (now (s .args .table))) (c .before .before .before .before .before .before .before .state-in .ensures) (c .before .before .before .before .before .before .tick .ensures)
+
+pub standplan-tick-spec : {M : Type 1} → statement M
+standplan-tick-spec = tie.close (tie.spec state-in-requires tick-requires store-requires returns)
