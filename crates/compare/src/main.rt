@@ -54,12 +54,7 @@ fn read_entries(list: &mut [u32]) {
 }
 
 // Lines of a word and a verdict.
-fn put_line(
-    word: &[u8],
-    verdict: definitions::Verdict,
-    out: &mut [u8],
-    at: usize,
-) -> usize {
+fn put_line(word: &[u8], verdict: definitions::Verdict, out: &mut [u8], at: usize) -> usize {
     let p = console::put_word(word, out, at);
     let q = console::put_verdict(verdict, out, p);
     console::put_newline(out, q)
@@ -166,13 +161,7 @@ fn put_plan_into(s: &[u8], table: &mut [u32], out: &mut [u8], at: usize) -> usiz
 }
 
 // The same, into the first `length` numbers.
-fn put_plan_in(
-    s: &[u8],
-    table: &mut [u32],
-    length: usize,
-    out: &mut [u8],
-    at: usize,
-) -> usize {
+fn put_plan_in(s: &[u8], table: &mut [u32], length: usize, out: &mut [u8], at: usize) -> usize {
     if length <= table.len() {
         return put_plan_into(s, &mut table[..length], out, at);
     }

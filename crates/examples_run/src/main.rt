@@ -123,7 +123,12 @@ fn judge_links(low: u8, high: u8, size: usize) -> Verdict {
 fn starts(duration: u32) -> Verdict {
     let list = [0, duration];
     let mut times = [0u32; 2];
-    planner::starts(b"\x02\x01\x00\x01\x01\x01\x00\x01", false, &list, &mut times)
+    planner::starts(
+        b"\x02\x01\x00\x01\x01\x01\x00\x01",
+        false,
+        &list,
+        &mut times,
+    )
 }
 
 // ---- the examples

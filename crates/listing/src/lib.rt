@@ -1,7 +1,6 @@
 // The text that `standplan` prints of a sheet, formatted into a lent buffer: the plan where the sheet is accepted with waits allowed, else its refusal.
 use definitions::Refusal;
 use definitions::Verdict;
-
 ghost use mathlib.Core.Path.{_≡_};
 ghost use Prim.Native.Nat.{_≤_};
 ghost use lib.ListN.{length, getD};
