@@ -1,11 +1,11 @@
 -- A row asked for: the answer in each of the cases that the code tells apart, and where the row stands in the table.
-use mathlib.Core.Path.{_≡_, refl, sym, ap, _∙_}
-use mathlib.Core.Bool.{Bool, true, false, not, _&&_}
+use mathlib.Core.Path.{_≡_, sym, ap, _∙_}
+use mathlib.Core.Bool.{false, _&&_}
 use mathlib.Core.List.{List, []}
 use Prim.Native.Nat.{ℕ, suc, _+_, _-_, _*_, _≤_, _<_}
 use native.Mathlib.Omega.{arith}
-use native.Mathlib.Nat.{le-trans, mul-le-mul-right, mul-le-mul-left, suc-mul, add-sub-cancel-left}
-use lib.Dec.{leb, ltb}
+use native.Mathlib.Nat.{mul-le-mul-right, suc-mul, add-sub-cancel-left}
+use lib.Dec.{leb}
 use lib.ListN.{length, take, drop}
 use borrow.Author.Tests.{le-leb, lt-leb, le-ltb, lt-ltb, leb-true, leb-false, ltb-false, not-false}
 use Rattle.definitions.specs.Answers.{bad-count, too-short, row-answer}
@@ -43,10 +43,6 @@ module _ (table : List ℕ) (n v : ℕ) where
   pub row-there : 1 ≤ n → n ≤ 64 → v < n → n * n ≤ length table → row-answer table n v ≡ given (row-part table n v)
   unfolding row-answer refuse-if too-short
   row-there h k l m = rw (counted h k, lt-leb n v l, le-ltb (length table) (n * n) m)
-
--- The square of a count fits, and so does the place of a row.
-pub square-small : (n : ℕ) → n ≤ 64 → n * n ≤ 4096
-square-small n h = le-trans (mul-le-mul-left n h) (omega arith)
 
 -- A row ends within the table: v rows and one more are at most n.
 pub row-end : (n v : ℕ) → v < n → v * n + n ≤ n * n

@@ -4,14 +4,14 @@ use native.Mathlib.Omega.{arith}
 use lib.ListN.{length, length-take}
 use lib.Seq.{length-take-le}
 use borrow.Author.Needs.{needs}
-use Rattle.planner.specs.Analysis.{Analysed}
+use Rattle.analysis.specs.Analysis.{Analysed}
 use Rattle.planner.proofs.Held.{by-held, held-shape}
 use Rattle.planner.proofs.analyse_sheet.Statement.{statement}
 use Rattle.planner.proofs.analyse_sheet.Tie as tie
 use Rattle.planner.proofs.analyse_sheet.Reads as reads
 use Rattle.planner.proofs.analyse_sheet.Lts as lts
 use Rattle.edges.proofs.edges_of.Reads as edges-of-reads
-use Rattle.planner.proofs.analyse.Reads as analyse-reads
+use Rattle.analysis.proofs.analyse.Reads as analyse-reads
 
 edges-of-requires : tie.Need-edges-of-requires
 edges-of-requires c κs = search needs

@@ -3,7 +3,8 @@ use mathlib.Core.Path.{sym}
 use native.Mathlib.Omega.{arith}
 use denote.Ref.{now}
 use borrow.Author.Needs.{needs}
-use Rattle.planner.proofs.Parts.{row-done, row-refused, asked-part, row-end, square-small}
+use Rattle.analysis.proofs.Writing.{square-small}
+use Rattle.planner.proofs.Parts.{row-done, row-refused, asked-part, row-end}
 use Rattle.planner.proofs.row.Statement.{statement}
 use Rattle.planner.proofs.row.Tie as tie
 use Rattle.planner.proofs.row.Reads as reads

@@ -1,7 +1,8 @@
 -- `planner::row_status` meets its contract: the tests of the code are those of the definition, one by one.
 use native.Mathlib.Omega.{arith}
 use denote.Ref.{now}
-use Rattle.planner.proofs.Parts.{row-none, row-many, row-outside, row-short, row-there, square-small}
+use Rattle.analysis.proofs.Writing.{square-small}
+use Rattle.planner.proofs.Parts.{row-none, row-many, row-outside, row-short, row-there}
 use Rattle.planner.proofs.row_status.Statement.{statement}
 use Rattle.planner.proofs.row_status.Tie as tie
 use Rattle.planner.proofs.row_status.Reads as reads
@@ -18,8 +19,8 @@ returns-3 c =
     let a = c .before .before .before .args in
     rw (row-outside (now (a .table)) (a .n) (a .v) (omega arith) (omega arith) (c .if3 .taken))
 
-mul-if4 : tie.Need-mul-if4
-mul-if4 c = record { fits = omega (arith, square-small (c .before .before .before .args .n) (omega arith)) }
+mul-size : tie.Need-mul-size
+mul-size c = record { fits = omega (arith, square-small (c .before .before .before .args .n) (omega arith)) }
 
 returns-4 : tie.Need-returns-4
 returns-4 c =
@@ -32,4 +33,4 @@ returns-5 c =
     rw (row-there (now (a .table)) (a .n) (a .v) (omega arith) (omega arith) (omega arith) (c .if4 .left))
 
 pub row-status-spec : {M : Type 1} → statement M
-row-status-spec = tie.close (tie.spec returns returns-2 returns-3 mul-if4 returns-4 returns-5)
+row-status-spec = tie.close (tie.spec returns returns-2 returns-3 mul-size returns-4 returns-5)

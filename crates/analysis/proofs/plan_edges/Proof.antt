@@ -1,0 +1,53 @@
+-- `analysis::plan_edges` meets its contract, path by path: a refusal of judging, 14, the plan.
+use mathlib.Core.Path.{sym, _∙_}
+use native.Mathlib.Omega.{arith}
+use borrow.Author.Needs.{needs}
+use borrow.Author.Tests.{not-true, not-false}
+use Rattle.analysis.proofs.Writing.{square-small, plan-passed, plan-short, plan-written, plannable}
+use Rattle.analysis.proofs.plan_edges.Statement.{statement}
+use Rattle.analysis.proofs.plan_edges.Tie as tie
+use Rattle.analysis.proofs.plan_edges.Reads as reads
+use Rattle.analysis.proofs.plan_edges.Lts as lts
+use Rattle.analysis.proofs.analyse.Reads as analyse-reads
+use Rattle.analysis.proofs.accepted.Reads as accepted-reads
+use Rattle.analysis.proofs.write_plan.Reads as write-plan-reads
+
+analyse-requires : tie.Need-analyse-requires
+analyse-requires c κs = search needs
+
+accepted-requires : tie.Need-accepted-requires
+accepted-requires c κs = search needs
+
+returns : tie.Need-returns
+returns c shape gains = plan-passed (c .before .before .analyse .ensures shape) _ (sym (c .before .accepted .ensures) ∙ not-true _ (c .if1 .taken))
+
+mul-if2 : tie.Need-mul-if2
+mul-if2 c = record { fits = omega (arith, square-small (c .before .before .before .before .before .args .n) (search needs)) }
+
+returns-2 : tie.Need-returns-2
+returns-2 c shape gains = plan-short (c .before .before .before .analyse .ensures shape) _ (sym (c .before .before .accepted .ensures) ∙ not-false _ (c .before .if1 .left)) (c .if2 .taken)
+
+write-plan-requires : tie.Need-write-plan-requires
+write-plan-requires c κs = search needs
+
+same-length : tie.Need-same-length
+same-length c = search needs
+
+returns-3 : tie.Need-returns-3
+returns-3 c shape gains =
+    let analysed = c .before .before .before .before .before .before .before .before .before .before .before .analyse .ensures shape in
+    let accepted = sym (c .before .before .before .before .before .before .before .before .before .before .accepted .ensures) ∙ not-false _ (c .before .before .before .before .before .before .before .before .before .if1 .left) in
+    plan-written analysed _ accepted (c .before .before .before .before .before .before .before .before .if2 .left) (c .before .before .write-plan .ensures (plannable analysed (search needs) shape gains accepted))
+
+pub plan-edges-spec : {M : Type 1} → statement M
+plan-edges-spec =
+    tie.close
+    (tie.spec
+    analyse-requires
+    accepted-requires
+    returns
+    mul-if2
+    returns-2
+    write-plan-requires
+    same-length
+    returns-3)

@@ -1,0 +1,67 @@
+-- `analysis::starts_edges` meets its contract, path by path: a refusal of judging, 13, 14 for the list and for the numbers to be written, the starts.
+use mathlib.Core.Path.{sym, _∙_}
+use borrow.Author.Needs.{needs}
+use borrow.Author.Tests.{not-true, not-false}
+use Rattle.analysis.proofs.Writing.{list-short, out-short, plannable, starts-passed, starts-short, starts-written, starts-wrong}
+use Rattle.analysis.proofs.starts_edges.Statement.{statement}
+use Rattle.analysis.proofs.starts_edges.Tie as tie
+use Rattle.analysis.proofs.starts_edges.Reads as reads
+use Rattle.analysis.proofs.starts_edges.Lts as lts
+use Rattle.analysis.proofs.analyse.Reads as analyse-reads
+use Rattle.analysis.proofs.accepted.Reads as accepted-reads
+use Rattle.schedule.proofs.delays_bad.Reads as delays-bad-reads
+use Rattle.analysis.proofs.write_starts.Reads as write-starts-reads
+
+analyse-requires : tie.Need-analyse-requires
+analyse-requires c κs = search needs
+
+accepted-requires : tie.Need-accepted-requires
+accepted-requires c κs = search needs
+
+returns : tie.Need-returns
+returns c shape gains os long map = starts-passed (c .before .before .analyse .ensures shape) os _ _ (sym (c .before .accepted .ensures) ∙ not-true _ (c .if1 .taken))
+
+delays-bad-requires : tie.Need-delays-bad-requires
+delays-bad-requires c κs = search needs
+
+returns-2 : tie.Need-returns-2
+returns-2 c shape gains os long map = starts-wrong (c .before .before .before .before .analyse .ensures shape) os _ _ (sym (c .before .before .before .accepted .ensures) ∙ not-false _ (c .before .before .if1 .left)) (sym (c .before .delays-bad .ensures .wrong os long map) ∙ c .if2 .taken)
+
+returns-3 : tie.Need-returns-3
+returns-3 c shape gains os long map =
+    let analysed = c .before .before .before .before .before .analyse .ensures shape in
+    starts-short analysed os _ _ (sym (c .before .before .before .before .accepted .ensures) ∙ not-false _ (c .before .before .before .if1 .left)) (sym (c .before .before .delays-bad .ensures .wrong os long map) ∙ c .before .if2 .left) (list-short analysed os _ _ (c .if3 .taken))
+
+returns-4 : tie.Need-returns-4
+returns-4 c shape gains os long map =
+    let analysed = c .before .before .before .before .before .before .analyse .ensures shape in
+    starts-short analysed os _ _ (sym (c .before .before .before .before .before .accepted .ensures) ∙ not-false _ (c .before .before .before .before .if1 .left)) (sym (c .before .before .before .delays-bad .ensures .wrong os long map) ∙ c .before .before .if2 .left) (out-short analysed os _ _ (c .if4 .taken))
+
+write-starts-requires : tie.Need-write-starts-requires
+write-starts-requires c κs = search needs
+
+same-length : tie.Need-same-length
+same-length c = search needs
+
+returns-5 : tie.Need-returns-5
+returns-5 c shape gains os long map =
+    let analysed = c .before .before .before .before .before .before .before .before .before .before .before .before .before .before .analyse .ensures shape in
+    let accepted = sym (c .before .before .before .before .before .before .before .before .before .before .before .before .before .accepted .ensures) ∙ not-false _ (c .before .before .before .before .before .before .before .before .before .before .before .before .if1 .left) in
+    let right = sym (c .before .before .before .before .before .before .before .before .before .before .before .delays-bad .ensures .wrong os long map) ∙ c .before .before .before .before .before .before .before .before .before .before .if2 .left in
+    starts-written analysed os _ _ accepted right (c .before .before .before .before .before .before .before .before .before .if3 .left) (c .before .before .before .before .before .before .before .before .if4 .left)
+    (c .before .before .write-starts .ensures (plannable analysed (search needs) shape gains accepted) os long right)
+
+pub starts-edges-spec : {M : Type 1} → statement M
+starts-edges-spec =
+    tie.close
+    (tie.spec
+    analyse-requires
+    accepted-requires
+    returns
+    delays-bad-requires
+    returns-2
+    returns-3
+    returns-4
+    write-starts-requires
+    same-length
+    returns-5)

@@ -1,0 +1,42 @@
+-- `analysis::write_starts` meets its contract: as for a plan, and starts of a list that is not refused have 32 bits.
+use borrow.Author.Needs.{needs}
+use Prim.Native.Nat.{_≤_}
+use Rattle.schedule.proofs.Accepted.{plan-starts-fit}
+use Rattle.analysis.proofs.Judging.{shape-inside}
+use Rattle.analysis.proofs.Tables.{plannable-holds}
+use Rattle.analysis.proofs.write_starts.Statement.{statement}
+use Rattle.analysis.proofs.write_starts.Tie as tie
+use Rattle.analysis.proofs.write_starts.Reads as reads
+use Rattle.analysis.proofs.write_starts.Lts as lts
+use Rattle.heaviest.proofs.walks.Reads as walks-reads
+use Rattle.analysis.proofs.with_source.Reads as with-source-reads
+use Rattle.schedule.proofs.fill_starts.Reads as fill-starts-reads
+
+walks-requires : tie.Need-walks-requires
+walks-requires c κs = search needs
+
+with-source-requires : tie.Need-with-source-requires
+with-source-requires c κs = search needs
+
+fill-starts-requires : tie.Need-fill-starts-requires
+fill-starts-requires c κs = search needs
+
+same-length : tie.Need-same-length
+same-length c = search needs
+
+returns : tie.Need-returns
+returns c p os long right =
+    let few : c .before .before .before .before .before .before .before .before .before .before .before .args .n ≤ 64 = search needs in
+    c .before .before .fill-starts .ensures .times _
+    (plannable-holds few p (c .before .before .before .before .before .before .before .walks .ensures (shape-inside (p .well .shape))) (c .before .before .before .before .before .before .with-source .ensures))
+    (plan-starts-fit (p .well) (p .gains) few os _ long (search needs) right)
+
+pub write-starts-spec : {M : Type 1} → statement M
+write-starts-spec =
+    tie.close
+    (tie.spec
+    walks-requires
+    with-source-requires
+    fill-starts-requires
+    same-length
+    returns)
