@@ -1,0 +1,28 @@
+-- `examples_run::judge` is safe and ends.
+use mathlib.Core.Path.{sym}
+use lib.Seq.{length-take-le}
+use borrow.Author.Needs.{needs}
+use Rattle.examples_run.proofs.judge.Statement.{statement}
+use Rattle.examples_run.proofs.judge.Tie as tie
+use Rattle.examples_run.proofs.judge.Reads as reads
+use Rattle.examples_run.proofs.judge.Lts as lts
+use Rattle.planner.proofs.judge.Reads as judge-reads
+
+slice-aggregate-judge : tie.Need-slice-aggregate-judge
+slice-aggregate-judge c = sym (length-take-le _ _ (c .before .if1 .taken))
+
+judge-requires : tie.Need-judge-requires
+judge-requires c κs = search needs
+
+returns : tie.Need-returns
+returns c = search needs
+
+judge-requires-2 : tie.Need-judge-requires-2
+judge-requires-2 c κs = search needs
+
+returns-2 : tie.Need-returns-2
+returns-2 c = search needs
+
+pub judge-spec : {M : Type 1} → statement M
+judge-spec =
+    tie.close (tie.spec slice-aggregate-judge judge-requires returns judge-requires-2 returns-2)
