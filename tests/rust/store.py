@@ -89,6 +89,28 @@ def state_words(state):
     return f"{state.n} {state.open} {state.tick} {state.started} {state.finished}; {ticks(state.start)}; {ticks(state.finish)}"
 
 
+def paper_run():
+    """Document 01's run of the stand sheet, N = 65 at Begin before it, a second Finish and the clock's end behind it."""
+    table = p.plan(examples.STAND, True, [0] * 25)[1]
+    state = p.State()
+    yield f"table; {' '.join(map(str, table))}"
+    yield f"state; {state_words(state)}"
+    answers = []
+    for line, call in [("begin 25 65 4", lambda s: p.begin(s, 65, 4, table)), ("begin 25 5 4", lambda s: p.begin(s, 5, 4, table)),
+                       ("finish 25 2", lambda s: p.finish(s, 2, table)), *[("tick 25", lambda s: p.tick(s, table))] * 3,
+                       ("finish 25 2", lambda s: p.finish(s, 2, table))]:
+        verdict, state = call(state)
+        answers.append(verdict)
+        yield f"{line}; {words_of(verdict)}; {state_words(state)}"
+    assert answers == [("refused", 2), ("ok", 7), ("ok", 0), ("ok", 8), ("ok", 0), ("ok", 16), ("refused", 17)]
+    state = p.replace(state, tick=p.LAST_TICK - 1)
+    yield f"state; {state_words(state)}"
+    for expected in (("ok", 0), ("refused", 18)):
+        verdict, state = p.tick(state, table)
+        assert verdict == expected
+        yield f"tick 25; {words_of(verdict)}; {state_words(state)}"
+
+
 def calls(rng, state, n, open_, table, count):
     """Random calls from a state, the first two of them Begin."""
     yield f"table; {' '.join(map(str, table))}"
@@ -113,7 +135,8 @@ def calls(rng, state, n, open_, table, count):
 
 
 def runs():
-    """The lines of data/runs.txt: runs of accepted sheets, then runs from any state on any table."""
+    """The lines of data/runs.txt: the paper's run, runs of accepted sheets, then runs from any state on any table."""
+    yield from paper_run()
     rng = random.Random(2)
     accepted = [s for s in chosen() if p.judge(s, True)[0] == "ok"]
     for sheet in accepted:
@@ -122,7 +145,7 @@ def runs():
         open_ = sum(1 << v for v, step in enumerate(steps) if step is p.OPEN)
         table = p.plan(sheet, True, [0] * (n * n))[1]
         if n <= 12:
-            yield from calls(rng, p.State(), n, open_, table, 25)
+            yield from calls(rng, p.State(), n, open_, table, 60)
     for j in range(12):
         n = rng.randint(1, 6)
         table = [rng.choice([p.UNDECIDED, 0, 1, 2, p.UNDECIDED - 1]) for _ in range(n * n + rng.randint(0, 2))]
