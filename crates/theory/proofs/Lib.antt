@@ -10,6 +10,7 @@ pub mod Reachability
 pub mod WaitLists
 pub mod Feasibility
 pub mod Offsets
+pub mod Sweeping
 pub mod Irredundance
 pub mod StartTimes
 pub mod DecidingSets

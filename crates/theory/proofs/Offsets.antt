@@ -20,7 +20,7 @@ use Rattle.theory.proofs.Walks.{after-by, after-mono, join, member-belo
 pub usable-by : {es : List Edge} (a : ℕ) (P : List Edge → Type 0) → P es → P (usable es a)
 usable-by {es} a P h = subst P (sym (usable-all es a)) h
 
-first-start : {n : ℕ} {es : List Edge} → Shape n (members es) → 0 < n → (a : ℕ) → Grounded n (members es) a → Start es a (first-row n es a)
+pub first-start : {n : ℕ} {es : List Edge} → Shape n (members es) → 0 < n → (a : ℕ) → Grounded n (members es) a → Start es a (first-row n es a)
 unfolding first-row
 first-start shape some zero G = source-start shape some G
 first-start shape some (suc a) G = after-start shape (omega arith) G

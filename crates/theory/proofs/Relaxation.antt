@@ -115,7 +115,7 @@ covers-hand (suc w) s p q g l c h = record { some = omega arith; enough = omega 
 pub covers-up : {r s p q : ℕ} → Covers r p q → r ≤ s → Covers s p q
 covers-up c h = record { some = omega (arith, c .some); enough = omega (arith, c .enough) }
 
-covers-eq : {r s p q p′ q′ : ℕ} → Covers r p q → s ≡ r → p′ ≡ p → q′ ≡ q → Covers s p′ q′
+pub covers-eq : {r s p q p′ q′ : ℕ} → Covers r p q → s ≡ r → p′ ≡ p → q′ ≡ q → Covers s p′ q′
 covers-eq c h hp hq = record { some = omega (arith, c .some); enough = omega (arith, c .enough) }
 
 -- After k rounds the cells cover every walk of k edges that goes on from a covered one.
