@@ -1,0 +1,87 @@
+// Cells handed on along edges: one edge, the edges out of one step, the waits for it. A cell is 0 where no walk comes, w + 1 for the weight w. See specs/Columns.antt.
+use edges::edge_from;
+use edges::edge_gain;
+use edges::edge_loss;
+use edges::edge_to;
+ghost use mathlib.Core.Path.{_≡_};
+ghost use mathlib.Core.Bool.{_&&_, _||_};
+ghost use Prim.Native.Nat.{ℕ, _<_, min};
+ghost use lib.Dec.{eqb};
+ghost use lib.ListN.{length};
+ghost use Rattle.definitions.specs.Basics.{test-bit};
+ghost use Rattle.definitions.specs.Links.{Edge};
+ghost use Rattle.definitions.specs.Rounds.{extend};
+ghost use Rattle.edges.specs.Words.{unpack};
+ghost use Rattle.relaxation.specs.Columns.{Square, Raised, RelaxedAll, HandedAll, Only};
+
+// A walk made longer by an edge, cut at the largest number of a cell.
+pub fn extended(c: u32, gain: u64, loss: u64) -> u32
+    requires { ⌜ gain < 16777216 ⌝ }
+    ensures { λ r. ⌜ r ≡ min (extend c gain loss) 4294967295 ⌝ }
+{
+    if c == 0 {
+        return 0;
+    }
+    let s = (c as u64) + gain;
+    if s <= loss {
+        return 1;
+    }
+    if 4294967295 < s - loss {
+        return 4294967295;
+    }
+    (s - loss) as u32
+}
+
+// The cell of step v and anchor a becomes c, where that is more; whether it is.
+pub fn raise(d: &mut [[u32; 64]; 64], v: usize, a: usize, c: u32) -> bool
+    requires { ⌜ (v < 64) × (a < 64) × Square (now d) ⌝ }
+    ensures { λ r. ⌜ Raised v a c (now (d .entry)) (now (d .exit)) r ⌝ }
+{
+    if d[v][a] < c {
+        d[v][a] = c;
+        return true;
+    }
+    false
+}
+
+// The map with a in it, where it is to be.
+fn with_member(m: u64, a: usize, stands: bool) -> u64
+    requires { ⌜ a < 64 ⌝ }
+    ensures { λ r. ⌜ ((j : ℕ) → test-bit r j ≡ (test-bit m j || (stands && eqb j a))) ⌝ }
+{
+    if stands {
+        return bitmaps::insert(m, a);
+    }
+    m
+}
+
+// One edge for the anchors in m; the anchors whose cells grew.
+fn relax(d: &mut [[u32; 64]; 64], from: usize, to: usize, gain: u64, loss: u64, m: u64) -> u64
+    requires { ⌜ (from < 64) × (to < 64) × (gain < 16777216) × Square (now d) ⌝ }
+    ensures { λ r. ⌜ ((e : Edge) → e .from ≡ from → e .to ≡ to → e .gain ≡ gain → e .loss ≡ loss → RelaxedAll e m r (now (d .entry)) (now (d .exit))) ⌝ }
+{
+    let mut moved = 0;
+    let mut left = m;
+    while left != 0 {
+        let a = bitmaps::lowest(left);
+        let c = extended(d[from][a], gain, loss);
+        let grew = raise(d, to, a, c);
+        moved = with_member(moved, a, grew);
+        left = bitmaps::remove(left, a);
+    }
+    moved
+}
+
+// One edge for the anchors in m, with marks at its end for those whose cells grew.
+pub fn push_word(d: &mut [[u32; 64]; 64], fresh: &mut [u64; 64], w: u64, m: u64)
+    requires { ⌜ Square (now d) × (length (now fresh) ≡ 64) ⌝ }
+    ensures { λ r. ⌜ HandedAll (λ a. Only (unpack w)) (unpack w .from) m (now (d .entry)) (now (d .exit)) (now (fresh .entry)) (now (fresh .exit)) ⌝ }
+{
+    let from = edge_from(w);
+    let to = edge_to(w);
+    let gain = edge_gain(w);
+    let loss = edge_loss(w);
+    let moved = relax(d, from, to, gain, loss, m);
+    let map = bitmaps::union(fresh[to], moved);
+    fresh[to] = map;
+}
