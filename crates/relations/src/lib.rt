@@ -1,8 +1,10 @@
 // Relations between the numbers below 64, held as 64 maps of bits: see specs/Rows.antt.
 ghost use mathlib.Core.Path.{_≡_};
-ghost use Prim.Native.Nat.{_≤_};
+ghost use mathlib.Core.Bool.{_&&_};
+ghost use Prim.Native.Nat.{ℕ, _<_, _≤_};
+ghost use lib.Dec.{ltb};
 ghost use Rattle.definitions.specs.Basics.{any-below};
-ghost use Rattle.relations.specs.Rows.{row-bit};
+ghost use Rattle.relations.specs.Rows.{row-bit, Spread};
 
 // Whether some number below n is related to itself.
 pub fn has_loop(rows: &[u64; 64], n: usize) -> bool
@@ -17,4 +19,32 @@ pub fn has_loop(rows: &[u64; 64], n: usize) -> bool
         v += 1;
     }
     false
+}
+
+// Bit v in every row whose number is a member of m.
+fn spread(out: &mut [u64], m: u64, v: usize)
+    requires { do ⌜ (v < 64) × ((← ⟦out.len()⟧) ≡ 64) ⌝ }
+    ensures { λ r. ⌜ Spread m v (now (out .entry)) (now (out .exit)) ⌝ }
+{
+    let mut left = m;
+    while left != 0 {
+        let k = bitmaps::lowest(left);
+        let row = bitmaps::insert(out[k], v);
+        out[k] = row;
+        left = bitmaps::remove(left, k);
+    }
+}
+
+// The relation turned round: bit v of row k stands where bit k of row v does, for v below n.
+pub fn transpose(rows: &[u64; 64], n: usize) -> [u64; 64]
+    requires { ⌜ n ≤ 64 ⌝ }
+    ensures { λ r. ⌜ ((v k : ℕ) → row-bit r k v ≡ (ltb v n && row-bit (now (rows .entry)) v k)) ⌝ }
+{
+    let mut out = [0u64; 64];
+    let mut i = 0;
+    while i < n {
+        spread(&mut out, rows[i], i);
+        i += 1;
+    }
+    out
 }

@@ -1,0 +1,71 @@
+-- The loop over the words: it starts with empty lists, a word put before its list keeps it, and its end is the lists of all words.
+use mathlib.Core.Path.{_≡_, refl, sym, ap, _∙_}
+use mathlib.Core.Bool.{cond}
+use mathlib.Core.List.{List}
+use mathlib.Core.Logic.{_⊎_, inl, inr, _≢_}
+use Prim.Native.Nat.{ℕ, zero, suc, _+_, _<_}
+use native.Mathlib.Omega.{arith}
+use native.Mathlib.Numerals.{add-one}
+use lib.Dec.{eqb}
+use lib.ListN.{length, getD, set, replicate, length-replicate, length-set}
+use lib.Seq.{getD-set-same, getD-set-other}
+use borrow.Author.Tests.{eq-eqb, ne-eqb}
+use Rattle.edges.specs.Words.{unpack}
+use Rattle.laws.proofs.Bools.{same-or-not, cond-true, cond-false}
+use Rattle.adjacency.specs.Lists.{last-from, Lists, Linked, put-first}
+
+zeros-at : (n u : ℕ) → getD (replicate {A = ℕ} n 0) u 0 ≡ 0
+zeros-at zero u = refl
+zeros-at (suc n) zero = refl
+zeros-at (suc n) (suc u) = zeros-at n u
+
+pub linked-none : (es : List ℕ) → Linked es (replicate 2112 0) 0
+unfolding last-from
+linked-none es = record { long = length-replicate {A = ℕ} 2112 0; heads = λ u b. zeros-at 2112 u; nexts = λ i b. absurd (let f : ⊥ = omega arith in f) }
+
+last-more : (es : List ℕ) (u k : ℕ) → last-from es u (k + 1) ≡ cond (eqb (unpack (getD es k 0) .from) u) (suc k) (last-from es u k)
+unfolding last-from
+last-more es u k = ap (last-from es u) (add-one k)
+
+start-low : (w : ℕ) → unpack w .from < 64
+unfolding unpack
+start-low w = omega arith
+
+module _ (es lists : List ℕ) (k from : ℕ) (small : k < 2048) (start : from ≡ unpack (getD es k 0) .from) (L : Linked es lists k) where
+  low : from < 64
+  low = rw start (start-low (getD es k 0))
+
+  head-more : (u : ℕ) → u < 64 → (u ≡ from) ⊎ (u ≢ from) → getD (put-first lists from k) u 0 ≡ last-from es u (k + 1)
+  unfolding put-first
+  head-more u b (inl e) =
+      ap (λ (i : ℕ). getD (put-first lists from k) i 0) e
+      ∙ getD-set-same (set lists (64 + k) (getD lists from 0)) from (k + 1) 0 (omega (arith, low, L .long, length-set lists (64 + k) (getD lists from 0)))
+      ∙ add-one k
+      ∙ sym (last-more es u k ∙ cond-true (suc k) (last-from es u k) (eq-eqb (unpack (getD es k 0) .from) u (sym start ∙ sym e)))
+  head-more u b (inr d) =
+      getD-set-other (set lists (64 + k) (getD lists from 0)) from u (k + 1) 0 d
+      ∙ getD-set-other lists (64 + k) u (getD lists from 0) 0 (λ e. omega arith)
+      ∙ L .heads u b
+      ∙ sym (last-more es u k ∙ cond-false (suc k) (last-from es u k) (ne-eqb (unpack (getD es k 0) .from) u (λ e. d (sym e ∙ sym start))))
+
+  next-more : (i : ℕ) → i < k + 1 → (i ≡ k) ⊎ (i ≢ k) → getD (put-first lists from k) (64 + i) 0 ≡ last-from es (unpack (getD es i 0) .from) i
+  unfolding put-first
+  next-more i b (inl e) =
+      getD-set-other (set lists (64 + k) (getD lists from 0)) from (64 + i) (k + 1) 0 (λ e. omega (arith, low))
+      ∙ ap (λ (j : ℕ). getD (set lists (64 + k) (getD lists from 0)) (64 + j) 0) e
+      ∙ getD-set-same lists (64 + k) (getD lists from 0) 0 (omega (arith, L .long))
+      ∙ L .heads from low
+      ∙ ap (λ (u : ℕ). last-from es u k) start
+      ∙ ap (λ (j : ℕ). last-from es (unpack (getD es j 0) .from) j) (sym e)
+  next-more i b (inr d) =
+      getD-set-other (set lists (64 + k) (getD lists from 0)) from (64 + i) (k + 1) 0 (λ e. omega (arith, low))
+      ∙ getD-set-other lists (64 + k) (64 + i) (getD lists from 0) 0 (λ e. d (omega arith))
+      ∙ L .nexts i (omega arith)
+
+  pub linked-more : Linked es (put-first lists from k) (k + 1)
+  unfolding put-first
+  linked-more =
+      record { long = length-set (set lists (64 + k) (getD lists from 0)) from (k + 1) ∙ length-set lists (64 + k) (getD lists from 0) ∙ L .long; heads = λ u b. head-more u b (same-or-not u from); nexts = λ i b. next-more i b (same-or-not i k) }
+
+pub linked-all : (es lists : List ℕ) (k : ℕ) → k ≡ length es → Linked es lists k → Lists es lists
+linked-all es lists k e L = record { heads = λ u b. L .heads u b ∙ ap (last-from es u) e; nexts = λ i b. L .nexts i (omega arith) }

@@ -1,0 +1,61 @@
+-- `adjacency::lists` meets its contract. Invariant: the lists of the first k words.
+use borrow.Author.Needs.{needs}
+use native.Mathlib.Omega.{arith}
+use mathlib.Core.Path.{refl}
+use Prim.Native.Nat.{_≤_, _-_}
+use lib.ListN.{length}
+use Rattle.adjacency.specs.Lists.{Linked}
+use Rattle.adjacency.proofs.Linking.{linked-none, linked-more, linked-all}
+use Rattle.adjacency.proofs.lists.Statement.{statement}
+use Rattle.adjacency.proofs.lists.Tie as tie
+
+abbrev Inv-loop : tie.InvT-loop
+Inv-loop es lists₀ k₀ lists k = (k ≤ length es) × Linked es lists k
+
+abbrev μ-loop : tie.MeasureT-loop
+μ-loop es lists₀ k₀ lists k = length es - k
+
+loop-holds : tie.Need-loop-holds Inv-loop μ-loop
+loop-holds c = (omega arith, linked-none _)
+
+slice-aggregate-link : tie.Need-slice-aggregate-link Inv-loop μ-loop
+slice-aggregate-link c = search needs
+
+mul-link : tie.Need-mul-link Inv-loop μ-loop
+mul-link c = search needs
+
+shared-slice-read-link : tie.Need-shared-slice-read-link Inv-loop μ-loop
+shared-slice-read-link c = search needs
+
+link-requires : tie.Need-link-requires Inv-loop μ-loop
+link-requires c κs = (omega arith, c .before .before .before .loop .inv .1 .long)
+
+add-k : tie.Need-add-k Inv-loop μ-loop
+add-k c = search needs
+
+loop-less : tie.Need-loop-less Inv-loop μ-loop
+loop-less c = search needs
+
+loop-again : tie.Need-loop-again Inv-loop μ-loop
+loop-again c =
+    let s = c .before .before .before .before .before in
+    (omega arith, rw (c .before .link .ensures) (linked-more _ _ (s .loop .k) _ (omega arith) refl (s .loop .inv .1)))
+
+returns : tie.Need-returns Inv-loop μ-loop
+returns c = linked-all _ _ (c .before .loop .k) (omega arith) (c .before .loop .inv .1)
+
+pub lists-spec : {M : Type 1} → statement M
+lists-spec =
+    tie.close
+    (tie.spec
+    Inv-loop
+    μ-loop
+    loop-holds
+    slice-aggregate-link
+    mul-link
+    shared-slice-read-link
+    link-requires
+    add-k
+    loop-less
+    loop-again
+    returns)
