@@ -240,7 +240,7 @@ fn has_bit(map: u64, a: usize) -> bool
 }
 
 // The word of a wait of i for a.
-fn wait_word(a: usize, i: usize) -> u64
+pub fn wait_word(a: usize, i: usize) -> u64
     requires { ⌜ (a < 64) × (i < 64) ⌝ }
     ensures { λ r. ⌜ unpack r ≡ edge a i 0 0 true false ⌝ }
 {
