@@ -11,6 +11,7 @@ use lib.ListN.{length, getD, set, replicate, getD-replicate, length-replicate, l
 use lib.Seq.{getD-set-same, getD-set-other}
 use borrow.Author.Tests.{eq-eqb, ne-eqb}
 use Rattle.edges.specs.Words.{unpack}
+use Rattle.edges.proofs.Digits.{from-small}
 use Rattle.laws.proofs.Bools.{same-or-not, cond-true, cond-false}
 use Rattle.adjacency.specs.Lists.{last-from, Lists, Linked, put-first}
 
@@ -22,13 +23,9 @@ last-more : (es : List ℕ) (u k : ℕ) → last-from es u (k + 1) ≡ cond (eqb
 unfolding last-from
 last-more es u k = ap (last-from es u) (add-one k)
 
-start-low : (w : ℕ) → unpack w .from < 64
-unfolding unpack
-start-low w = omega arith
-
 module _ (es lists : List ℕ) (k from : ℕ) (small : k < 2048) (start : from ≡ unpack (getD es k 0) .from) (L : Linked es lists k) where
   low : from < 64
-  low = rw start (start-low (getD es k 0))
+  low = rw start (from-small (getD es k 0))
 
   head-more : (u : ℕ) → u < 64 → (u ≡ from) ⊎ (u ≢ from) → getD (put-first lists from k) u 0 ≡ last-from es u (k + 1)
   unfolding put-first
