@@ -13,7 +13,13 @@ use borrow.Author.Tests.{eq-eqb, ne-eqb}
 use Rattle.edges.specs.Words.{unpack}
 use Rattle.edges.proofs.Digits.{from-small}
 use Rattle.laws.proofs.Bools.{same-or-not, cond-true, cond-false}
-use Rattle.adjacency.specs.Lists.{last-from, Lists, Linked, put-first}
+use Rattle.adjacency.specs.Lists.{last-from, Lists, put-first}
+
+-- The lists of the first k words.
+pub record Linked (es lists : List ℕ) (k : ℕ) : Type 0 where
+  pub long : length lists ≡ 2112
+  pub heads : (u : ℕ) → u < 64 → getD lists u 0 ≡ last-from es u k
+  pub nexts : (i : ℕ) → i < k → getD lists (64 + i) 0 ≡ last-from es (unpack (getD es i 0) .from) i
 
 pub linked-none : (es : List ℕ) → Linked es (replicate 2112 0) 0
 unfolding last-from
