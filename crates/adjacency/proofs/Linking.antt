@@ -1,39 +1,37 @@
 -- The loop over the words: it starts with empty lists, a word put before its list keeps it, and its end is the lists of all words.
-use mathlib.Core.Path.{_≡_, refl, sym, ap, _∙_}
+use mathlib.Core.Path.{_≡_, sym, ap, _∙_}
 use mathlib.Core.Bool.{cond}
 use mathlib.Core.List.{List}
 use mathlib.Core.Logic.{_⊎_, inl, inr, _≢_}
-use Prim.Native.Nat.{ℕ, zero, suc, _+_, _<_}
+use Prim.Native.Nat.{ℕ, suc, _+_, _<_}
 use native.Mathlib.Omega.{arith}
 use native.Mathlib.Numerals.{add-one}
 use lib.Dec.{eqb}
-use lib.ListN.{length, getD, set, replicate, length-replicate, length-set}
+use lib.ListN.{length, getD, set, replicate, getD-replicate, length-replicate, length-set}
 use lib.Seq.{getD-set-same, getD-set-other}
 use borrow.Author.Tests.{eq-eqb, ne-eqb}
 use Rattle.edges.specs.Words.{unpack}
+use Rattle.edges.proofs.Digits.{from-small}
 use Rattle.laws.proofs.Bools.{same-or-not, cond-true, cond-false}
-use Rattle.adjacency.specs.Lists.{last-from, Lists, Linked, put-first}
+use Rattle.adjacency.specs.Lists.{last-from, Lists, put-first}
 
-zeros-at : (n u : ℕ) → getD (replicate {A = ℕ} n 0) u 0 ≡ 0
-zeros-at zero u = refl
-zeros-at (suc n) zero = refl
-zeros-at (suc n) (suc u) = zeros-at n u
+-- The lists of the first k words.
+pub record Linked (es lists : List ℕ) (k : ℕ) : Type 0 where
+  pub long : length lists ≡ 2112
+  pub heads : (u : ℕ) → u < 64 → getD lists u 0 ≡ last-from es u k
+  pub nexts : (i : ℕ) → i < k → getD lists (64 + i) 0 ≡ last-from es (unpack (getD es i 0) .from) i
 
 pub linked-none : (es : List ℕ) → Linked es (replicate 2112 0) 0
 unfolding last-from
-linked-none es = record { long = length-replicate {A = ℕ} 2112 0; heads = λ u b. zeros-at 2112 u; nexts = λ i b. absurd (let f : ⊥ = omega arith in f) }
+linked-none es = record { long = length-replicate {A = ℕ} 2112 0; heads = λ u b. getD-replicate {A = ℕ} 2112 u 0 0 (omega arith); nexts = λ i b. absurd (let f : ⊥ = omega arith in f) }
 
 last-more : (es : List ℕ) (u k : ℕ) → last-from es u (k + 1) ≡ cond (eqb (unpack (getD es k 0) .from) u) (suc k) (last-from es u k)
 unfolding last-from
 last-more es u k = ap (last-from es u) (add-one k)
 
-start-low : (w : ℕ) → unpack w .from < 64
-unfolding unpack
-start-low w = omega arith
-
 module _ (es lists : List ℕ) (k from : ℕ) (small : k < 2048) (start : from ≡ unpack (getD es k 0) .from) (L : Linked es lists k) where
   low : from < 64
-  low = rw start (start-low (getD es k 0))
+  low = rw start (from-small (getD es k 0))
 
   head-more : (u : ℕ) → u < 64 → (u ≡ from) ⊎ (u ≢ from) → getD (put-first lists from k) u 0 ≡ last-from es u (k + 1)
   unfolding put-first

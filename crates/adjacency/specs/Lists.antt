@@ -18,12 +18,6 @@ pub record Lists (es lists : List ℕ) : Type 0 where
   pub heads : (u : ℕ) → u < 64 → getD lists u 0 ≡ last-from es u (length es)
   pub nexts : (i : ℕ) → i < length es → getD lists (64 + i) 0 ≡ last-from es (unpack (getD es i 0) .from) i
 
--- The lists of the first k words.
-pub record Linked (es lists : List ℕ) (k : ℕ) : Type 0 where
-  pub long : length lists ≡ 2112
-  pub heads : (u : ℕ) → u < 64 → getD lists u 0 ≡ last-from es u k
-  pub nexts : (i : ℕ) → i < k → getD lists (64 + i) 0 ≡ last-from es (unpack (getD es i 0) .from) i
-
 -- Edge k put before the list of the step that it leaves.
 unfoldable pub put-first : List ℕ → ℕ → ℕ → List ℕ
 put-first lists from k = set (set lists (64 + k) (getD lists from 0)) from (k + 1)

@@ -1,14 +1,12 @@
 -- The digits of a word, and the fields that they stand for.
-use mathlib.Core.Path.{_≡_, refl, sym, ap, _∙_}
-use mathlib.Core.Bool.{Bool, true, false}
+use mathlib.Core.Path.{_≡_, ap, _∙_}
+use mathlib.Core.Bool.{Bool}
 use Prim.Native.Nat.{ℕ, _+_, _*_, _/_, _%_, _<_}
 use native.Mathlib.Omega.{arith}
 use native.Mathlib.Nat.{mod-eq-of-lt}
 use lib.Arith.{digits-div, digits-mod}
 use lib.Dec.{eqb}
-use Rattle.definitions.specs.Links.{Edge}
-use Rattle.edges.specs.Words.{unpack}
-use Rattle.edges.specs.Sheets.{edge}
+use Rattle.edges.specs.Words.{edge, unpack}
 
 -- Edges with the same fields are the same.
 pub same-edge : {f f′ t t′ g g′ l l′ : ℕ} {c c′ b b′ : Bool} → f ≡ f′ → t ≡ t′ → g ≡ g′ → l ≡ l′ → c ≡ c′ → b ≡ b′ → edge f t g l c b ≡ edge f′ t′ g′ l′ c′ b′

@@ -1,5 +1,3 @@
 pub mod Digits
-pub mod Pushing
-pub mod Listing
-pub mod BitMaps
 pub mod Serializing
+pub mod Waiting

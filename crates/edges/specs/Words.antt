@@ -1,8 +1,12 @@
 -- How the code holds edges: one word of 64 bits for each, with the fields in its digits.
+use mathlib.Core.Bool.{Bool}
 use mathlib.Core.List.{List, map}
 use Prim.Native.Nat.{ℕ, _/_, _%_, _<_}
 use lib.Dec.{eqb}
 use Rattle.definitions.specs.Links.{Edge}
+
+abbrev pub edge : ℕ → ℕ → ℕ → ℕ → Bool → Bool → Edge
+edge f t g l c b = record { from = f; to = t; gain = g; loss = l; counted = c; back = b }
 
 -- From and to have six bits each, the two marks one each, gain and loss 24 bits each.
 unfoldable pub unpack : ℕ → Edge
@@ -12,3 +16,7 @@ unpack w =
 -- The edge list that words stand for.
 unfoldable pub graph : List ℕ → List Edge
 graph words = map unpack words
+
+-- Ends that fit their digits.
+abbrev pub Fit : ℕ → ℕ → Type 0
+Fit i j = (i < 64) × (j < 64)

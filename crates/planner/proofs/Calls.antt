@@ -20,7 +20,7 @@ use Rattle.definitions.specs.declared.Sheet.{Sheet}
 use Rattle.definitions.specs.declared.Verdict.{Verdict}
 use Rattle.demands.specs.Demands.{Bytes}
 use Rattle.demands.proofs.Reading.{Fits, read-fits}
-use Rattle.edges.specs.Sheets.{Listed}
+use Rattle.links.specs.Sheets.{Listed}
 use Rattle.edges.specs.Words.{graph}
 use Rattle.reader.specs.Answers.{Reports}
 use Rattle.reader.proofs.Reports.{Holds, report-given}

@@ -13,7 +13,7 @@ use Rattle.definitions.specs.declared.Link.{Link}
 use Rattle.definitions.specs.declared.Sheet.{Sheet}
 use Rattle.demands.proofs.Edges.{sheet-gains, sheet-shape}
 use Rattle.demands.proofs.Reading.{Fits}
-use Rattle.edges.specs.Sheets.{Ends, Listed}
+use Rattle.links.specs.Sheets.{Ends, Listed}
 use Rattle.edges.specs.Words.{graph}
 use Rattle.theory.specs.Graphs.{Gains, Shape}
 

@@ -34,7 +34,7 @@ fn analyse_sheet(sheet: Sheet, allow: bool) -> Analysis
     ensures { λ r. ⌜ ((q : Records) → Fits q → sheet ≡ held (given q) → Analysed (count-of q) (edges-of q) allow r) ⌝ }
 {
     let n = sheet.n;
-    let e = edges::edges_of(sheet);
+    let e = links::edges_of(sheet);
     let words = e.words;
     let count = e.count;
     analyse(&words[..count], n, allow)
@@ -45,7 +45,7 @@ fn plan_sheet(sheet: Sheet, allow: bool, table: &mut [u32]) -> Verdict
     ensures { λ r. ⌜ ((q : Records) → Fits q → sheet ≡ held (given q) → (verdict-of r ≡ plan-verdict q allow (now (table .entry))) × (now (table .exit) ≡ written (plan-verdict q allow (now (table .entry))) (plan-table (count-of q) (serialized-of q)) (now (table .entry)))) ⌝ }
 {
     let n = sheet.n;
-    let e = edges::edges_of(sheet);
+    let e = links::edges_of(sheet);
     let words = e.words;
     let count = e.count;
     plan_edges(&words[..count], n, allow, table)
@@ -58,7 +58,7 @@ fn starts_sheet(sheet: Sheet, allow: bool, list: &[u32], out: &mut [u32]) -> Ver
     let n = sheet.n;
     let operations = sheet.operations;
     let unbounded = schedule::unbounded_map(operations, n);
-    let e = edges::edges_of(sheet);
+    let e = links::edges_of(sheet);
     let words = e.words;
     let count = e.count;
     starts_edges(&words[..count], n, allow, unbounded, list, out)

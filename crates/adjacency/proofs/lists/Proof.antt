@@ -4,8 +4,7 @@ use native.Mathlib.Omega.{arith}
 use mathlib.Core.Path.{refl}
 use Prim.Native.Nat.{_≤_, _-_}
 use lib.ListN.{length}
-use Rattle.adjacency.specs.Lists.{Linked}
-use Rattle.adjacency.proofs.Linking.{linked-none, linked-more, linked-all}
+use Rattle.adjacency.proofs.Linking.{Linked, linked-none, linked-more, linked-all}
 use Rattle.adjacency.proofs.lists.Statement.{statement}
 use Rattle.adjacency.proofs.lists.Tie as tie
 

@@ -1,16 +1,9 @@
 -- `edges::pack` meets its contract.
-use native.Mathlib.Omega.{arith}
 use borrow.Author.Needs.{needs}
 use mathlib.Core.Path.{_∙_}
 use Rattle.edges.proofs.Digits.{same-edge, digit-kept}
 use Rattle.edges.proofs.pack.Statement.{statement}
 use Rattle.edges.proofs.pack.Tie as tie
-use Rattle.edges.proofs.pack.Reads as reads
-use Rattle.edges.proofs.pack.Lts as lts
-use Rattle.edges.proofs.digit.Reads as digit-reads
-use Rattle.edges.proofs.wide32.Reads as wide32-reads
-use Rattle.edges.proofs.wide8.Reads as wide8-reads
-use Rattle.edges.proofs.word.Reads as word-reads
 
 wide8-requires : tie.Need-wide8-requires
 wide8-requires c κs = search needs

@@ -3,9 +3,6 @@ use native.Mathlib.Omega.{arith}
 use borrow.Author.Needs.{needs}
 use Rattle.edges.proofs.wait_word.Statement.{statement}
 use Rattle.edges.proofs.wait_word.Tie as tie
-use Rattle.edges.proofs.wait_word.Reads as reads
-use Rattle.edges.proofs.wait_word.Lts as lts
-use Rattle.edges.proofs.pack.Reads as pack-reads
 
 cast-pack : tie.Need-cast-pack
 cast-pack c = search needs

@@ -1,12 +1,9 @@
 -- `edges::word` meets its contract.
-use native.Mathlib.Omega.{arith}
 use borrow.Author.Needs.{needs}
 use mathlib.Core.Path.{refl}
 use Rattle.edges.proofs.Digits.{unpack-word}
 use Rattle.edges.proofs.word.Statement.{statement}
 use Rattle.edges.proofs.word.Tie as tie
-use Rattle.edges.proofs.word.Reads as reads
-use Rattle.edges.proofs.word.Lts as lts
 
 mul-result : tie.Need-mul-result
 mul-result c = search needs

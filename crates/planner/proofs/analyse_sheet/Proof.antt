@@ -10,7 +10,7 @@ use Rattle.planner.proofs.analyse_sheet.Statement.{statement}
 use Rattle.planner.proofs.analyse_sheet.Tie as tie
 use Rattle.planner.proofs.analyse_sheet.Reads as reads
 use Rattle.planner.proofs.analyse_sheet.Lts as lts
-use Rattle.edges.proofs.edges_of.Reads as edges-of-reads
+use Rattle.links.proofs.edges_of.Reads as edges-of-reads
 use Rattle.analysis.proofs.analyse.Reads as analyse-reads
 
 edges-of-requires : tie.Need-edges-of-requires

@@ -9,7 +9,7 @@ use Rattle.planner.proofs.starts_sheet.Statement.{statement}
 use Rattle.planner.proofs.starts_sheet.Tie as tie
 use Rattle.planner.proofs.starts_sheet.Reads as reads
 use Rattle.planner.proofs.starts_sheet.Lts as lts
-use Rattle.edges.proofs.edges_of.Reads as edges-of-reads
+use Rattle.links.proofs.edges_of.Reads as edges-of-reads
 use Rattle.analysis.proofs.starts_edges.Reads as starts-edges-reads
 use Rattle.schedule.proofs.unbounded_map.Reads as unbounded-map-reads
 

@@ -1,0 +1,151 @@
+// The one function that turns a sheet into its edges, held as words.
+use definitions::Bound;
+use definitions::Delay;
+use definitions::Link;
+use definitions::Operation;
+use definitions::Sheet;
+use edges::pack;
+ghost use mathlib.Core.Path.{_≡_};
+ghost use mathlib.Core.Bool.{true, false};
+ghost use Prim.Native.Nat.{_+_, _<_, _≤_};
+ghost use lib.ListN.{take};
+ghost use Rattle.definitions.specs.Links.{sequencing-edge};
+ghost use Rattle.edges.specs.Words.{edge, unpack, Fit};
+ghost use Rattle.links.specs.Sheets.{sequencing-edges, minimum-edges, maximum-edges, link-edges, delay-within, Pushed, Listed};
+
+fn ticks_of(x: u16) -> u32
+    ensures { λ r. ⌜ (r ≡ x) × (r < 65536) ⌝ }
+{
+    x as u32
+}
+
+// The words of an after, an at-least and an at-most link on (from, to).
+fn sequencing_word(delay: Delay, from: u8, to: u8) -> u64
+    ensures { λ r. ⌜ (Fit from to → unpack r ≡ sequencing-edge delay from to) ⌝ }
+{
+    match delay {
+        Delay::Open => pack(from, to, 0, 0, from != 0, false),
+        Delay::Fixed(ticks) => pack(from, to, ticks_of(ticks), 0, false, false),
+    }
+}
+
+fn minimum_word(from: u8, to: u8, least: u16) -> u64
+    ensures { λ r. ⌜ (Fit from to → unpack r ≡ edge from to least 0 false false) ⌝ }
+{
+    pack(from, to, ticks_of(least), 0, false, false)
+}
+
+fn maximum_word(from: u8, to: u8, most: u16) -> u64
+    ensures { λ r. ⌜ (Fit from to → unpack r ≡ edge to from 0 most false true) ⌝ }
+{
+    pack(to, from, 0, ticks_of(most), false, true)
+}
+
+// The edges of one link record, written at count; each says the count after it.
+fn push_sequencing(
+    words: &mut [u64],
+    count: usize,
+    from: u8,
+    to: u8,
+    delay: Delay,
+    sequencing: bool,
+) -> usize
+    requires { do ⌜ count < (← ⟦words.len()⟧) ⌝ }
+    ensures { λ r. ⌜ Pushed (Fit from to) (sequencing-edges delay from to sequencing) (now (words .entry)) (now (words .exit)) count r ⌝ }
+{
+    if sequencing {
+        let w = sequencing_word(delay, from, to);
+        words[count] = w;
+        return count + 1;
+    }
+    count
+}
+
+fn push_minimum(words: &mut [u64], count: usize, from: u8, to: u8, bound: Bound) -> usize
+    requires { do ⌜ count < (← ⟦words.len()⟧) ⌝ }
+    ensures { λ r. ⌜ Pushed (Fit from to) (minimum-edges from to bound) (now (words .entry)) (now (words .exit)) count r ⌝ }
+{
+    match bound {
+        Bound::Ticks(least) => {
+            let w = minimum_word(from, to, least);
+            words[count] = w;
+            count + 1
+        }
+        Bound::Absent => count,
+    }
+}
+
+fn push_maximum(words: &mut [u64], count: usize, from: u8, to: u8, bound: Bound) -> usize
+    requires { do ⌜ count < (← ⟦words.len()⟧) ⌝ }
+    ensures { λ r. ⌜ Pushed (Fit from to) (maximum-edges from to bound) (now (words .entry)) (now (words .exit)) count r ⌝ }
+{
+    match bound {
+        Bound::Ticks(most) => {
+            let w = maximum_word(from, to, most);
+            words[count] = w;
+            count + 1
+        }
+        Bound::Absent => count,
+    }
+}
+
+fn push_link(words: &mut [u64], count: usize, link: Link, delay: Delay) -> usize
+    requires { do ⌜ count + 3 ≤ (← ⟦words.len()⟧) ⌝ }
+    ensures { λ r. ⌜ Pushed (Fit (link .from) (link .to)) (link-edges delay link) (now (words .entry)) (now (words .exit)) count r ⌝ }
+{
+    let from = link.from;
+    let to = link.to;
+    let least = link.minimum;
+    let most = link.maximum;
+    let first = push_sequencing(words, count, from, to, delay, link.sequencing);
+    let second = push_minimum(words, first, from, to, least);
+    push_maximum(words, second, from, to, most)
+}
+
+// The index of an operation: its own number where that is below 64.
+fn place(x: u8) -> usize
+    ensures { λ r. ⌜ (x < 64 → r ≡ x) × (r < 64) ⌝ }
+{
+    (x % 64) as usize
+}
+
+// The delay of an operation: 0 for one that is not there.
+fn delay_within(inside: bool, operation: Operation) -> Delay
+    ensures { λ r. ⌜ r ≡ delay-within inside operation ⌝ }
+{
+    if inside {
+        operation.delay
+    } else {
+        Delay::Fixed(0)
+    }
+}
+
+// The edges of a sheet, as the first count words. What the words past them hold is not said.
+pub struct EdgeWords {
+    pub count: usize,
+    pub words: [u64; 1536],
+}
+
+// The one function that turns a sheet into its edges.
+pub fn edges_of(sheet: Sheet) -> EdgeWords
+    requires { ⌜ (sheet .n ≤ 64) × (sheet .r ≤ 512) ⌝ }
+    ensures { λ e. ⌜ Listed (take (sheet .n) (sheet .operations)) (take (sheet .r) (sheet .links)) (sheet .r) (e .words) (e .count) ⌝ }
+{
+    let n = sheet.n;
+    let r = sheet.r;
+    let mut words = [0u64; 1536];
+    let mut count = 0;
+    let mut k = 0;
+    while k < r {
+        let link = sheet.links[k];
+        let i = place(link.from);
+        let operation = sheet.operations[i];
+        let delay = delay_within(i < n, operation);
+        count = push_link(&mut words, count, link, delay);
+        k += 1;
+    }
+    EdgeWords {
+        count: count,
+        words: words,
+    }
+}
