@@ -2,7 +2,6 @@
 ghost use mathlib.Core.Path.{_≡_};
 ghost use Prim.Native.Nat.{_<_};
 ghost use lib.ListN.{drop};
-ghost use Rattle.definitions.specs.Bytes.{two-bytes};
 ghost use Rattle.fields.specs.Parts.{bound};
 ghost use Rattle.fields.specs.Answers.{NumberReads, bound-read};
 use definitions::Bound;

@@ -5,13 +5,10 @@ use Prim.Native.Nat.{ℕ, _-_, _≤_}
 use native.Mathlib.Omega.{arith}
 use borrow.Author.Needs.{needs}
 use lib.ListN.{length}
-use Rattle.printer.specs.Texts.{Put, texts}
-use Rattle.printer.proofs.Writing.{put-none, byte-text, texts-word, texts-length, next-room, next-text}
-use Rattle.printer.proofs.put_word.Statement.{statement}
-use Rattle.printer.proofs.put_word.Tie as tie
-use Rattle.printer.proofs.put_word.Reads as reads
-use Rattle.printer.proofs.put_word.Lts as lts
-use Rattle.printer.proofs.put_byte.Reads as put-byte-reads
+use Rattle.lines.specs.Texts.{Put, texts}
+use Rattle.lines.proofs.Writing.{put-none, byte-text, texts-word, texts-length, next-room, next-text}
+use Rattle.lines.proofs.put_word.Statement.{statement}
+use Rattle.lines.proofs.put_word.Tie as tie
 
 abbrev Inv-loop : tie.InvT-loop
 Inv-loop word out₀ at p₀ i₀ out p i = (i ≤ length word) × Put (texts (byte-text word) i) at p out₀ out

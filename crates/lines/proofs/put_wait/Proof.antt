@@ -2,10 +2,10 @@
 use native.Mathlib.Omega.{arith}
 use borrow.Author.Needs.{needs}
 use Rattle.definitions.specs.Output.{field, newline}
-use Rattle.printer.proofs.Lines.{wait-parts, wait-all-room, wait-target-room, wait-anchor-room, wait-word-room}
-use Rattle.printer.proofs.Writing.{put-as, put-then, put-room}
-use Rattle.printer.proofs.put_wait.Statement.{statement}
-use Rattle.printer.proofs.put_wait.Tie as tie
+use Rattle.lines.proofs.Parts.{wait-parts, wait-all-room, wait-target-room, wait-anchor-room, wait-word-room}
+use Rattle.lines.proofs.Writing.{put-as, put-then, put-room}
+use Rattle.lines.proofs.put_wait.Statement.{statement}
+use Rattle.lines.proofs.put_wait.Tie as tie
 
 slice-aggregate-put-word : tie.Need-slice-aggregate-put-word
 slice-aggregate-put-word c = search needs

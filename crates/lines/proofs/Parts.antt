@@ -4,8 +4,8 @@ use mathlib.Core.List.{List, _++_}
 use Prim.Native.Nat.{ℕ, _+_, _≤_}
 use lib.ListN.{length}
 use Rattle.definitions.specs.Output.{field, newline, word-wait, word-start, wait-text, start-text}
-use Rattle.printer.specs.Texts.{heading, wait-line, start-line}
-use Rattle.printer.proofs.Writing.{left-room}
+use Rattle.lines.specs.Texts.{heading, wait-line, start-line}
+use Rattle.lines.proofs.Writing.{left-room}
 
 module _ (word : List ℕ) (x : ℕ) where
   pub heading-parts : word ++ field x ++ newline ≡ heading word x

@@ -4,10 +4,10 @@ use native.Mathlib.Omega.{arith}
 use borrow.Author.Needs.{needs}
 use lib.ListN.{length}
 use Rattle.definitions.specs.Output.{decimal}
-use Rattle.printer.proofs.Digits.{field-parts}
-use Rattle.printer.proofs.Writing.{put-as, put-then, put-room}
-use Rattle.printer.proofs.put_field.Statement.{statement}
-use Rattle.printer.proofs.put_field.Tie as tie
+use Rattle.lines.proofs.Digits.{field-parts}
+use Rattle.lines.proofs.Writing.{put-as, put-then, put-room}
+use Rattle.lines.proofs.put_field.Statement.{statement}
+use Rattle.lines.proofs.put_field.Tie as tie
 
 put-byte-requires : tie.Need-put-byte-requires
 put-byte-requires c κs = omega (arith, ap length (field-parts (c .before .before .args .x)))

@@ -9,7 +9,7 @@ use native.Mathlib.Numerals.{add-one}
 use lib.ListN.{length, getD, take, drop, set, length-append, length-take, length-drop, take-append-drop}
 use lib.Seq.{take-suc, take-length, take-at, drop-append-add, drop-drop, set-split, length-take-le, append-snoc}
 use Rattle.laws.proofs.Tests.{last-or-below}
-use Rattle.printer.specs.Texts.{overlay, Put, Printed, texts}
+use Rattle.lines.specs.Texts.{overlay, Put, texts}
 
 module _ {A : Type 0} (old : List A) (at : ℕ) where
   -- Nothing written changes nothing.
@@ -64,13 +64,6 @@ put-room {s} f t room = omega (arith, f .behind, length-append s t, put-length f
 -- Where there is room for two texts, there is room for the first.
 pub left-room : (at : ℕ) (s t : List ℕ) (m : ℕ) → at + length (s ++ t) ≤ m → at + length s ≤ m
 left-room at s t m h = omega (arith, length-append s t)
-
--- From the front.
-pub put-printed : {s : List ℕ} {r : ℕ} {old new : List ℕ} → Put s 0 r old new → Printed s r old new
-unfolding overlay
-put-printed {s} {r} {old} {new} f =
-    let e : 0 + length s ≡ length s = omega arith in
-    record { long = omega (arith, f .behind); bytes = f .bytes ∙ ap (λ (k : ℕ). s ++ drop k old) e }
 
 -- The first texts and the next one are no longer than all of them.
 pub texts-room : (f : ℕ → List ℕ) (n k : ℕ) → k < n → length (texts f k ++ f k) ≤ length (texts f n)

@@ -2,10 +2,10 @@
 use native.Mathlib.Omega.{arith}
 use borrow.Author.Needs.{needs}
 use Rattle.definitions.specs.Output.{field, newline}
-use Rattle.printer.proofs.Lines.{start-parts, start-all-room, start-ticks-room, start-decider-room, start-step-room, start-word-room}
-use Rattle.printer.proofs.Writing.{put-as, put-then, put-room}
-use Rattle.printer.proofs.put_start.Statement.{statement}
-use Rattle.printer.proofs.put_start.Tie as tie
+use Rattle.lines.proofs.Parts.{start-parts, start-all-room, start-ticks-room, start-decider-room, start-step-room, start-word-room}
+use Rattle.lines.proofs.Writing.{put-as, put-then, put-room}
+use Rattle.lines.proofs.put_start.Statement.{statement}
+use Rattle.lines.proofs.put_start.Tie as tie
 
 slice-aggregate-put-word : tie.Need-slice-aggregate-put-word
 slice-aggregate-put-word c = search needs

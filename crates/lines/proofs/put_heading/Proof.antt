@@ -2,10 +2,10 @@
 use native.Mathlib.Omega.{arith}
 use borrow.Author.Needs.{needs}
 use Rattle.definitions.specs.Output.{field, newline}
-use Rattle.printer.proofs.Lines.{heading-parts, heading-all-room, heading-field-room, heading-word-room}
-use Rattle.printer.proofs.Writing.{put-as, put-then, put-room}
-use Rattle.printer.proofs.put_heading.Statement.{statement}
-use Rattle.printer.proofs.put_heading.Tie as tie
+use Rattle.lines.proofs.Parts.{heading-parts, heading-all-room, heading-field-room, heading-word-room}
+use Rattle.lines.proofs.Writing.{put-as, put-then, put-room}
+use Rattle.lines.proofs.put_heading.Statement.{statement}
+use Rattle.lines.proofs.put_heading.Tie as tie
 
 put-word-requires : tie.Need-put-word-requires
 put-word-requires c κs =

@@ -1,9 +1,9 @@
 -- A store is a text of one byte. Assumes nothing.
 use native.Mathlib.Omega.{arith}
 use borrow.Author.Needs.{needs}
-use Rattle.printer.proofs.Writing.{overlay-set}
-use Rattle.printer.proofs.put_byte.Statement.{statement}
-use Rattle.printer.proofs.put_byte.Tie as tie
+use Rattle.lines.proofs.Writing.{overlay-set}
+use Rattle.lines.proofs.put_byte.Statement.{statement}
+use Rattle.lines.proofs.put_byte.Tie as tie
 
 slice-write-out : tie.Need-slice-write-out
 slice-write-out c = search needs

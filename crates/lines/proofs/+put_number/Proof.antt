@@ -9,14 +9,14 @@ use lib.ListN.{length, length-append}
 use borrow.Fn.Kinds.{In}
 use borrow.Fn.PlainCycle.{Measures, is, falls, and}
 use Rattle.definitions.specs.Output.{decimal}
-use Rattle.printer.proofs.Digits.{decimal-digit, decimal-tenth}
-use Rattle.printer.proofs.Writing.{put-as, put-then, put-room}
-use Rattle.printer.proofs.put_number.Reads as put-number
-use Rattle.printer.proofs.put_number.Kinds as put-number-kinds
-use Rattle.printer.proofs.+put_number.Lts-put_number as put-number-lts
-use Rattle.printer.proofs.put_digit.Reads as put-digit-reads
-use Rattle.printer.proofs.+put_number.{statement}
-use Rattle.printer.proofs.+put_number.Tie.{close}
+use Rattle.lines.proofs.Digits.{decimal-digit, decimal-tenth}
+use Rattle.lines.proofs.Writing.{put-as, put-then, put-room}
+use Rattle.lines.proofs.put_number.Reads as put-number
+use Rattle.lines.proofs.put_number.Kinds as put-number-kinds
+use Rattle.lines.proofs.+put_number.Lts-put_number as put-number-lts
+use Rattle.lines.proofs.put_digit.Reads as put-digit-reads
+use Rattle.lines.proofs.+put_number.{statement}
+use Rattle.lines.proofs.+put_number.Tie.{close}
 
 abbrev μ-put-number : Measures 1 put-number-kinds.ps ℕ
 μ-put-number κs a = a .0
