@@ -87,7 +87,7 @@ module _ (n : ℕ) (previous : Previous) (s : List ℕ) (at : ℕ) where
     unfolding link-pair byte demand when-given
     pair-there e f = rw (drop-byte s at (omega arith), drop-byte s (at + 1) h, e, f)
 
--- The definitions' own text of the fields is the reader's, whose bounds are read one by one.
+-- The definitions' own text of the fields is `link-fields`, whose bounds are read one by one.
 fields-as-defined : (m i j : ℕ) (s : List ℕ) → (ticks-if (test-bit m 1) >>= λ least. ticks-if (test-bit m 2) >>= λ most. give (record { from = i; to = j; sequencing = test-bit m 0; minimum = bound-from (test-bit m 1) least; maximum = bound-from (test-bit m 2) most })) s ≡ link-fields m i j s
 unfolding link-fields bound when-given
 fields-as-defined m i j s = simp when-given-twice
