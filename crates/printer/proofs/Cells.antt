@@ -10,7 +10,8 @@ use borrow.Author.Tests.{eq-eqb, ne-eqb}
 use Rattle.laws.proofs.Bools.{cond-true, cond-false}
 use Rattle.definitions.specs.Basics.{test-bit}
 use Rattle.definitions.specs.Plan.{undecided}
-use Rattle.printer.specs.Texts.{wait-line, start-line, wait-cell, cell-at, start-cell}
+use Rattle.lines.specs.Texts.{wait-line, start-line}
+use Rattle.printer.specs.Texts.{wait-cell, cell-at, start-cell}
 
 module _ (maps : List ℕ) (a i : ℕ) where
   pub wait-stands : true ≡ test-bit (getD maps i 0) a → wait-line a i ≡ wait-cell maps a i

@@ -1,7 +1,5 @@
 pub mod Cells
-pub mod Digits
 pub mod FlatMaps
+pub mod Fronts
 pub mod Limits
-pub mod Lines
 pub mod Listings
-pub mod Writing

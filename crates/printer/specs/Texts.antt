@@ -1,43 +1,19 @@
--- What the writers of this crate put into a lent buffer, in terms of what is lent to them.
+-- What the functions of this crate print, in terms of what is lent to them.
 use mathlib.Core.Path.{_≡_}
 use mathlib.Core.Bool.{cond}
 use mathlib.Core.List.{List, [], _++_}
-use Prim.Native.Nat.{ℕ, zero, suc, _+_, _*_}
+use Prim.Native.Nat.{ℕ, _+_, _*_}
 use lib.Dec.{eqb}
-use lib.ListN.{length, getD, take, drop}
+use lib.ListN.{length, getD, drop}
 use Rattle.definitions.specs.Basics.{test-bit}
 use Rattle.definitions.specs.Plan.{undecided}
-use Rattle.definitions.specs.Output.{field, newline, word-verdict, word-waits, word-refused, wait-text, start-text}
-
--- A list with a text written over it from position at on; all else stays.
-unfoldable pub overlay : {A : Type 0} → List A → ℕ → List A → List A
-overlay old at text = take at old ++ text ++ drop (at + length text) old
-
--- A writer's promise: the text stands at position at, and the next position is behind it.
-pub record Put (text : List ℕ) (at next : ℕ) (old new : List ℕ) : Type 0 where
-  pub behind : next ≡ at + length text
-  pub bytes : new ≡ overlay old at text
+use Rattle.definitions.specs.Output.{word-verdict, word-waits, word-refused}
+use Rattle.lines.specs.Texts.{texts, heading, wait-line, start-line}
 
 -- The promise of a function that writes from the front: what it returns is the text's length, and what lies past the text stays.
 pub record Printed (text : List ℕ) (size : ℕ) (old new : List ℕ) : Type 0 where
   pub long : size ≡ length text
   pub bytes : new ≡ text ++ drop (length text) old
-
--- The texts of the numbers below n, one after the other.
-unfoldable pub texts : (ℕ → List ℕ) → ℕ → List ℕ
-texts f zero = []
-texts f (suc n) = texts f n ++ f n
-
--- A line of a word and a number.
-unfoldable pub heading : List ℕ → ℕ → List ℕ
-heading word x = word ++ field x ++ newline
-
--- A wait line and a start line.
-abbrev pub wait-line : ℕ → ℕ → List ℕ
-wait-line a i = wait-text (record { anchor = a; target = i })
-
-abbrev pub start-line : ℕ → ℕ → ℕ → List ℕ
-start-line v a ticks = start-text (record { step = v; decider = a; ticks = ticks })
 
 -- The wait lines of the maps: bit a of map i stands where i waits for a. By a, then by i.
 unfoldable pub wait-cell : List ℕ → ℕ → ℕ → List ℕ

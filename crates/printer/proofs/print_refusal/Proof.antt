@@ -3,7 +3,7 @@ use native.Mathlib.Omega.{arith}
 use Rattle.definitions.specs.Output.{word-refused}
 use Rattle.printer.specs.Texts.{refusal-text}
 use Rattle.printer.proofs.Limits.{heading-limit}
-use Rattle.printer.proofs.Writing.{put-printed}
+use Rattle.printer.proofs.Fronts.{put-printed}
 use borrow.Author.Needs.{needs}
 use Rattle.printer.proofs.print_refusal.Statement.{statement}
 use Rattle.printer.proofs.print_refusal.Tie as tie

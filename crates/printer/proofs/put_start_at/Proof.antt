@@ -3,7 +3,7 @@ use mathlib.Core.Path.{ap}
 use native.Mathlib.Omega.{arith}
 use lib.ListN.{length}
 use Rattle.printer.proofs.Cells.{start-stands, start-absent, cell-below, square-limit}
-use Rattle.printer.proofs.Writing.{put-as, put-none}
+use Rattle.lines.proofs.Writing.{put-as, put-none}
 use borrow.Author.Needs.{needs}
 use Rattle.printer.proofs.put_start_at.Statement.{statement}
 use Rattle.printer.proofs.put_start_at.Tie as tie

@@ -3,7 +3,7 @@ use mathlib.Core.Path.{ap, sym, _∙_}
 use native.Mathlib.Omega.{arith}
 use lib.ListN.{length}
 use Rattle.printer.proofs.Cells.{wait-stands, wait-absent}
-use Rattle.printer.proofs.Writing.{put-as, put-none}
+use Rattle.lines.proofs.Writing.{put-as, put-none}
 use borrow.Author.Needs.{needs}
 use Rattle.printer.proofs.put_wait_at.Statement.{statement}
 use Rattle.printer.proofs.put_wait_at.Tie as tie

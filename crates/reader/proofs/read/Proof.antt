@@ -1,6 +1,6 @@
 -- `reader::read` meets its contract: N is judged at the first byte, and the rest is `read_counted`'s.
 use mathlib.Core.Path.{_≡_}
-use mathlib.Core.Logic.{_⊎_, ⊎-elim}
+use mathlib.Core.Logic.{⊎-elim}
 use Prim.Native.Nat.{_≤_, _<_}
 use native.Mathlib.Omega.{arith}
 use lib.ListN.{length, getD}
@@ -34,16 +34,16 @@ returns-2 : tie.Need-returns-2
 returns-2 c =
     let s = now (c .before .before .before .before .before .before .before .args .s) in
     let some : 0 < length s = omega arith in
-    let low : 1 ≤ getD s 0 0 = rw (c .before .before .before .index .ensures .0) at (c .before .before .if2 .left) in
-    let e : c .before .before .before .index .result ≡ getD s 0 0 = c .before .before .before .index .ensures .0 in
+    let low : 1 ≤ getD s 0 0 = rw (c .before .before .before .index .ensures) at (c .before .before .if2 .left) in
+    let e : c .before .before .before .index .result ≡ getD s 0 0 = c .before .before .before .index .ensures in
     let high : getD s 0 0 ≤ 64 = omega (arith, c .before .if3 .taken) in
-    rw (sheet-there s some low high) (rw (c .before .before .before .index .ensures .0) at (c .read-counted .ensures))
+    rw (sheet-there s some low high) (rw (c .before .before .before .index .ensures) at (c .read-counted .ensures))
 
 returns-3 : tie.Need-returns-3
 returns-3 c =
     let s = now (c .before .before .before .before .before .before .args .s) in
     let some : 0 < length s = omega arith in
-    let e : c .before .before .index .result ≡ getD s 0 0 = c .before .before .index .ensures .0 in
+    let e : c .before .before .index .result ≡ getD s 0 0 = c .before .before .index .ensures in
     let bad : Bytes.read s ≡ refused 2 = ⊎-elim (λ zero. sheet-zero s some (rw e at (zero .taken))) (λ above. sheet-above s some (rw e at (above .1 .left))) (c .before .if2 .came) in
     rw bad (c .refused-report2 .ensures)
 

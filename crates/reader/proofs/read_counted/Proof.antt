@@ -4,8 +4,7 @@ use Prim.Native.Nat.{_≤_, _<_}
 use native.Mathlib.Omega.{arith}
 use denote.Ref.{now}
 use borrow.Author.Needs.{needs}
-use Rattle.definitions.specs.Bytes.{two-bytes}
-use Rattle.reader.specs.Answers.{NumberReads}
+use Rattle.fields.specs.Answers.{NumberReads}
 use Rattle.reader.proofs.Parts.{counted-refused, counted-above, counted-there}
 use Rattle.reader.proofs.read_counted.Statement.{statement}
 use Rattle.reader.proofs.read_counted.Tie as tie
@@ -25,7 +24,7 @@ refused-report-requires c κs = search needs
 read-records-requires : tie.Need-read-records-requires
 read-records-requires c κs =
     let a = c .before .before .before .before .before .before .before .args in
-    let found : NumberReads (now (a .s)) 1 two-bytes (c .before .before .before .before .before .read-number .result) = c .before .before .before .before .before .read-number .ensures in
+    let found : NumberReads (now (a .s)) 1 (c .before .before .before .before .before .read-number .result) = c .before .before .before .before .before .read-number .ensures in
     let item = rw (c .before .before .before .count .given .1) at found in
     (item .inside, omega arith, omega arith)
 
@@ -38,7 +37,7 @@ refused-report-requires-2 c κs = search needs
 returns : tie.Need-returns
 returns c =
     let a = c .before .before .before .before .before .before .before .before .args in
-    let found : NumberReads (now (a .s)) 1 two-bytes (c .before .before .before .before .before .before .read-number .result) = c .before .before .before .before .before .before .read-number .ensures in
+    let found : NumberReads (now (a .s)) 1 (c .before .before .before .before .before .before .read-number .result) = c .before .before .before .before .before .before .read-number .ensures in
     let item = rw (c .before .before .before .before .count .given .1) at found in
     let above : 512 < c .before .before .before .before .count .given .0 .0 = rw (c .before .before .count-index .ensures) at (c .before .if1 .taken) in
     rw (counted-above (a .n) _ (sym (item .same)) above) (c .refused-report .ensures)
@@ -46,7 +45,7 @@ returns c =
 returns-2 : tie.Need-returns-2
 returns-2 c =
     let a = c .before .before .before .before .before .before .before .before .args in
-    let found : NumberReads (now (a .s)) 1 two-bytes (c .before .before .before .before .before .before .read-number .result) = c .before .before .before .before .before .before .read-number .ensures in
+    let found : NumberReads (now (a .s)) 1 (c .before .before .before .before .before .before .read-number .result) = c .before .before .before .before .before .before .read-number .ensures in
     let item = rw (c .before .before .before .before .count .given .1) at found in
     let below : c .before .before .before .before .count .given .0 .0 ≤ 512 = rw (c .before .before .count-index .ensures) at (c .before .if1 .left) in
     rw (counted-there (a .n) _ (sym (item .same)) below) (rw (c .before .before .count-index .ensures) at (c .read-records .ensures))
@@ -54,7 +53,7 @@ returns-2 c =
 returns-3 : tie.Need-returns-3
 returns-3 c =
     let a = c .before .before .before .before .before .before .args in
-    let found : NumberReads (now (a .s)) 1 two-bytes (c .before .before .before .before .read-number .result) = c .before .before .before .before .read-number .ensures in
+    let found : NumberReads (now (a .s)) 1 (c .before .before .before .before .read-number .result) = c .before .before .before .before .read-number .ensures in
     let item = rw (c .before .before .k .given .1) at found in
     rw (counted-refused (a .n) _ (sym (item .same))) (c .refused-report2 .ensures)
 

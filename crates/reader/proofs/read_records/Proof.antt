@@ -5,7 +5,8 @@ use lib.ListN.{length, take, drop}
 use denote.Ref.{now}
 use borrow.Author.Needs.{needs}
 use Rattle.laws.proofs.Parsers.{part-rest}
-use Rattle.reader.specs.Answers.{OperationsReads, LinksReads}
+use Rattle.operation_records.specs.Answers.{OperationsReads}
+use Rattle.link_records.specs.Answers.{LinksReads}
 use Rattle.reader.proofs.Rows.{report-whole}
 use Rattle.reader.proofs.Parts.{steps-refused, pairs-refused, records-whole}
 use Rattle.reader.proofs.read_records.Statement.{statement}
