@@ -18,7 +18,7 @@ use Rattle.edges.specs.Words.{graph, unpack}
 use Rattle.laws.proofs.Bools.{both-ways, or-left, or-right, same-or-not}
 use Rattle.laws.proofs.Maps.{test-zero}
 use Rattle.relaxation.specs.Columns.{Only, Raised, Square, WaitsFor, column, entry, marks}
-use Rattle.sweeps.proofs.Handing.{Told}
+use Rattle.sweeps.proofs.Handing.{Told, told-before, told-new, told-split, told-waits, waits-told}
 use Rattle.theory.specs.Sweeps.{Leads}
 use Rattle.seeding.specs.Seeds.{Begun, Marked, Seeded, SeededAll, WaitsBelow}
 
@@ -102,3 +102,66 @@ seeded-source e d f S l h = seeded-none d f S l (λ x m a k. k .not-source (sym 
 
 pub seeded-uncounted : (e : Edge) (d : List (List ℕ)) (f : List ℕ) → Square d → length f ≡ 64 → e .counted ≡ false → SeededAll (λ a. Only e) d d f f
 seeded-uncounted e d f S l h = seeded-none d f S l (λ x m a k. both-ways (k .counts) (ap (λ (y : Edge). y .counted) m ∙ h))
+
+-- The loop over a list: the words before place k.
+pub seeded-start : (es : List ℕ) (d : List (List ℕ)) (f : List ℕ) → Square d → length f ≡ 64 → SeededAll (λ a. members (graph (take 0 es))) d d f f
+unfolding graph
+seeded-start es d f S l = seeded-none d f S l (λ e m. absurd (List·Memᴰ·not-nil m))
+
+pub seeded-more : (es : List ℕ) (k : ℕ) {d d′ d″ : List (List ℕ)} {f f′ f″ : List ℕ} → k < length es → SeededAll (λ a. members (graph (take k es))) d d′ f f′ → SeededAll (λ a. Only (unpack (getD es k 0))) d′ d″ f′ f″ → SeededAll (λ a. members (graph (take (k + 1) es))) d d″ f f″
+unfolding graph
+seeded-more es k h P Q =
+    seeded-then
+    (λ e m. rw grown (Memᴰ·append-left (unpack (getD es k 0) ∷ []) m))
+    (λ e m. rw grown (Memᴰ·append-right (graph (take k es)) (List·Memᴰ·head m)))
+    (λ e m. split e (rw grown at m))
+    P
+    Q
+  where
+    grown : graph (take (k + 1) es) ≡ graph (take k es) ++ unpack (getD es k 0) ∷ []
+    grown = rw add-one (ap (map unpack) (take-suc es k 0 h) ∙ map-append unpack (take k es) (getD es k 0 ∷ []))
+
+    split-by : (e : Edge) → List·Memᴰ e (graph (take k es)) ⊎ List·Memᴰ e (unpack (getD es k 0) ∷ []) → List·Memᴰ e (graph (take k es)) ⊎ Only (unpack (getD es k 0)) e
+    split-by e (inl m) = inl m
+    split-by e (inr m) = inr (List·Memᴰ·eq-of-singleton m)
+
+    split : (e : Edge) → List·Memᴰ e (graph (take k es) ++ unpack (getD es k 0) ∷ []) → List·Memᴰ e (graph (take k es)) ⊎ Only (unpack (getD es k 0)) e
+    split e m = split-by e (List·Memᴰ·append-cases (graph (take k es)) m)
+
+pub seeded-end : (es : List ℕ) (k : ℕ) {d d′ : List (List ℕ)} {f f′ : List ℕ} → k ≤ length es → length es ≤ k → SeededAll (λ a. members (graph (take k es))) d d′ f f′ → SeededAll (λ a. members (graph es)) d d′ f f′
+seeded-end es k b h P =
+    let i : k ≡ length es = omega arith in
+    let t : take k es ≡ es = ap (λ (j : ℕ). take j es) i ∙ take-length es in
+    rw t at P
+
+-- The loop over what waits for u, as in the crate sweeps.
+pub told-none : (waiting u : ℕ) (d : List (List ℕ)) (f : List ℕ) → Square d → length f ≡ 64 → SeededAll (λ a. Told u waiting waiting) d d f f
+told-none waiting u d f S l = seeded-none d f S l (λ e t a x. both-ways (t .waits) (t .told))
+
+pub told-more : (waiting u left left′ i : ℕ) (w : Edge) {d d′ d″ : List (List ℕ)} {f f′ f″ : List ℕ} → w ≡ wait-edge (record { anchor = u; target = i }) → ((j : ℕ) → test-bit left j ≡ true → test-bit waiting j ≡ true) → test-bit left i ≡ true → ((j : ℕ) → test-bit left′ j ≡ (test-bit left j && not (eqb j i))) → SeededAll (λ a. Told u waiting left) d d′ f f′ → SeededAll (λ a. Only w) d′ d″ f′ f″ → SeededAll (λ a. Told u waiting left′) d d″ f f″
+told-more waiting u left left′ i w is within member leaves P Q =
+    seeded-then (told-before left left′ i leaves) (told-new left left′ i leaves w is within member) (told-split left left′ i leaves w is) P Q
+
+pub told-all : (waiting u left : ℕ) {d d′ : List (List ℕ)} {f f′ : List ℕ} → left ≡ 0 → SeededAll (λ a. Told u waiting left) d d′ f f′ → SeededAll (λ a. WaitsFor u waiting) d d′ f f′
+told-all waiting u left z P = seeded-as told-waits (waits-told left z) P
+
+-- The loop over the steps.
+pub waits-start : (waiting : List ℕ) (d : List (List ℕ)) (f : List ℕ) → Square d → length f ≡ 64 → SeededAll (λ a. WaitsBelow 0 waiting) d d f f
+waits-start waiting d f S l = seeded-none d f S l (λ e w a x. omega (arith, w .below))
+
+pub waits-more : (waiting : List ℕ) (u : ℕ) {d d′ d″ : List (List ℕ)} {f f′ f″ : List ℕ} → SeededAll (λ a. WaitsBelow u waiting) d d′ f f′ → SeededAll (λ a. WaitsFor u (getD waiting u 0)) d′ d″ f′ f″ → SeededAll (λ a. WaitsBelow (u + 1) waiting) d d″ f f″
+waits-more waiting u P Q =
+    seeded-then
+    (λ e w. record { below = omega (arith, w .below); waits = w .waits })
+    (λ e w.
+    let o : e .from ≡ u = ap (λ (x : Edge). x .from) (w .same) in
+    record { below = omega arith; waits = subst (λ (x : ℕ). WaitsFor x (getD waiting x 0) e) (sym o) w })
+    (λ e w. by e w (decLt (e .from) u))
+    P
+    Q
+  where
+    by : (e : Edge) → WaitsBelow (u + 1) waiting e → Dec (e .from < u) → WaitsBelow u waiting e ⊎ WaitsFor u (getD waiting u 0) e
+    by e w (yes c) = inl (record { below = c; waits = w .waits })
+    by e w (no c) =
+        let o : e .from ≡ u = omega (arith, w .below) in
+        inr (subst (λ (x : ℕ). WaitsFor x (getD waiting x 0) e) o (w .waits))

@@ -123,41 +123,51 @@ pub record Told (u m left : ℕ) (e : Edge) : Type 0 where
   pub told : test-bit left target ≡ false
   pub same : e ≡ wait-edge (record { anchor = u; target = target })
 
+gone : (x y : Bool) → y ≡ true → (x && not y) ≡ false
+gone true y q = ap not q
+gone false y q = refl
+
+stays : (x y : Bool) → y ≡ false → (x && not y) ≡ false → x ≡ false
+stays true true q h = q
+stays true false q h = h
+stays false y q h = refl
+
+-- A turn tells one more.
+module _ {waiting u : ℕ} (left left′ i : ℕ) (leaves : (j : ℕ) → test-bit left′ j ≡ (test-bit left j && not (eqb j i))) where
+  pub told-before : Told u waiting left ⊑ Told u waiting left′
+  told-before e t =
+      record { target = t .target; waits = t .waits; told = leaves (t .target) ∙ ap (λ (x : Bool). x && not (eqb (t .target) i)) (t .told); same = t .same }
+
+  module _ (w : Edge) (is : w ≡ wait-edge (record { anchor = u; target = i })) where
+    pub told-new : ((j : ℕ) → test-bit left j ≡ true → test-bit waiting j ≡ true) → test-bit left i ≡ true → Only w ⊑ Told u waiting left′
+    told-new within member e o = record { target = i; waits = within i member; told = leaves i ∙ gone (test-bit left i) (eqb i i) (eq-eqb i i refl); same = o ∙ is }
+
+    by : (e : Edge) (t : Told u waiting left′ e) → (t .target ≡ i) ⊎ (t .target ≢ i) → Told u waiting left e ⊎ Only w e
+    by e t (inl q) = inr (t .same ∙ ap (λ (x : ℕ). wait-edge (record { anchor = u; target = x })) q ∙ sym is)
+    by e t (inr q) =
+        inl (record { target = t .target; waits = t .waits; told = stays (test-bit left (t .target)) (eqb (t .target) i) (ne-eqb (t .target) i q) (sym (leaves (t .target)) ∙ t .told); same = t .same })
+
+    pub told-split : (e : Edge) → Told u waiting left′ e → Told u waiting left e ⊎ Only w e
+    told-split e t = by e t (same-or-not (t .target) i)
+
+-- Once none is left, all are told.
+pub told-waits : {waiting u left : ℕ} → Told u waiting left ⊑ WaitsFor u waiting
+told-waits e t = record { target = t .target; waits = t .waits; same = t .same }
+
+pub waits-told : {waiting u : ℕ} (left : ℕ) → left ≡ 0 → WaitsFor u waiting ⊑ Told u waiting left
+waits-told left z e w =
+    record { target = w .target; waits = w .waits; told = ap (λ (x : ℕ). test-bit x (w .target)) z ∙ test-zero (w .target); same = w .same }
+
 module _ (waiting u m : ℕ) (d₀ : List (List ℕ)) (f₀ : List ℕ) where
   pub told-start : Square d₀ → length f₀ ≡ 64 → HandedAll (λ a. Told u waiting waiting) u m d₀ d₀ f₀ f₀
   told-start S l = handed-none d₀ f₀ S l (λ e t o. both-ways (t .waits) (t .told))
 
   pub told-turn : (d d′ : List (List ℕ)) (f f′ : List ℕ) (left left′ i : ℕ) (w : Edge) → w ≡ wait-edge (record { anchor = u; target = i }) → ((j : ℕ) → test-bit left j ≡ true → test-bit waiting j ≡ true) → test-bit left i ≡ true → ((j : ℕ) → test-bit left′ j ≡ (test-bit left j && not (eqb j i))) → HandedAll (λ a. Told u waiting left) u m d₀ d f₀ f → HandedAll (λ a. Only w) (w .from) m d d′ f f′ → HandedAll (λ a. Told u waiting left′) u m d₀ d′ f₀ f′
   told-turn d d′ f f′ left left′ i w is within member leaves H K =
-      handed-all
-      (ap (λ (x : Edge). x .from) is)
-      (λ e t. record { target = t .target; waits = t .waits; told = leaves (t .target) ∙ ap (λ (x : Bool). x && not (eqb (t .target) i)) (t .told); same = t .same })
-      (λ e o. record { target = i; waits = within i member; told = leaves i ∙ gone (test-bit left i) (eqb i i) (eq-eqb i i refl); same = o ∙ is })
-      (λ e t o. by e t (same-or-not (t .target) i))
-      H
-      K
-    where
-      gone : (x y : Bool) → y ≡ true → (x && not y) ≡ false
-      gone true y q = ap not q
-      gone false y q = refl
-
-      stays : (x y : Bool) → y ≡ false → (x && not y) ≡ false → x ≡ false
-      stays x y q h = by-value x (ap (λ (z : Bool). x && not z) (sym q) ∙ h)
-        where
-          by-value : (x : Bool) → (x && true) ≡ false → x ≡ false
-          by-value true h = h
-          by-value false h = refl
-
-      by : (e : Edge) (t : Told u waiting left′ e) → (t .target ≡ i) ⊎ (t .target ≢ i) → Told u waiting left e ⊎ Only w e
-      by e t (inl q) = inr (t .same ∙ ap (λ (x : ℕ). wait-edge (record { anchor = u; target = x })) q ∙ sym is)
-      by e t (inr q) = inl (record { target = t .target; waits = t .waits; told = stays (test-bit left (t .target)) (eqb (t .target) i) (ne-eqb (t .target) i q) (sym (leaves (t .target)) ∙ t .told); same = t .same })
+      handed-all (ap (λ (x : Edge). x .from) is) (told-before left left′ i leaves) (told-new left left′ i leaves w is within member) (λ e t o. told-split left left′ i leaves w is e t) H K
 
   pub told-end : (d : List (List ℕ)) (f : List ℕ) (left : ℕ) → left ≡ 0 → HandedAll (λ a. Told u waiting left) u m d₀ d f₀ f → HandedAll (λ a. WaitsFor u waiting) u m d₀ d f₀ f
-  told-end d f left z H =
-      handed-as
-      (λ e t. record { target = t .target; waits = t .waits; same = t .same })
-      (λ e w. record { target = w .target; waits = w .waits; told = ap (λ (x : ℕ). test-bit x (w .target)) z ∙ test-zero (w .target); same = w .same })
-      H
+  told-end d f left z H = handed-as told-waits (waits-told left z) H
 
 -- What is left of a map with a member taken out was in it.
 pub left-within : (waiting left left′ i : ℕ) → ((j : ℕ) → test-bit left j ≡ true → test-bit waiting j ≡ true) → ((j : ℕ) → test-bit left′ j ≡ (test-bit left j && not (eqb j i))) → (j : ℕ) → test-bit left′ j ≡ true → test-bit waiting j ≡ true

@@ -1,5 +1,10 @@
 -- `seeding::seed_word` meets its contract.
 use borrow.Author.Needs.{needs}
+use mathlib.Core.Path.{_∙_, ap₂, sym}
+use Prim.Native.Nat.{ℕ, suc, _-_}
+use borrow.Author.Tests.{not-true, not-false}
+use Rattle.edges.specs.Words.{unpack}
+use Rattle.seeding.proofs.Seeding.{seeded-source, seeded-uncounted, seeded-word}
 use Rattle.seeding.proofs.seed_word.Statement.{statement}
 use Rattle.seeding.proofs.seed_word.Tie as tie
 use Rattle.seeding.proofs.seed_word.Reads as reads
@@ -19,7 +24,7 @@ edge-from-requires c κs = search needs
 
 -- src/lib.rt:31:9
 returns : tie.Need-returns
-returns c = ?
+returns c = let s = c .before .before in seeded-source (unpack (s .args .w)) _ _ (s .pre .0) (s .pre .1) (sym (c .before .edge-from .ensures .0) ∙ c .if1 .taken)
 
 -- src/lib.rt:33:9
 is-counted-requires : tie.Need-is-counted-requires
@@ -27,7 +32,7 @@ is-counted-requires c κs = search needs
 
 -- src/lib.rt:34:9
 returns-2 : tie.Need-returns-2
-returns-2 c = ?
+returns-2 c = let s = c .before .before .before .before in seeded-uncounted (unpack (s .args .w)) _ _ (s .pre .0) (s .pre .1) (sym (c .before .is-counted .ensures) ∙ not-true _ (c .if2 .taken))
 
 -- src/lib.rt:36:9
 edge-to-requires : tie.Need-edge-to-requires
@@ -71,7 +76,21 @@ element-write-fresh c = search needs
 
 -- src/lib.rt:25:1
 returns-3 : tie.Need-returns-3
-returns-3 c = ?
+returns-3 c = 
+    let s = c .before .before .before .before .before .before .before .before .before .before .before .before in
+    let from = c .before .before .before .before .before .before .before .before .before .before .before .edge-from in
+    let to = c .before .before .before .before .before .before .before .edge-to in
+    seeded-word
+    (unpack (s .args .w)) _ _ _ _ _ _ _ _
+    (from .ensures .0)
+    (to .ensures .0)
+    (sym (c .before .before .before .before .before .before .before .before .before .is-counted .ensures) ∙ not-false _ (c .before .before .before .before .before .before .before .before .if2 .left))
+    (λ z. c .before .before .before .before .before .before .before .before .before .before .if1 .left z)
+    (to .ensures .1)
+    (s .pre .1)
+    (c .before .before .before .before .seeded .ensures ∙ ap₂ (λ (g l : ℕ). suc (g - l)) (c .before .before .before .before .before .before .edge-gain .ensures .0) (c .before .before .before .before .before .edge-loss .ensures .0))
+    (c .before .before .raise .ensures)
+    (c .insert .ensures)
 
 pub seed-word-spec : {M : Type 1} → statement M
 seed-word-spec =
