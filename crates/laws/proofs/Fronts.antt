@@ -1,12 +1,12 @@
 -- A list whose front is written, an element at a time or as a part that is lent; the rest stays as it was. Assumes nothing.
 use mathlib.Core.Path.{_≡_, refl, sym, ap, ap₂, _∙_}
 use mathlib.Core.List.{List, [], _∷_, _++_, append-assoc, append-nil}
-use Prim.Native.Nat.{ℕ, zero, suc, _+_, _-_, _<_, _≤_}
+use Prim.Native.Nat.{ℕ, zero, suc, _+_, _-_, _<_}
 use native.Mathlib.Omega.{arith}
 use native.Mathlib.Numerals.{add-one}
 use borrow.Rule.Slice.PartMut.{putMid}
 use lib.ListN.{length, getD, set, take, drop, length-append, List·getD-append}
-use lib.Seq.{drop-cons, set-at, ext-getD, getD-append-add, getD-drop, take-at, drop-at, take-length, drop-length}
+use lib.Seq.{drop-cons, set-at, ext-getD, take-at, drop-at, take-length, drop-length}
 use Rattle.definitions.specs.Basics.{tabulate}
 use Rattle.laws.proofs.Tests.{tabulate-at, tabulate-length}
 

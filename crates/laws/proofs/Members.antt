@@ -1,11 +1,11 @@
 -- The members of a map taken out one at a time: what some member passes, and the largest value of a member. Assumes nothing.
 use mathlib.Core.Path.{_≡_, sym, ap, _∙_}
-use mathlib.Core.Bool.{Bool, true, false, not, _&&_, _||_, and-true, and-false}
+use mathlib.Core.Bool.{Bool, true, false, not, _&&_, _||_, and-true}
 use mathlib.Core.Logic.{_⊎_, inl, inr, _≢_}
 use Prim.Native.Nat.{ℕ, _<_, _≤_, max}
 use native.Mathlib.Omega.{arith}
 use lib.Dec.{eqb}
-use borrow.Author.Tests.{eq-eqb, ne-eqb}
+use borrow.Author.Tests.{ne-eqb}
 use Rattle.definitions.specs.Basics.{any-below, largest, test-bit}
 use Rattle.laws.proofs.Bools.{same-or-not, both-ways, and-split, and-join, or-split, or-left, or-right, same-test}
 use Rattle.laws.proofs.Maps.{test-zero}

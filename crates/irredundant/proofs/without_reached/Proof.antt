@@ -3,7 +3,6 @@ use mathlib.Core.Path.{_≡_, refl, sym, _∙_}
 use Prim.Native.Nat.{ℕ}
 use Rattle.laws.proofs.Maps.{removed-lt}
 use Rattle.irredundant.proofs.Laws.{kept-of, one-compared, all-compared}
-use borrow.Author.Needs.{needs}
 use native.Mathlib.Omega.{arith}
 use Rattle.irredundant.proofs.without_reached.Statement.{statement}
 use Rattle.irredundant.proofs.without_reached.Tie as tie
