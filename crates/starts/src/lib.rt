@@ -140,7 +140,8 @@ pub fn fill_starts(d: &[[u32; 64]; 64], sets: &[u64; 64], n: usize, list: &[u32]
     let row = turns(d, sets, n, list);
     let mut v = 0;
     while v < n {
-        out[v] = row[v];
+        let x = row[v];
+        out[v] = x;
         v += 1;
     }
 }
