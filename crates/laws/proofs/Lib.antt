@@ -1,8 +1,10 @@
 pub mod Arrays
 pub mod Bools
 pub mod Counts
+pub mod Fronts
 pub mod Lists
 pub mod Maps
+pub mod Members
 pub mod Negations
 pub mod Outcomes
 pub mod Parsers

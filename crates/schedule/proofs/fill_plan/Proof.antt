@@ -3,9 +3,8 @@ use mathlib.Core.Path.{_≡_, refl}
 use mathlib.Core.List.{_++_}
 use Prim.Native.Nat.{_+_, _*_, _-_, _≤_}
 use lib.ListN.{length, drop, length-take, length-drop}
-use Rattle.schedule.specs.Working.{first-rows}
-use Rattle.schedule.proofs.Laws.{first-rows-none, first-rows-more, planned}
-use Rattle.schedule.proofs.Loops.{row-place, table-size}
+use Rattle.schedule.specs.Rows.{first-rows}
+use Rattle.schedule.proofs.Laws.{first-rows-none, first-rows-more, planned, row-place, table-size}
 use borrow.Author.Needs.{needs}
 use native.Mathlib.Omega.{arith}
 use Rattle.schedule.proofs.fill_plan.Statement.{statement}
@@ -58,7 +57,7 @@ same-length c = search needs
 returns : tie.Need-returns Inv-loop μ-loop
 returns c =
     let e : c .before .loop .v ≡ c .before .before .before .args .n = omega arith in
-    planned (rw e at (c .before .loop .inv .2))
+    planned (omega arith) (rw e at (c .before .loop .inv .2))
 
 pub fill-plan-spec : {M : Type 1} → statement M
 fill-plan-spec =

@@ -2,18 +2,22 @@
 use mathlib.Core.Path.{_≡_}
 use Prim.Native.Nat.{_-_, _≤_}
 use lib.ListN.{length, length-set}
-use Rattle.schedule.specs.Working.{entry-at}
-use Rattle.schedule.proofs.Loops.{laid, laid-none, laid-more}
+use Rattle.schedule.specs.Rows.{entry-at}
+use Rattle.schedule.proofs.Laws.{entry-by}
+use Rattle.laws.proofs.Fronts.{laid, laid-none, laid-more}
 use borrow.Author.Needs.{needs}
 use native.Mathlib.Omega.{arith}
 use Rattle.schedule.proofs.fill_row.Statement.{statement}
 use Rattle.schedule.proofs.fill_row.Tie as tie
 
 abbrev Inv-loop : tie.InvT-loop
-Inv-loop d sets n v row₀ a₀ row a = (a ≤ n) × (length row ≡ length row₀) × (row ≡ laid (entry-at d sets n v) a row₀)
+Inv-loop d sets n v row₀ deciding a₀ row a = (a ≤ n) × (length row ≡ length row₀) × (row ≡ laid (entry-at d sets v) a row₀)
 
 abbrev μ-loop : tie.MeasureT-loop
-μ-loop d sets n v row₀ a₀ row a = n - a
+μ-loop d sets n v row₀ deciding a₀ row a = n - a
+
+deciding-set-requires : tie.Need-deciding-set-requires Inv-loop μ-loop
+deciding-set-requires c κs = search needs
 
 loop-holds : tie.Need-loop-holds Inv-loop μ-loop
 loop-holds c = (omega arith, search needs, laid-none _ _)
@@ -36,14 +40,14 @@ loop-less c = search needs
 loop-again : tie.Need-loop-again Inv-loop μ-loop
 loop-again c =
     let s = c .before .before in
-    (omega arith, simp length-set (s .loop .inv .1), laid-more _ _ _ _ _ 0 (omega arith) (s .loop .inv .2) (c .entry .ensures))
+    (omega arith, simp length-set (s .loop .inv .1), laid-more _ _ _ _ _ 0 (omega arith) (s .loop .inv .2) (entry-by _ _ _ _ _ _ (s .before .deciding-set .ensures) (c .entry .ensures)))
 
 same-length : tie.Need-same-length Inv-loop μ-loop
 same-length c = search needs
 
 returns : tie.Need-returns Inv-loop μ-loop
 returns c =
-    let e : c .before .loop .a ≡ c .before .before .before .args .n = omega arith in
+    let e : c .before .loop .a ≡ c .before .before .before .before .args .n = omega arith in
     rw e at (c .before .loop .inv .2)
 
 pub fill-row-spec : {M : Type 1} → statement M
@@ -52,6 +56,7 @@ fill-row-spec =
     (tie.spec
     Inv-loop
     μ-loop
+    deciding-set-requires
     loop-holds
     entry-requires
     mul-row

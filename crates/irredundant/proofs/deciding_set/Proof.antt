@@ -1,0 +1,69 @@
+-- The invariant: what is kept, less what the members left leave out, is the deciding set. The measure is the map of the members left. Assumes nothing.
+use mathlib.Core.Path.{_≡_, sym, _∙_}
+use Prim.Native.Nat.{ℕ}
+use Rattle.laws.proofs.Maps.{removed-lt}
+use Rattle.irredundant.specs.Working.{deciding}
+use Rattle.irredundant.proofs.Laws.{deciding-of, none-left-out, one-left-out, all-left-out}
+use borrow.Author.Needs.{needs}
+use native.Mathlib.Omega.{arith}
+use Rattle.irredundant.proofs.deciding_set.Statement.{statement}
+use Rattle.irredundant.proofs.deciding_set.Tie as tie
+
+abbrev Inv-loop : tie.InvT-loop
+Inv-loop d sets v kept₀ left₀ kept left = (a : ℕ) → deciding-of d sets v kept left a ≡ deciding d sets v a
+
+abbrev μ-loop : tie.MeasureT-loop
+μ-loop d sets v kept₀ left₀ kept left = left
+
+mul-kept : tie.Need-mul-kept Inv-loop μ-loop
+mul-kept c = search needs
+
+element-copy-out-kept : tie.Need-element-copy-out-kept Inv-loop μ-loop
+element-copy-out-kept c = search needs
+
+mul-left : tie.Need-mul-left Inv-loop μ-loop
+mul-left c = search needs
+
+element-copy-out-left : tie.Need-element-copy-out-left Inv-loop μ-loop
+element-copy-out-left c = search needs
+
+loop-holds : tie.Need-loop-holds Inv-loop μ-loop
+loop-holds c a = none-left-out _ _ _ a
+
+lowest-requires : tie.Need-lowest-requires Inv-loop μ-loop
+lowest-requires c κs = omega arith
+
+without-covered-requires : tie.Need-without-covered-requires Inv-loop μ-loop
+without-covered-requires c κs = (omega arith, c .lowest .ensures .below)
+
+remove-requires : tie.Need-remove-requires Inv-loop μ-loop
+remove-requires c κs = c .before .lowest .ensures .below
+
+loop-less : tie.Need-loop-less Inv-loop μ-loop
+loop-less c = removed-lt _ _ _ (c .before .before .lowest .ensures .member) (c .remove .ensures)
+
+loop-again : tie.Need-loop-again Inv-loop μ-loop
+loop-again c a =
+    let least = c .before .before in
+    one-left-out _ _ _ _ _ _ _ _ (least .lowest .ensures .below) (least .lowest .ensures .member) (c .before .without-covered .ensures) (c .remove .ensures) a ∙ least .before .before .loop .inv a
+
+returns : tie.Need-returns Inv-loop μ-loop
+returns c a = sym (all-left-out _ _ _ _ (c .before .loop .left) _ (omega arith)) ∙ c .before .loop .inv a
+
+pub deciding-set-spec : {M : Type 1} → statement M
+deciding-set-spec =
+    tie.close
+    (tie.spec
+    Inv-loop
+    μ-loop
+    mul-kept
+    element-copy-out-kept
+    mul-left
+    element-copy-out-left
+    loop-holds
+    lowest-requires
+    without-covered-requires
+    remove-requires
+    loop-less
+    loop-again
+    returns)

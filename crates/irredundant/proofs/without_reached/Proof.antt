@@ -1,0 +1,55 @@
+-- The invariant: what is kept, less those of the members left that are reached, is what is asked for. The measure is the map of the members left. Assumes nothing.
+use mathlib.Core.Path.{_≡_, refl, sym, _∙_}
+use Prim.Native.Nat.{ℕ}
+use Rattle.laws.proofs.Maps.{removed-lt}
+use Rattle.irredundant.proofs.Laws.{kept-of, one-compared, all-compared}
+use native.Mathlib.Omega.{arith}
+use Rattle.irredundant.proofs.without_reached.Statement.{statement}
+use Rattle.irredundant.proofs.without_reached.Tie as tie
+
+abbrev Inv-loop : tie.InvT-loop
+Inv-loop d v b map given kept₀ left₀ kept left = (a : ℕ) → kept-of d v b kept left a ≡ kept-of d v b map given a
+
+abbrev μ-loop : tie.MeasureT-loop
+μ-loop d v b map given kept₀ left₀ kept left = left
+
+loop-holds : tie.Need-loop-holds Inv-loop μ-loop
+loop-holds c a = refl
+
+lowest-requires : tie.Need-lowest-requires Inv-loop μ-loop
+lowest-requires c κs = omega arith
+
+reaches-requires : tie.Need-reaches-requires Inv-loop μ-loop
+reaches-requires c κs = (omega arith, c .lowest .ensures .below, omega arith)
+
+remove-if-requires : tie.Need-remove-if-requires Inv-loop μ-loop
+remove-if-requires c κs = c .before .lowest .ensures .below
+
+remove-requires : tie.Need-remove-requires Inv-loop μ-loop
+remove-requires c κs = c .before .before .lowest .ensures .below
+
+loop-less : tie.Need-loop-less Inv-loop μ-loop
+loop-less c = removed-lt _ _ _ (c .before .before .before .lowest .ensures .member) (c .remove .ensures)
+
+loop-again : tie.Need-loop-again Inv-loop μ-loop
+loop-again c a =
+    let least = c .before .before .before in
+    one-compared _ _ _ _ _ _ _ _ _ (least .lowest .ensures .member) (c .before .before .reaches .ensures) (c .before .remove-if .ensures) (c .remove .ensures) a ∙ least .before .before .loop .inv a
+
+returns : tie.Need-returns Inv-loop μ-loop
+returns c a = sym (all-compared _ _ _ _ (c .before .loop .left) _ (omega arith)) ∙ c .before .loop .inv a
+
+pub without-reached-spec : {M : Type 1} → statement M
+without-reached-spec =
+    tie.close
+    (tie.spec
+    Inv-loop
+    μ-loop
+    loop-holds
+    lowest-requires
+    reaches-requires
+    remove-if-requires
+    remove-requires
+    loop-less
+    loop-again
+    returns)

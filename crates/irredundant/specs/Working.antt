@@ -1,0 +1,36 @@
+-- The tables that plans and start times are made from: what they stand for, and the deciding sets read off them.
+use mathlib.Core.Path.{_≡_}
+use mathlib.Core.Bool.{Bool, not, _&&_}
+use mathlib.Core.List.{List, []}
+use Prim.Native.Nat.{ℕ, _+_, _-_, _<_}
+use lib.Dec.{eqb, leb, ltb}
+use lib.ListN.{getD}
+use Rattle.definitions.specs.Anchors.{in-anchor-set}
+use Rattle.definitions.specs.Basics.{any-below, test-bit}
+use Rattle.definitions.specs.Links.{Edge}
+use Rattle.definitions.specs.Plan.{offset-row}
+use Rattle.definitions.specs.Rounds.{cell}
+
+-- d and sets hold the heaviest walks and the anchor sets of the edges es: cell a of row v of d is that of v in the row of a, and bit a of map v says whether a is in the anchor set of v.
+pub record Holds (n : ℕ) (es : List Edge) (d : List (List ℕ)) (sets : List ℕ) : Type 0 where
+  pub cells : (a v : ℕ) → a < n → v < n → getD (getD d v []) a 0 ≡ cell (offset-row n es a) v
+  pub members : (a v : ℕ) → v < n → test-bit (getD sets v 0) a ≡ (ltb a n && in-anchor-set n es a v)
+
+-- The offset of v for a.
+abbrev pub weight : List (List ℕ) → ℕ → ℕ → ℕ
+weight d v a = getD (getD d v []) a 0 - 1
+
+abbrev pub member : List ℕ → ℕ → ℕ → Bool
+member sets v a = test-bit (getD sets v 0) a
+
+-- Offset of b for a, plus offset of v for b, reaches the offset of v for a.
+unfoldable pub reaching : List (List ℕ) → ℕ → ℕ → ℕ → Bool
+reaching d v a b = leb (weight d v a) (weight d b a + weight d v b)
+
+-- b, if it is a member, leaves a out.
+unfoldable pub covering : List (List ℕ) → List ℕ → ℕ → ℕ → ℕ → Bool
+covering d sets v a b = not (eqb b a) && member sets b a && reaching d v a b
+
+-- The deciding set: the members that no member leaves out.
+unfoldable pub deciding : List (List ℕ) → List ℕ → ℕ → ℕ → Bool
+deciding d sets v a = member sets v a && not (any-below (λ b. member sets v b && covering d sets v a b) 64)

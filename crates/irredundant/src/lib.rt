@@ -1,0 +1,97 @@
+// Deciding sets (irredundant anchor sets), read off the working tables: heaviest walks and anchor sets.
+// d: cell a of row v is 0 where no walk comes from a to v, w + 1 for the weight w. sets: bit a of map v stands where a is in the anchor set of v.
+// Every function is safe for any tables; on those of an edge list its answer is the definition's.
+ghost use mathlib.Core.Path.{_≡_};
+ghost use mathlib.Core.Bool.{not, _&&_};
+ghost use Prim.Native.Nat.{ℕ, _+_, _-_, _<_};
+ghost use lib.Dec.{eqb, leb};
+ghost use Rattle.definitions.specs.Basics.{test-bit};
+ghost use Rattle.irredundant.specs.Working.{weight, reaching, covering, deciding};
+
+// The weight that a cell holds, 0 where there is none.
+fn weight_of(c: u32) -> u32
+    ensures { λ r. ⌜ r ≡ c - 1 ⌝ }
+{
+    if c == 0 {
+        return 0;
+    }
+    c - 1
+}
+
+// The offset of v for a, 0 where there is none.
+pub fn offset_at(d: &[[u32; 64]; 64], v: usize, a: usize) -> u32
+    requires { ⌜ (v < 64) × (a < 64) ⌝ }
+    ensures { λ r. ⌜ r ≡ weight (now (d .entry)) v a ⌝ }
+{
+    weight_of(d[v][a])
+}
+
+// Whether two offsets together are as much as one.
+fn sum_reaches(x: u32, y: u32, z: u32) -> bool
+    ensures { λ r. ⌜ r ≡ leb x (y + z) ⌝ }
+{
+    (x as u64) <= (y as u64) + (z as u64)
+}
+
+// Whether the way from a over b comes to v as late as a itself.
+fn reaches(d: &[[u32; 64]; 64], v: usize, a: usize, b: usize) -> bool
+    requires { ⌜ (v < 64) × (a < 64) × (b < 64) ⌝ }
+    ensures { λ r. ⌜ r ≡ reaching (now (d .entry)) v a b ⌝ }
+{
+    let x = offset_at(d, v, a);
+    let y = offset_at(d, b, a);
+    let z = offset_at(d, v, b);
+    sum_reaches(x, y, z)
+}
+
+// The map without a, where a is out.
+fn remove_if(map: u64, a: usize, out: bool) -> u64
+    requires { ⌜ a < 64 ⌝ }
+    ensures { λ r. ⌜ ((j : ℕ) → test-bit r j ≡ (test-bit map j && not (eqb j a && out))) ⌝ }
+{
+    if out {
+        return bitmaps::remove(map, a);
+    }
+    map
+}
+
+// The map without those of the given ones from which the way over b reaches.
+fn without_reached(d: &[[u32; 64]; 64], v: usize, b: usize, map: u64, given: u64) -> u64
+    requires { ⌜ (v < 64) × (b < 64) ⌝ }
+    ensures { λ r. ⌜ ((a : ℕ) → test-bit r a ≡ (test-bit map a && not (test-bit given a && reaching (now (d .entry)) v a b))) ⌝ }
+{
+    let mut kept = map;
+    let mut left = given;
+    while left != 0 {
+        let a = bitmaps::lowest(left);
+        let out = reaches(d, v, a, b);
+        kept = remove_if(kept, a, out);
+        left = bitmaps::remove(left, a);
+    }
+    kept
+}
+
+// The map without those that b leaves out of the deciding set of v: only members of b's own anchor set are compared.
+fn without_covered(d: &[[u32; 64]; 64], sets: &[u64; 64], v: usize, b: usize, map: u64) -> u64
+    requires { ⌜ (v < 64) × (b < 64) ⌝ }
+    ensures { λ r. ⌜ ((a : ℕ) → test-bit r a ≡ (test-bit map a && not (covering (now (d .entry)) (now (sets .entry)) v a b))) ⌝ }
+{
+    let behind = bitmaps::remove(sets[b], b);
+    let given = bitmaps::both(map, behind);
+    without_reached(d, v, b, map, given)
+}
+
+// The deciding set of v: its anchor set without those that a member leaves out.
+pub fn deciding_set(d: &[[u32; 64]; 64], sets: &[u64; 64], v: usize) -> u64
+    requires { ⌜ v < 64 ⌝ }
+    ensures { λ r. ⌜ ((a : ℕ) → test-bit r a ≡ deciding (now (d .entry)) (now (sets .entry)) v a) ⌝ }
+{
+    let mut kept = sets[v];
+    let mut left = sets[v];
+    while left != 0 {
+        let b = bitmaps::lowest(left);
+        kept = without_covered(d, sets, v, b, kept);
+        left = bitmaps::remove(left, b);
+    }
+    kept
+}

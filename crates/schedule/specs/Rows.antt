@@ -1,0 +1,23 @@
+-- The plan's table, a row at a time, as it is read off the working tables.
+use mathlib.Core.Path.{_≡_}
+use mathlib.Core.Bool.{cond}
+use mathlib.Core.List.{List, [], _++_}
+use Prim.Native.Nat.{ℕ, zero, suc, _*_}
+use lib.ListN.{drop}
+use Rattle.definitions.specs.Basics.{tabulate}
+use Rattle.definitions.specs.Links.{Edge}
+use Rattle.definitions.specs.Plan.{plan-table, undecided}
+use Rattle.irredundant.specs.Working.{Holds, weight, deciding}
+
+-- The plan's entries, and its first v rows.
+unfoldable pub entry-at : List (List ℕ) → List ℕ → ℕ → ℕ → ℕ
+entry-at d sets v a = cond (deciding d sets v a) (weight d v a) undecided
+
+unfoldable pub first-rows : List (List ℕ) → List ℕ → ℕ → ℕ → List ℕ
+first-rows d sets n zero = []
+first-rows d sets n (suc v) = first-rows d sets n v ++ tabulate (entry-at d sets v) n
+
+-- The lent numbers after a plan is written to their front: on any tables what is read off them, on those of an edge list the plan's table.
+pub record Planned (n : ℕ) (d : List (List ℕ)) (sets lent after : List ℕ) : Type 0 where
+  pub read : after ≡ first-rows d sets n n ++ drop (n * n) lent
+  pub plan : (es : List Edge) → Holds n es d sets → after ≡ plan-table n es ++ drop (n * n) lent
