@@ -1,6 +1,1 @@
-pub mod Rows
-pub mod Cut
-pub mod Passing
-pub mod Columns
-pub mod Seeding
-pub mod Walking
+pub mod Settled
