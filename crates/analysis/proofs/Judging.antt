@@ -13,7 +13,7 @@ use Rattle.definitions.specs.Waits.{needs-waits, wait-count}
 use Rattle.definitions.specs.declared.Refusal.{Refusal}
 use Rattle.definitions.specs.declared.Refusal.the-variants.{Inconsistent}
 use Rattle.definitions.specs.declared.Verdict.the-variants as Verdicts
-use Rattle.heaviest.specs.Tables.{Inside}
+use Rattle.feasibility.specs.Rows.{Inside}
 use Rattle.laws.proofs.Bools.{both-ways}
 use Rattle.laws.proofs.Outcomes.{given-not-refused}
 use Rattle.reach.specs.Pushes.{Reached}

@@ -1,3 +1,1 @@
 pub mod Judging
-pub mod Tables
-pub mod Writing

@@ -1,16 +1,16 @@
--- `analysis::starts_edges` meets its contract, path by path: a refusal of judging, 13, 14 for the list and for the numbers to be written, the starts.
+-- `planning::starts_edges` meets its contract, path by path: a refusal of judging, 13, 14 for the list and for the numbers to be written, the starts.
 use mathlib.Core.Path.{sym, _∙_}
 use borrow.Author.Needs.{needs}
 use borrow.Author.Tests.{not-true, not-false}
-use Rattle.analysis.proofs.Writing.{list-short, out-short, plannable, starts-passed, starts-short, starts-written, starts-wrong}
-use Rattle.analysis.proofs.starts_edges.Statement.{statement}
-use Rattle.analysis.proofs.starts_edges.Tie as tie
-use Rattle.analysis.proofs.starts_edges.Reads as reads
-use Rattle.analysis.proofs.starts_edges.Lts as lts
+use Rattle.planning.proofs.Writing.{list-short, out-short, plannable, starts-passed, starts-short, starts-written, starts-wrong}
+use Rattle.planning.proofs.starts_edges.Statement.{statement}
+use Rattle.planning.proofs.starts_edges.Tie as tie
+use Rattle.planning.proofs.starts_edges.Reads as reads
+use Rattle.planning.proofs.starts_edges.Lts as lts
 use Rattle.analysis.proofs.analyse.Reads as analyse-reads
-use Rattle.analysis.proofs.accepted.Reads as accepted-reads
-use Rattle.schedule.proofs.delays_bad.Reads as delays-bad-reads
-use Rattle.analysis.proofs.write_starts.Reads as write-starts-reads
+use Rattle.planning.proofs.accepted.Reads as accepted-reads
+use Rattle.delays.proofs.delays_bad.Reads as delays-bad-reads
+use Rattle.planning.proofs.write_starts.Reads as write-starts-reads
 
 analyse-requires : tie.Need-analyse-requires
 analyse-requires c κs = search needs

@@ -1,4 +1,4 @@
--- `analysis::with_source` meets its contract. Invariant: the rows below v are made.
+-- `planning::with_source` meets its contract. Invariant: the rows below v are made.
 use mathlib.Core.Path.{_≡_, ap, _∙_}
 use mathlib.Core.Bool.{Bool, _&&_, _||_}
 use mathlib.Core.List.{List}
@@ -8,10 +8,10 @@ use Rattle.relations.specs.Rows.{row-bit}
 use Rattle.relations.proofs.Gathering.{Made, made-no-row, made-row}
 use native.Mathlib.Omega.{arith}
 use borrow.Author.Needs.{needs}
-use Rattle.analysis.proofs.with_source.Statement.{statement}
-use Rattle.analysis.proofs.with_source.Tie as tie
-use Rattle.analysis.proofs.with_source.Reads as reads
-use Rattle.analysis.proofs.with_source.Lts as lts
+use Rattle.planning.proofs.with_source.Statement.{statement}
+use Rattle.planning.proofs.with_source.Tie as tie
+use Rattle.planning.proofs.with_source.Reads as reads
+use Rattle.planning.proofs.with_source.Lts as lts
 use Rattle.bitmaps.proofs.insert.Reads as insert-reads
 
 -- Row w holds what reaches w, and step 0.

@@ -24,9 +24,9 @@ use Rattle.laws.proofs.Bools.{or-left, or-right}
 use Rattle.theory.specs.Graphs.{Gains, Shape}
 use Rattle.theory.proofs.PlanTables.{plan-table-length}
 use Rattle.theory.proofs.StartTimes.{start-times-length}
 use Rattle.analysis.specs.declared.Analysis.{Analysis}
 use Rattle.analysis.specs.Analysis.{Analysed}
-use Rattle.analysis.specs.Outcomes.{Plannable, is-given, plan-outcome, starts-outcome}
+use Rattle.planning.specs.Outcomes.{Plannable, is-given, plan-outcome, starts-outcome}
 
 -- The square of a count fits.
 pub square-small : (n : ℕ) → n ≤ 64 → n * n ≤ 4096

@@ -17,15 +17,15 @@ use Rattle.edges.specs.Serial.{wait-edges}
 use Rattle.edges.proofs.Serializing.{serialized-maps}
 use Rattle.laws.proofs.Bools.{and-join, and-split, or-left, or-right, or-split, same-test}
 use Rattle.relations.specs.Rows.{row-bit}
-use Rattle.schedule.specs.Working.{Holds}
-use Rattle.schedule.proofs.Accepted.{plan-holds}
+use Rattle.irredundant.specs.Working.{Holds}
+use Rattle.starts.proofs.Accepted.{plan-holds}
 use Rattle.theory.specs.Graphs.{Well}
 use Rattle.theory.proofs.Plans.{plan-posed, plan-well}
 use Rattle.theory.proofs.Reachability.{after-reaches-iff, in-anchor-set-iff}
 use Rattle.theory.proofs.Serialization.{after-back}
 use Rattle.theory.proofs.WaitLists.{serialized-waited, usable-all}
 use Rattle.theory.proofs.Walks.{after-mono, after-start-below, chain-after, member-after}
-use Rattle.analysis.specs.Outcomes.{Plannable}
+use Rattle.planning.specs.Outcomes.{Plannable}
 
 -- With the waits in, the members of an anchor set other than 0 are the anchors that reach the step on the sheet as sent: each wait stands for such a walk, and well-posedness carries a member along
 -- every walk.

@@ -1,16 +1,16 @@
--- `analysis::write_starts` meets its contract: as for a plan, and starts of a list that is not refused have 32 bits.
+-- `planning::write_starts` meets its contract: as for a plan, and starts of a list that is not refused have 32 bits.
 use borrow.Author.Needs.{needs}
 use Prim.Native.Nat.{_≤_}
-use Rattle.schedule.proofs.Accepted.{plan-starts-fit}
+use Rattle.starts.proofs.Accepted.{plan-starts-fit}
 use Rattle.analysis.proofs.Judging.{shape-inside}
-use Rattle.analysis.proofs.Tables.{plannable-holds}
-use Rattle.analysis.proofs.write_starts.Statement.{statement}
-use Rattle.analysis.proofs.write_starts.Tie as tie
-use Rattle.analysis.proofs.write_starts.Reads as reads
-use Rattle.analysis.proofs.write_starts.Lts as lts
+use Rattle.planning.proofs.Tables.{plannable-holds}
+use Rattle.planning.proofs.write_starts.Statement.{statement}
+use Rattle.planning.proofs.write_starts.Tie as tie
+use Rattle.planning.proofs.write_starts.Reads as reads
+use Rattle.planning.proofs.write_starts.Lts as lts
 use Rattle.heaviest.proofs.walks.Reads as walks-reads
-use Rattle.analysis.proofs.with_source.Reads as with-source-reads
-use Rattle.schedule.proofs.fill_starts.Reads as fill-starts-reads
+use Rattle.planning.proofs.with_source.Reads as with-source-reads
+use Rattle.starts.proofs.fill_starts.Reads as fill-starts-reads
 
 walks-requires : tie.Need-walks-requires
 walks-requires c κs = search needs

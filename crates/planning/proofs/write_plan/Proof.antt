@@ -1,13 +1,13 @@
--- `analysis::write_plan` meets its contract: the tables that it makes hold the walks and anchor sets of the edges with the waits in.
+-- `planning::write_plan` meets its contract: the tables that it makes hold the walks and anchor sets of the edges with the waits in.
 use borrow.Author.Needs.{needs}
 use Rattle.analysis.proofs.Judging.{shape-inside}
-use Rattle.analysis.proofs.Tables.{plannable-holds}
-use Rattle.analysis.proofs.write_plan.Statement.{statement}
-use Rattle.analysis.proofs.write_plan.Tie as tie
-use Rattle.analysis.proofs.write_plan.Reads as reads
-use Rattle.analysis.proofs.write_plan.Lts as lts
+use Rattle.planning.proofs.Tables.{plannable-holds}
+use Rattle.planning.proofs.write_plan.Statement.{statement}
+use Rattle.planning.proofs.write_plan.Tie as tie
+use Rattle.planning.proofs.write_plan.Reads as reads
+use Rattle.planning.proofs.write_plan.Lts as lts
 use Rattle.heaviest.proofs.walks.Reads as walks-reads
-use Rattle.analysis.proofs.with_source.Reads as with-source-reads
+use Rattle.planning.proofs.with_source.Reads as with-source-reads
 use Rattle.schedule.proofs.fill_plan.Reads as fill-plan-reads
 
 walks-requires : tie.Need-walks-requires

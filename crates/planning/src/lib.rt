@@ -1,0 +1,126 @@
+// Planning and working out starts, from the edges of a sheet: the working table, and from it the plan and the start times. Words stand for edges, as in the crate edges.
+use analysis::analyse;
+use definitions::Refusal;
+use definitions::Verdict;
+ghost use mathlib.Core.Path.{_≡_};
+ghost use mathlib.Core.Bool.{false, _&&_, _||_};
+ghost use mathlib.Core.List.{List, _++_};
+ghost use Prim.Native.Nat.{ℕ, _*_, _<_, _≤_};
+ghost use lib.Dec.{eqb, ltb};
+ghost use lib.ListN.{drop, length};
+ghost use Rattle.definitions.specs.Answers.{written};
+ghost use Rattle.definitions.specs.Basics.{test-bit};
+ghost use Rattle.definitions.specs.Links.{members};
+ghost use Rattle.definitions.specs.Numbers.{verdict-of};
+ghost use Rattle.definitions.specs.Plan.{delays, delays-wrong, plan-table, start-times};
+ghost use Rattle.definitions.specs.Waits.{serialized};
+ghost use Rattle.definitions.specs.declared.Operation.{Operation};
+ghost use Rattle.edges.specs.Words.{graph};
+ghost use Rattle.relations.specs.Rows.{row-bit};
+ghost use Rattle.delays.specs.Delays.{unbounded-at};
+ghost use Rattle.theory.specs.Graphs.{Gains, Shape};
+ghost use Rattle.planning.specs.Outcomes.{Plannable, is-given, plan-outcome, starts-outcome};
+
+fn accepted(verdict: Verdict) -> bool
+    ensures { λ r. ⌜ r ≡ is-given (verdict-of verdict) ⌝ }
+{
+    match verdict {
+        Verdict::WellPosed => true,
+        Verdict::Serialized => true,
+        Verdict::Refused(_) => false,
+    }
+}
+
+// Step 0 beside what reaches each of n steps. With the waits in these are the anchor sets, so nothing is searched for a second time.
+fn with_source(reach: &[u64; 64], n: usize) -> [u64; 64]
+    requires { ⌜ n ≤ 64 ⌝ }
+    ensures { λ r. ⌜ ((v a : ℕ) → row-bit r v a ≡ (ltb v n && (row-bit (now (reach .entry)) v a || eqb a 0))) ⌝ }
+{
+    let mut sets = [0u64; 64];
+    let mut v = 0;
+    while v < n {
+        let set = bitmaps::insert(reach[v], 0);
+        sets[v] = set;
+        v += 1;
+    }
+    sets
+}
+
+fn write_plan(es: &[u64], n: usize, order: &[u8; 64], reach: &[u64; 64], maps: &[u64; 64], table: &mut [u32])
+    requires { ⌜ (1 ≤ n) × (n ≤ 64) × (length (now es) ≤ 2048) × (n * n ≤ length (now table)) ⌝ }
+    ensures { λ r. ⌜ (Plannable n (graph (now (es .entry))) (now (reach .entry)) (now (maps .entry)) → now (table .exit) ≡ plan-table n (serialized n (graph (now (es .entry)))) ++ drop (n * n) (now (table .entry))) ⌝ }
+{
+    let d = heaviest::walks(es, maps, order, n);
+    let sets = with_source(reach, n);
+    schedule::fill_plan(&d, &sets, n, table);
+}
+
+fn write_starts(
+    es: &[u64],
+    n: usize,
+    order: &[u8; 64],
+    reach: &[u64; 64],
+    maps: &[u64; 64],
+    list: &[u32],
+    out: &mut [u32],
+)
+    requires { ⌜ (1 ≤ n) × (n ≤ 64) × (length (now es) ≤ 2048) × (n ≤ length (now list)) × (n ≤ length (now out)) ⌝ }
+    ensures { λ r. ⌜ (Plannable n (graph (now (es .entry))) (now (reach .entry)) (now (maps .entry)) → (os : List Operation) → length os ≡ n → delays-wrong os (now (list .entry)) ≡ false → now (out .exit) ≡ start-times n (serialized n (graph (now (es .entry)))) (delays (now (list .entry))) ++ drop n (now (out .entry))) ⌝ }
+{
+    let d = heaviest::walks(es, maps, order, n);
+    let sets = with_source(reach, n);
+    starts::fill_starts(&d, &sets, n, list, out);
+}
+
+// Planning, from the edges of a sheet of n steps: refusal 14 after all others.
+pub fn plan_edges(es: &[u64], n: usize, allow: bool, table: &mut [u32]) -> Verdict
+    requires { ⌜ (1 ≤ n) × (n ≤ 64) × (length (now es) ≤ 2048) ⌝ }
+    ensures { λ r. ⌜ (Shape n (members (graph (now (es .entry)))) → Gains (members (graph (now (es .entry)))) 65535 → (verdict-of r ≡ plan-outcome n (graph (now (es .entry))) allow (now (table .entry))) × (now (table .exit) ≡ written (plan-outcome n (graph (now (es .entry))) allow (now (table .entry))) (plan-table n (serialized n (graph (now (es .entry))))) (now (table .entry)))) ⌝ }
+{
+    let found = analyse(es, n, allow);
+    let verdict = found.verdict;
+    if !accepted(verdict) {
+        return verdict;
+    }
+    if table.len() < n * n {
+        return Verdict::Refused(Refusal::TooShort);
+    }
+    let order = found.order;
+    let reach = found.reach;
+    let maps = found.maps;
+    write_plan(es, n, &order, &reach, &maps, table);
+    verdict
+}
+
+// Working out starts, from the edges of a sheet of n steps and the map of its open ones: refusal 13, then 14.
+pub fn starts_edges(
+    es: &[u64],
+    n: usize,
+    allow: bool,
+    unbounded: u64,
+    list: &[u32],
+    out: &mut [u32],
+) -> Verdict
+    requires { ⌜ (1 ≤ n) × (n ≤ 64) × (length (now es) ≤ 2048) ⌝ }
+    ensures { λ r. ⌜ (Shape n (members (graph (now (es .entry)))) → Gains (members (graph (now (es .entry)))) 65535 → (os : List Operation) → length os ≡ n → ((i : ℕ) → i < n → test-bit unbounded i ≡ unbounded-at os i) → (verdict-of r ≡ starts-outcome n (graph (now (es .entry))) allow os (now (list .entry)) (now (out .entry))) × (now (out .exit) ≡ written (starts-outcome n (graph (now (es .entry))) allow os (now (list .entry)) (now (out .entry))) (start-times n (serialized n (graph (now (es .entry)))) (delays (now (list .entry)))) (now (out .entry)))) ⌝ }
+{
+    let found = analyse(es, n, allow);
+    let verdict = found.verdict;
+    if !accepted(verdict) {
+        return verdict;
+    }
+    if delays::delays_bad(list, unbounded, n) {
+        return Verdict::Refused(Refusal::BadDelays);
+    }
+    if list.len() < n {
+        return Verdict::Refused(Refusal::TooShort);
+    }
+    if out.len() < n {
+        return Verdict::Refused(Refusal::TooShort);
+    }
+    let order = found.order;
+    let reach = found.reach;
+    let maps = found.maps;
+    write_starts(es, n, &order, &reach, &maps, list, out);
+    verdict
+}
