@@ -2,11 +2,11 @@
 use mathlib.Core.Path.{sym, ap₂, _∙_}
 use lib.Dec.{leb}
 use borrow.Author.Tests.{not-true, not-false}
-use Rattle.dispatcher.proofs.RowLaws.{due-unfinished, due-finished}
+use Rattle.readiness.proofs.RowLaws.{due-unfinished, due-finished}
 use native.Mathlib.Omega.{arith}
 use borrow.Author.Needs.{needs}
-use Rattle.dispatcher.proofs.is_due.Statement.{statement}
-use Rattle.dispatcher.proofs.is_due.Tie as tie
+use Rattle.readiness.proofs.is_due.Statement.{statement}
+use Rattle.readiness.proofs.is_due.Tie as tie
 
 has-requires : tie.Need-has-requires
 has-requires c κs = search needs

@@ -1,50 +1,23 @@
 -- The sweep over the operations: what is known once v of them have been looked at. Assumes nothing.
 use mathlib.Core.Path.{_≡_, refl, sym, ap, ap₂, _∙_}
-use mathlib.Core.Bool.{Bool, true, false, not, _&&_, _||_, and-assoc}
+use mathlib.Core.Bool.{true, false}
 use mathlib.Core.List.{List}
-use Prim.Native.Nat.{ℕ, suc, _+_, _-_, _*_, _^_, _≤_, _<_}
+use Prim.Native.Nat.{ℕ, suc, _+_, _*_, _^_, _≤_, _<_}
 use native.Mathlib.Omega.{arith}
 use native.Mathlib.Nat.{pow-suc}
 use native.Mathlib.Numerals.{add-one}
-use lib.Dec.{eqb, leb}
-use lib.ListN.{getD, set, drop}
+use lib.Bits.{bitOr}
+use lib.ListN.{set}
 use lib.Pow.{pow-mono}
-use lib.Seq.{getD-take, getD-drop}
-use Rattle.definitions.specs.Basics.{test-bit, bits-below}
-use Rattle.definitions.specs.Plan.{undecided, row-part}
-use Rattle.definitions.specs.Dispatcher.{entry, names, due, ready, starting, start-ticks}
+use Rattle.definitions.specs.Basics.{bits-below}
+use Rattle.definitions.specs.Dispatcher.{ready, starting, start-ticks, sweep}
 use Rattle.definitions.specs.declared.State.{State}
+use Rattle.definitions.specs.declared.Status.the-variants.{Done}
 use Rattle.laws.proofs.Maps.{bits-below-lt}
-use Rattle.dispatcher.specs.Rows.{due-in, names-in, row-ready, ready-in}
-use Rattle.laws.proofs.Searches.{any-below-same, all-below-same}
+use Rattle.readiness.proofs.TableRows.{row-test, row-test-is}
+use Rattle.sweeps.specs.Sweeps.{Swept}
 
 module _ (st : State) (table : List ℕ) where
-  -- The code's test: row v by itself, with what it needs of the state.
-  abbrev pub row-test : ℕ → Bool
-  row-test v = ready-in (st .started) (st .finished) (st .finish) (st .tick) table (st .n) v
-
-  -- Entry a of row v is the table's at v × n + a; so the same operations are named, and due.
-  row-entry : (v a : ℕ) → a < st .n → getD (row-part table (st .n) v) a 0 ≡ entry st table v a
-  unfolding row-part entry
-  row-entry v a h = getD-take (st .n) (drop (v * st .n) table) a 0 h ∙ getD-drop (v * st .n) table a 0
-
-  row-names : (v a : ℕ) → a < st .n → names-in (row-part table (st .n) v) a ≡ names st table v a
-  unfolding names-in names
-  row-names v a h = ap (λ (x : ℕ). not (eqb x undecided)) (row-entry v a h)
-
-  row-dues : (v a : ℕ) → a < st .n → due-in (st .finished) (st .finish) (st .tick) a (getD (row-part table (st .n) v) a 0) ≡ due st table v a
-  unfolding due-in due
-  row-dues v a h = ap (λ (x : ℕ). test-bit (st .finished) a && leb (getD (st .finish) a 0 + x) (st .tick)) (row-entry v a h)
-
-  -- Entry by entry the row is the table's.
-  pub row-test-is : (v : ℕ) → row-test v ≡ ready st table v
-  unfolding ready-in row-ready ready
-  row-test-is v =
-      sym (and-assoc (not (test-bit (st .started) v)) _ _)
-      ∙ ap₂ (λ (x y : Bool). not (test-bit (st .started) v) && x && y)
-      (any-below-same _ _ (st .n) (row-names v))
-      (all-below-same _ _ (st .n) (λ a h. ap₂ (λ (x y : Bool). not x || y) (row-names v a h) (row-dues v a h)))
-
   -- The operations below v have been looked at: the map and the start ticks are the definition's so far.
   pub record SweptBelow (start : List ℕ) (map v : ℕ) : Type 0 where
     pub within : v ≤ st .n
@@ -85,3 +58,9 @@ module _ {st : State} {table : List ℕ} where
 
   pub swept-ticks : {start : List ℕ} {map v : ℕ} → SweptBelow st table start map v → st .n ≤ v → start ≡ start-ticks st table (st .n)
   swept-ticks {v = v} S h = let e : v ≡ st .n = omega (arith, S .within) in S .start-is ∙ ap (start-ticks st table) e
+
+-- The sweep's map and start ticks, put into the state.
+pub swept-now : (st : State) (table : List ℕ) {map : ℕ} {start : List ℕ} → map ≡ starting st table → start ≡ start-ticks st table (st .n) → Swept st table (record { status = Done; state = record { n = st .n; unbounded = st .unbounded; tick = st .tick; started = bitOr (st .started) map; finished = st .finished; start = start; finish = st .finish }; map = map })
+unfolding sweep
+swept-now st table m s =
+    record { status = refl; state = ap₂ (λ x y. record { n = st .n; unbounded = st .unbounded; tick = st .tick; started = bitOr (st .started) x; finished = st .finished; start = y; finish = st .finish }) m s; map = m }

@@ -13,7 +13,7 @@ use Rattle.definitions.specs.Basics.{any-below, all-below, test-bit}
 use Rattle.definitions.specs.Plan.{undecided, row-part}
 use Rattle.laws.proofs.Bools.{both-ways, not-passing}
 use Rattle.laws.proofs.Tests.{all-below-each}
-use Rattle.dispatcher.specs.Rows.{due-in, names-in, row-ready, ready-in}
+use Rattle.readiness.specs.Rows.{due-in, names-in, row-ready, ready-in}
 
 -- An operation that has not finished is not due; one that has is compared.
 pub due-unfinished : (finished : ℕ) (finish : List ℕ) (clock a offset : ℕ) → test-bit finished a ≡ false → due-in finished finish clock a offset ≡ false

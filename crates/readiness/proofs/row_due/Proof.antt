@@ -4,10 +4,10 @@ use mathlib.Core.Logic.{⊎-elim}
 use borrow.Author.Tests.{not-true, not-false}
 use Prim.Native.Nat.{_-_}
 use lib.ListN.{length}
-use Rattle.dispatcher.proofs.RowLaws.{Passed, passed-none, passed-over, passed-due, not-due, passed-all}
+use Rattle.readiness.proofs.RowLaws.{Passed, passed-none, passed-over, passed-due, not-due, passed-all}
 use borrow.Author.Needs.{needs}
-use Rattle.dispatcher.proofs.row_due.Statement.{statement}
-use Rattle.dispatcher.proofs.row_due.Tie as tie
+use Rattle.readiness.proofs.row_due.Statement.{statement}
+use Rattle.readiness.proofs.row_due.Tie as tie
 
 abbrev Inv-loop : tie.InvT-loop
 Inv-loop row finished finish clock named₀ a₀ named a = Passed finished finish clock row named a

@@ -1,10 +1,10 @@
 -- Row v lies inside the table, and the part that is lent is that row. Assumes nothing.
 use mathlib.Core.Path.{sym, _∙_}
-use Rattle.dispatcher.proofs.RowLaws.{row-inside, row-small, ready-started, ready-part}
+use Rattle.readiness.proofs.RowLaws.{row-inside, row-small, ready-started, ready-part}
 use borrow.Author.Needs.{needs}
 use native.Mathlib.Omega.{arith}
-use Rattle.dispatcher.proofs.is_ready.Statement.{statement}
-use Rattle.dispatcher.proofs.is_ready.Tie as tie
+use Rattle.readiness.proofs.is_ready.Statement.{statement}
+use Rattle.readiness.proofs.is_ready.Tie as tie
 
 has-requires : tie.Need-has-requires
 has-requires c κs = search needs
