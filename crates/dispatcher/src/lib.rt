@@ -2,7 +2,7 @@
 ghost use mathlib.Core.Path.{_≡_};
 ghost use mathlib.Core.Bool.{not, _||_};
 ghost use Prim.Native.Nat.{_*_, _<_, _≤_};
-ghost use Rattle.definitions.specs.Basics.{test-bit, Outcome, refused};
+ghost use Rattle.definitions.specs.Basics.{test-bit, refused};
 ghost use Rattle.definitions.specs.Numbers.{number};
 ghost use Rattle.definitions.specs.Answers.{bad-count, too-short};
 ghost use Rattle.definitions.specs.Dispatcher as Dispatcher;

@@ -12,7 +12,6 @@ use Rattle.listing.proofs.standplan.Tie as tie
 use Rattle.listing.proofs.standplan.Reads as reads
 use Rattle.listing.proofs.standplan.Lts as lts
 use Rattle.listing.proofs.print_accepted.Reads as print-accepted-reads
-use Rattle.numbers.proofs.refusal_number.Reads as refusal-number-reads
 use Rattle.planner.proofs.plan.Reads as plan-reads
 use Rattle.printer.proofs.print_refusal.Reads as print-refusal-reads
 
