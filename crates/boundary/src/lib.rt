@@ -4,7 +4,7 @@ ghost use mathlib.Core.Path.{_≡_};
 ghost use Rattle.definitions.specs.Answers.{judged, planned, starts-answer, waits-answer};
 ghost use Rattle.definitions.specs.Dispatcher as Dispatcher;
 ghost use Rattle.numbers.specs.Codes.{code};
-ghost use Rattle.storage.specs.Runs.{Leaves, state-in};
+ghost use Rattle.storage.specs.Memory.{Leaves, state-in};
 
 // ---- the planner
 

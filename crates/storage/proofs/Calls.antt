@@ -7,7 +7,7 @@ use Rattle.definitions.specs.Dispatcher.{Progress, Returns}
 use Rattle.definitions.specs.declared.Dispatch.{Dispatch}
 use Rattle.definitions.specs.declared.State.{State}
 use Rattle.numbers.specs.Codes.{call-code}
-use Rattle.storage.specs.Runs.{Leaves, Stores, words-of}
+use Rattle.storage.specs.Memory.{Leaves, Stores, words-of}
 
 module _ {d : Dispatch} {r : ℕ} {words : List ℕ} {tick : ℕ} {start finish : List ℕ} {map : ℕ} (stores : Stores d r words tick start finish map) (call : State → Outcome Progress) where
   -- What the dispatcher returns is stored part by part.

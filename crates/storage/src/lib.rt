@@ -2,7 +2,7 @@
 use definitions::Dispatch;
 use definitions::State;
 ghost use mathlib.Core.Path.{_≡_};
-ghost use Rattle.storage.specs.Runs.{Stores, state-in, words-of};
+ghost use Rattle.storage.specs.Memory.{Stores, state-in, words-of};
 
 // The state in the memory that is lent.
 pub fn state_in(words: &[u64; 4], tick: u32, start: &[u32; 64], finish: &[u32; 64]) -> State
