@@ -17,7 +17,7 @@ use Rattle.definitions.specs.declared.Dispatch.{Dispatch}
 use Rattle.definitions.specs.declared.Refusal.{Refusal}
 use Rattle.definitions.specs.declared.Status.the-variants.{Done, Refused}
 use Rattle.laws.proofs.Bools.{both-ways, and-split, or-left, or-right, not-passing}
-use Rattle.sweeps.specs.Sweeps.{Swept}
+use Rattle.releases.specs.Sweeps.{Swept}
 use Rattle.dispatcher.specs.Calls.{cannot-finish-in}
 
 -- A disjunction whose first part fails is its second; where it fails, both parts do.

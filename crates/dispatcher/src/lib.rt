@@ -123,7 +123,7 @@ pub fn begin(st: State, n: usize, unbounded: u64, table: &[u32]) -> Dispatch
     if is_short(table, n) {
         return refusal(st, Refusal::TooShort);
     }
-    let swept = sweeps::sweep(fresh(n, unbounded), table);
+    let swept = releases::sweep(fresh(n, unbounded), table);
     let mut all = swept;
     all.map = 1 | all.map;
     all
@@ -142,7 +142,7 @@ pub fn tick(st: State, table: &[u32]) -> Dispatch
     if st.tick == 4294967295 {
         return refusal(st, Refusal::ClockEnd);
     }
-    sweeps::sweep(ticked(st), table)
+    releases::sweep(ticked(st), table)
 }
 
 // Finish: the open operation s ends at this tick. Refuses 15, 14, 17, in this order.
@@ -158,5 +158,5 @@ pub fn finish(st: State, s: usize, table: &[u32]) -> Dispatch
     if not_finishable(st.n, st.unbounded, st.started, st.finished, s) {
         return refusal(st, Refusal::CannotFinish);
     }
-    sweeps::sweep(ended(st, s), table)
+    releases::sweep(ended(st, s), table)
 }

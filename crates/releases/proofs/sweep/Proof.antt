@@ -1,8 +1,8 @@
 -- The map and the start ticks of `starting_now`, put into the state. Assumes nothing.
-use Rattle.sweeps.proofs.SweepLaws.{swept-now}
+use Rattle.releases.proofs.SweepLaws.{swept-now}
 use borrow.Author.Needs.{needs}
-use Rattle.sweeps.proofs.sweep.Statement.{statement}
-use Rattle.sweeps.proofs.sweep.Tie as tie
+use Rattle.releases.proofs.sweep.Statement.{statement}
+use Rattle.releases.proofs.sweep.Tie as tie
 
 starting-now-requires : tie.Need-starting-now-requires
 starting-now-requires c κs = search needs

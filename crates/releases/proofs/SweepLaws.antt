@@ -15,7 +15,7 @@ use Rattle.definitions.specs.declared.State.{State}
 use Rattle.definitions.specs.declared.Status.the-variants.{Done}
 use Rattle.laws.proofs.Maps.{bits-below-lt}
 use Rattle.readiness.proofs.TableRows.{row-test, row-test-is}
-use Rattle.sweeps.specs.Sweeps.{Swept}
+use Rattle.releases.specs.Sweeps.{Swept}
 
 module _ (st : State) (table : List ℕ) where
   -- The operations below v have been looked at: the map and the start ticks are the definition's so far.

@@ -3,7 +3,7 @@ ghost use mathlib.Core.Path.{_≡_};
 ghost use Prim.Native.Nat.{_*_, _^_, _<_, _≤_};
 ghost use lib.ListN.{length};
 ghost use Rattle.definitions.specs.Dispatcher.{starting, start-ticks};
-ghost use Rattle.sweeps.specs.Sweeps.{Swept};
+ghost use Rattle.releases.specs.Sweeps.{Swept};
 use definitions::Dispatch;
 use definitions::State;
 use definitions::Status;

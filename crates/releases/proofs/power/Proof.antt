@@ -1,8 +1,8 @@
 -- One bit, shifted to its place.
 use borrow.Author.Needs.{needs}
 use Rattle.laws.proofs.Maps.{one-shl}
-use Rattle.sweeps.proofs.power.Statement.{statement}
-use Rattle.sweeps.proofs.power.Tie as tie
+use Rattle.releases.proofs.power.Statement.{statement}
+use Rattle.releases.proofs.power.Tie as tie
 
 shl-result : tie.Need-shl-result
 shl-result c = search needs

@@ -2,10 +2,10 @@
 use mathlib.Core.Path.{sym, _∙_}
 use mathlib.Core.Logic.{⊎-elim}
 use Prim.Native.Nat.{_-_}
-use Rattle.sweeps.proofs.SweepLaws.{SweptBelow, swept-none, swept-start, swept-over, swept-fits, swept-map, swept-ticks}
+use Rattle.releases.proofs.SweepLaws.{SweptBelow, swept-none, swept-start, swept-over, swept-fits, swept-map, swept-ticks}
 use borrow.Author.Needs.{needs}
-use Rattle.sweeps.proofs.starting_now.Statement.{statement}
-use Rattle.sweeps.proofs.starting_now.Tie as tie
+use Rattle.releases.proofs.starting_now.Statement.{statement}
+use Rattle.releases.proofs.starting_now.Tie as tie
 
 abbrev Inv-loop : tie.InvT-loop
 Inv-loop table st n clock started finished start₀ map₀ v₀ start map v = SweptBelow st table start map v
