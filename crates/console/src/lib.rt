@@ -1,9 +1,15 @@
 // Text for the test programs, put into a lent buffer that is written to standard output whenever it is full.
-// Each function takes the next position in the buffer and returns the one after.
+// Each function takes the next position in the buffer and returns the one after. What waits in the buffer is proved; that it is written out is tested, not proved, because no contract of io says what it writes.
 use definitions::Verdict;
+ghost use mathlib.Core.List.{[], _∷_};
+ghost use Rattle.definitions.specs.Numbers.{verdict-of};
+ghost use Rattle.definitions.specs.Output.{newline};
+ghost use Rattle.console.specs.Buffers.{Adds, number-text, verdict-text};
 
 // One byte.
-pub fn put(b: u8, out: &mut [u8], at: usize) -> usize {
+fn put(b: u8, out: &mut [u8], at: usize) -> usize
+    ensures { λ r. ⌜ Adds (b ∷ []) at r (now (out .entry)) (now (out .exit)) ⌝ }
+{
     if at < out.len() {
         out[at] = b;
         return at + 1;
@@ -16,7 +22,7 @@ pub fn put(b: u8, out: &mut [u8], at: usize) -> usize {
     0
 }
 
-// What is in the buffer.
+// Writes out what waits in the buffer.
 pub fn flush(out: &[u8], at: usize) {
     if at <= out.len() {
         io::write_all(libc::STDOUT_FILENO, &out[..at]);
@@ -24,7 +30,9 @@ pub fn flush(out: &[u8], at: usize) {
 }
 
 // The bytes of a word.
-pub fn put_word(word: &[u8], out: &mut [u8], at: usize) -> usize {
+pub fn put_word(word: &[u8], out: &mut [u8], at: usize) -> usize
+    ensures { λ r. ⌜ Adds (now (word .entry)) at r (now (out .entry)) (now (out .exit)) ⌝ }
+{
     let mut p = at;
     let mut i = 0;
     while i < word.len() {
@@ -35,24 +43,31 @@ pub fn put_word(word: &[u8], out: &mut [u8], at: usize) -> usize {
 }
 
 // A space, then a number.
-pub fn put_number(x: u64, out: &mut [u8], at: usize) -> usize {
+pub fn put_number(x: u64, out: &mut [u8], at: usize) -> usize
+    ensures { λ r. ⌜ Adds (number-text x) at r (now (out .entry)) (now (out .exit)) ⌝ }
+{
     let mut digits = [0u8; 20];
     let k = io::decimal(x, &mut digits);
     let p = put(b' ', out, at);
     put_word(&digits[..k], out, p)
 }
 
-pub fn put_newline(out: &mut [u8], at: usize) -> usize {
+// The end of a line.
+pub fn put_newline(out: &mut [u8], at: usize) -> usize
+    ensures { λ r. ⌜ Adds newline at r (now (out .entry)) (now (out .exit)) ⌝ }
+{
     put(b'\n', out, at)
 }
 
 // A space, then a verdict: its number, or `refused` and the refusal's number.
-pub fn put_verdict(verdict: Verdict, out: &mut [u8], at: usize) -> usize {
+pub fn put_verdict(verdict: Verdict, out: &mut [u8], at: usize) -> usize
+    ensures { λ r. ⌜ Adds (verdict-text (verdict-of verdict)) at r (now (out .entry)) (now (out .exit)) ⌝ }
+{
     match verdict {
         Verdict::WellPosed => put_number(0, out, at),
         Verdict::Serialized => put_number(1, out, at),
         Verdict::Refused(k) => {
-            let number = listing::refusal_number(k);
+            let number = numbers::refusal_number(k);
             let p = put_word(b" refused", out, at);
             put_number(number as u64, out, p)
         }

@@ -11,13 +11,14 @@ use borrow.Author.Tests.{ltb-false, leb-true, leb-false, lt-ltb, le-ltb, le-leb,
 use Rattle.definitions.specs.Basics.{test-bit, Outcome, given, refused, refuse-if}
 use Rattle.definitions.specs.Numbers.{number, status-of}
 use Rattle.definitions.specs.Answers.{bad-count, too-short}
-use Rattle.definitions.specs.Dispatcher.{Progress, starting, start-ticks, sweep, begun, not-running, fresh, with-source, begin, ticked, tick, cannot-finish, ended, finish, state-after, map-after, Returns}
+use Rattle.definitions.specs.Dispatcher.{Progress, sweep, begun, not-running, fresh, with-source, begin, ticked, tick, cannot-finish, ended, finish, state-after, map-after, Returns}
 use Rattle.definitions.specs.declared.State.{State}
 use Rattle.definitions.specs.declared.Dispatch.{Dispatch}
 use Rattle.definitions.specs.declared.Refusal.{Refusal}
 use Rattle.definitions.specs.declared.Status.the-variants.{Done, Refused}
 use Rattle.laws.proofs.Bools.{both-ways, and-split, or-left, or-right, not-passing}
-use Rattle.dispatcher.specs.Calls.{Swept, cannot-finish-in}
+use Rattle.releases.specs.Sweeps.{Swept}
+use Rattle.dispatcher.specs.Calls.{cannot-finish-in}
 
 -- A disjunction whose first part fails is its second; where it fails, both parts do.
 pub or-past : {a : Bool} (b : Bool) → a ≡ false → (a || b) ≡ b
@@ -135,12 +136,6 @@ swept-source {table = table} {r} S n e =
 -- What a sweep asks of the state that it is given.
 pub room : {next state : State} (size : ℕ) → next ≡ state → state .n ≤ 64 → state .n * state .n ≤ size → (next .n ≤ 64) × (next .n * next .n ≤ size)
 room size e h k = rw e (h, k)
-
--- The sweep's map and start ticks, put into the state.
-pub swept-now : (st : State) (table : List ℕ) {map : ℕ} {start : List ℕ} → map ≡ starting st table → start ≡ start-ticks st table (st .n) → Swept st table (record { status = Done; state = record { n = st .n; unbounded = st .unbounded; tick = st .tick; started = bitOr (st .started) map; finished = st .finished; start = start; finish = st .finish }; map = map })
-unfolding sweep
-swept-now st table m s =
-    record { status = refl; state = ap₂ (λ x y. record { n = st .n; unbounded = st .unbounded; tick = st .tick; started = bitOr (st .started) x; finished = st .finished; start = y; finish = st .finish }) m s; map = m }
 
 -- One bit more in the map of the finished.
 pub ended-now : (st : State) (s : ℕ) {p : ℕ} → p ≡ 2 ^ s → record { n = st .n; unbounded = st .unbounded; tick = st .tick; started = st .started; finished = bitOr (st .finished) p; start = st .start; finish = set (st .finish) s (st .tick) } ≡ ended st s

@@ -1,4 +1,2 @@
-pub mod RowLaws
-pub mod SweepLaws
 pub mod CallLaws
 pub mod Worked

@@ -1,135 +1,17 @@
-// The dispatcher: begins a run, moves its clock, takes finishes, and starts each operation when its row of the relative schedule is due.
+// The dispatcher: begins a run, moves its clock, takes finishes, and has each operation start when its row of the relative schedule is due.
 ghost use mathlib.Core.Path.{_≡_};
 ghost use mathlib.Core.Bool.{not, _||_};
-ghost use Prim.Native.Nat.{_*_, _^_, _<_, _≤_};
-ghost use lib.ListN.{length};
-ghost use Rattle.definitions.specs.Basics.{test-bit, Outcome, refused};
+ghost use Prim.Native.Nat.{_*_, _<_, _≤_};
+ghost use Rattle.definitions.specs.Basics.{test-bit, refused};
 ghost use Rattle.definitions.specs.Numbers.{number};
 ghost use Rattle.definitions.specs.Answers.{bad-count, too-short};
 ghost use Rattle.definitions.specs.Dispatcher as Dispatcher;
-ghost use Rattle.definitions.specs.Dispatcher.{starting, start-ticks, Returns};
-ghost use Rattle.dispatcher.specs.Rows.{due-in, row-ready, ready-in};
-ghost use Rattle.dispatcher.specs.Calls.{Swept, cannot-finish-in};
+ghost use Rattle.definitions.specs.Dispatcher.{Returns};
+ghost use Rattle.dispatcher.specs.Calls.{cannot-finish-in};
 use definitions::Dispatch;
 use definitions::Refusal;
 use definitions::State;
 use definitions::Status;
-
-// A number of 32 bits at 64 bits, where the sum of two fits.
-fn wide(x: u32) -> u64
-    ensures { λ r. ⌜ (r ≡ x) × (r < 4294967296) ⌝ }
-{
-    x as u64
-}
-
-// Whether the operation a, named with this offset, has finished and its offset has run out.
-fn is_due(finished: u64, finish: &[u32; 64], clock: u32, a: usize, offset: u32) -> bool
-    requires { ⌜ a < 64 ⌝ }
-    ensures { λ r. ⌜ r ≡ due-in finished (now (finish .entry)) clock a offset ⌝ }
-{
-    if !bitmaps::has(finished, a) {
-        return false;
-    }
-    wide(finish[a]) + wide(offset) <= wide(clock)
-}
-
-// Whether a row names some operation and each that it names is due. It stops at the first that is not.
-fn row_due(row: &[u32], finished: u64, finish: &[u32; 64], clock: u32) -> bool
-    requires { ⌜ length (now row) ≤ 64 ⌝ }
-    ensures { λ r. ⌜ r ≡ row-ready finished (now (finish .entry)) clock (now (row .entry)) (length (now (row .entry))) ⌝ }
-{
-    let mut named = false;
-    let mut a = 0;
-    while a < row.len() {
-        let offset = row[a];
-        if offset != 4294967295 {
-            named = true;
-            if !is_due(finished, finish, clock, a, offset) {
-                return false;
-            }
-        }
-        a += 1;
-    }
-    named
-}
-
-// Whether the operation v has not started and its row is due.
-fn is_ready(
-    table: &[u32],
-    n: usize,
-    v: usize,
-    started: u64,
-    finished: u64,
-    finish: &[u32; 64],
-    clock: u32,
-) -> bool
-    requires { ⌜ (n ≤ 64) × (v < n) × (n * n ≤ length (now table)) ⌝ }
-    ensures { λ r. ⌜ r ≡ ready-in started finished (now (finish .entry)) clock (now (table .entry)) n v ⌝ }
-{
-    if bitmaps::has(started, v) {
-        return false;
-    }
-    let at = v * n;
-    let end = at + n;
-    row_due(&table[at..end], finished, finish, clock)
-}
-
-// The map whose one member is k.
-fn power(k: usize) -> u64
-    requires { ⌜ k < 64 ⌝ }
-    ensures { λ r. ⌜ r ≡ 2 ^ k ⌝ }
-{
-    1 << k
-}
-
-// The operations that start now, and the start ticks with theirs in.
-struct Starting {
-    map: u64,
-    start: [u32; 64],
-}
-
-// One sweep over the operations that exist.
-fn starting_now(st: State, table: &[u32]) -> Starting
-    requires { ⌜ (st .n ≤ 64) × (st .n * st .n ≤ length (now table)) ⌝ }
-    ensures { λ r. ⌜ (r .map ≡ starting st (now (table .entry))) × (r .start ≡ start-ticks st (now (table .entry)) (st .n)) ⌝ }
-{
-    let n = st.n;
-    let clock = st.tick;
-    let started = st.started;
-    let finished = st.finished;
-    let mut start = st.start;
-    let mut map: u64 = 0;
-    let mut v = 0;
-    while v < n {
-        if is_ready(table, n, v, started, finished, &st.finish, clock) {
-            map += power(v);
-            start[v] = clock;
-        }
-        v += 1;
-    }
-    Starting {
-        map: map,
-        start: start,
-    }
-}
-
-// What follows each call that is not refused: every operation that is ready starts.
-fn sweep(st: State, table: &[u32]) -> Dispatch
-    requires { ⌜ (st .n ≤ 64) × (st .n * st .n ≤ length (now table)) ⌝ }
-    ensures { λ r. ⌜ Swept st (now (table .entry)) r ⌝ }
-{
-    let s = starting_now(st, table);
-    let map = s.map;
-    let start = s.start;
-    let mut next = st;
-    next.started = next.started | map;
-    next.start = start;
-    Dispatch {
-        status: Status::Done,
-        state: next,
-        map: map,
-    }
-}
 
 // A refusal: map 0 and the state as given.
 fn refusal(st: State, why: Refusal) -> Dispatch
@@ -223,7 +105,7 @@ fn ended(st: State, s: usize) -> State
 {
     let mut next = st;
     let clock = next.tick;
-    next.finished = next.finished | power(s);
+    next.finished = next.finished | (1 << s);
     next.finish[s] = clock;
     next
 }
@@ -241,7 +123,7 @@ pub fn begin(st: State, n: usize, unbounded: u64, table: &[u32]) -> Dispatch
     if is_short(table, n) {
         return refusal(st, Refusal::TooShort);
     }
-    let swept = sweep(fresh(n, unbounded), table);
+    let swept = releases::sweep(fresh(n, unbounded), table);
     let mut all = swept;
     all.map = 1 | all.map;
     all
@@ -260,7 +142,7 @@ pub fn tick(st: State, table: &[u32]) -> Dispatch
     if st.tick == 4294967295 {
         return refusal(st, Refusal::ClockEnd);
     }
-    sweep(ticked(st), table)
+    releases::sweep(ticked(st), table)
 }
 
 // Finish: the open operation s ends at this tick. Refuses 15, 14, 17, in this order.
@@ -276,5 +158,5 @@ pub fn finish(st: State, s: usize, table: &[u32]) -> Dispatch
     if not_finishable(st.n, st.unbounded, st.started, st.finished, s) {
         return refusal(st, Refusal::CannotFinish);
     }
-    sweep(ended(st, s), table)
+    releases::sweep(ended(st, s), table)
 }

@@ -2,18 +2,6 @@
 ghost use Prim.Native.Nat.{_<_};
 use definitions::Verdict;
 
-// A verdict as a number: 0 or 1, or 256 and the refusal's number.
-fn code(verdict: Verdict) -> u32 {
-    match verdict {
-        Verdict::WellPosed => 0,
-        Verdict::Serialized => 1,
-        Verdict::Refused(k) => {
-            let number = listing::refusal_number(k);
-            256 + number % 256
-        }
-    }
-}
-
 // The line of an example: its name, its number, what was answered, and whether document 01 says so.
 fn put_example(
     name: &[u8],
@@ -26,7 +14,7 @@ fn put_example(
     let p = console::put_word(name, out, at);
     let q = console::put_number(number, out, p);
     let r = console::put_verdict(verdict, out, q);
-    let answer = code(verdict);
+    let answer = numbers::verdict_code(verdict);
     if answer == expected {
         let s = console::put_word(b" as expected", out, r);
         return console::put_newline(out, s);

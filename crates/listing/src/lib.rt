@@ -1,39 +1,11 @@
 // The text that `standplan` prints of a sheet, formatted into a lent buffer: the plan where the sheet is accepted with waits allowed, else its refusal.
-use definitions::Refusal;
 use definitions::Verdict;
 ghost use mathlib.Core.Path.{_≡_};
 ghost use Prim.Native.Nat.{_≤_};
 ghost use lib.ListN.{length, getD};
-ghost use Rattle.definitions.specs.Numbers.{number};
 ghost use Rattle.definitions.specs.Output.{standplan};
 ghost use Rattle.printer.specs.Texts.{Printed, plan-room};
 ghost use Rattle.listing.specs.Plans.{Plans};
-
-// The refusal's number in document 01.
-pub fn refusal_number(k: Refusal) -> u32
-    ensures { λ r. ⌜ r ≡ number k ⌝ }
-{
-    match k {
-        Refusal::Truncated => 1,
-        Refusal::OperationCount => 2,
-        Refusal::LinkCount => 3,
-        Refusal::BadMap => 4,
-        Refusal::BadEndpoint => 5,
-        Refusal::BadOrder => 6,
-        Refusal::Trailing => 7,
-        Refusal::ForwardCycle => 8,
-        Refusal::Unreachable => 9,
-        Refusal::Infeasible => 10,
-        Refusal::Inconsistent => 11,
-        Refusal::WaitsNeeded => 12,
-        Refusal::BadDelays => 13,
-        Refusal::TooShort => 14,
-        Refusal::NotBegun => 15,
-        Refusal::AlreadyBegun => 16,
-        Refusal::CannotFinish => 17,
-        Refusal::ClockEnd => 18,
-    }
-}
 
 fn wide(x: u8) -> usize
     ensures { λ r. ⌜ r ≡ x ⌝ }
@@ -74,7 +46,7 @@ pub fn standplan(s: &[u8], out: &mut [u8]) -> usize
         Verdict::WellPosed => print_accepted(s, 0, &table, out),
         Verdict::Serialized => print_accepted(s, 1, &table, out),
         Verdict::Refused(k) => {
-            let number = refusal_number(k);
+            let number = numbers::refusal_number(k);
             printer::print_refusal(number, out)
         }
     }

@@ -1,13 +1,9 @@
 -- `boundary::standplan_judge` meets its contract: the planner's answer, as a number.
 use mathlib.Core.Path.{ap, _∙_}
-use Rattle.boundary.specs.Codes.{code}
+use Rattle.numbers.specs.Codes.{code}
 use borrow.Author.Needs.{needs}
 use Rattle.boundary.proofs.standplan_judge.Statement.{statement}
 use Rattle.boundary.proofs.standplan_judge.Tie as tie
-use Rattle.boundary.proofs.standplan_judge.Reads as reads
-use Rattle.boundary.proofs.standplan_judge.Lts as lts
-use Rattle.boundary.proofs.verdict_code.Reads as verdict-code-reads
-use Rattle.planner.proofs.judge.Reads as judge-reads
 
 judge-requires : tie.Need-judge-requires
 judge-requires c κs = search needs

@@ -1,13 +1,9 @@
 -- `boundary::standplan_plan` meets its contract: the planner's answer, as a number.
 use mathlib.Core.Path.{ap, _∙_}
-use Rattle.boundary.specs.Codes.{code}
+use Rattle.numbers.specs.Codes.{code}
 use borrow.Author.Needs.{needs}
 use Rattle.boundary.proofs.standplan_plan.Statement.{statement}
 use Rattle.boundary.proofs.standplan_plan.Tie as tie
-use Rattle.boundary.proofs.standplan_plan.Reads as reads
-use Rattle.boundary.proofs.standplan_plan.Lts as lts
-use Rattle.boundary.proofs.verdict_code.Reads as verdict-code-reads
-use Rattle.planner.proofs.plan.Reads as plan-reads
 
 plan-requires : tie.Need-plan-requires
 plan-requires c κs = search needs

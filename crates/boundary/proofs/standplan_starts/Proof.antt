@@ -1,13 +1,9 @@
 -- `boundary::standplan_starts` meets its contract: the planner's answer, as a number.
 use mathlib.Core.Path.{ap, _∙_}
-use Rattle.boundary.specs.Codes.{code}
+use Rattle.numbers.specs.Codes.{code}
 use borrow.Author.Needs.{needs}
 use Rattle.boundary.proofs.standplan_starts.Statement.{statement}
 use Rattle.boundary.proofs.standplan_starts.Tie as tie
-use Rattle.boundary.proofs.standplan_starts.Reads as reads
-use Rattle.boundary.proofs.standplan_starts.Lts as lts
-use Rattle.boundary.proofs.verdict_code.Reads as verdict-code-reads
-use Rattle.planner.proofs.starts.Reads as starts-reads
 
 starts-requires : tie.Need-starts-requires
 starts-requires c κs = search needs

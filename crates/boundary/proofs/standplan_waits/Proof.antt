@@ -1,13 +1,9 @@
 -- `boundary::standplan_waits` meets its contract: the planner's answer, as a number.
 use mathlib.Core.Path.{ap, _∙_}
-use Rattle.boundary.specs.Codes.{code}
+use Rattle.numbers.specs.Codes.{code}
 use borrow.Author.Needs.{needs}
 use Rattle.boundary.proofs.standplan_waits.Statement.{statement}
 use Rattle.boundary.proofs.standplan_waits.Tie as tie
-use Rattle.boundary.proofs.standplan_waits.Reads as reads
-use Rattle.boundary.proofs.standplan_waits.Lts as lts
-use Rattle.boundary.proofs.verdict_code.Reads as verdict-code-reads
-use Rattle.planner.proofs.waits.Reads as waits-reads
 
 waits-requires : tie.Need-waits-requires
 waits-requires c κs = search needs

@@ -4,9 +4,6 @@ use lib.ListN.{length}
 use borrow.Author.Needs.{needs}
 use Rattle.compare.proofs.occurrences.Statement.{statement}
 use Rattle.compare.proofs.occurrences.Tie as tie
-use Rattle.compare.proofs.occurrences.Reads as reads
-use Rattle.compare.proofs.occurrences.Lts as lts
-use Rattle.compare.proofs.same.Reads as same-reads
 
 abbrev Inv-loop : tie.InvT-loop
 Inv-loop x numbers k₀ i₀ k i = (i ≤ length numbers) × (k ≤ i)

@@ -5,10 +5,6 @@ use lib.ListN.{length}
 use borrow.Author.Needs.{needs}
 use Rattle.compare.proofs.put_lists.Statement.{statement}
 use Rattle.compare.proofs.put_lists.Tie as tie
-use Rattle.compare.proofs.put_lists.Reads as reads
-use Rattle.compare.proofs.put_lists.Lts as lts
-use Rattle.compare.proofs.put_starts.Reads as put-starts-reads
-use Rattle.compare.proofs.read_byte.Reads as read-byte-reads
 
 abbrev Inv-loop : tie.InvT-loop
 Inv-loop s out₀ at lists p₀ i₀ out p i = length out₀ ≡ length out

@@ -5,9 +5,6 @@ use lib.ListN.{length}
 use borrow.Author.Needs.{needs}
 use Rattle.compare.proofs.put_maps.Statement.{statement}
 use Rattle.compare.proofs.put_maps.Tie as tie
-use Rattle.compare.proofs.put_maps.Reads as reads
-use Rattle.compare.proofs.put_maps.Lts as lts
-use Rattle.compare.proofs.put_map.Reads as put-map-reads
 
 abbrev Inv-loop : tie.InvT-loop
 Inv-loop maps out₀ at p₀ i₀ out p i = length out₀ ≡ length out

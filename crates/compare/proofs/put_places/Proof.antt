@@ -5,9 +5,6 @@ use lib.ListN.{length}
 use borrow.Author.Needs.{needs}
 use Rattle.compare.proofs.put_places.Statement.{statement}
 use Rattle.compare.proofs.put_places.Tie as tie
-use Rattle.compare.proofs.put_places.Reads as reads
-use Rattle.compare.proofs.put_places.Lts as lts
-use Rattle.compare.proofs.put_place.Reads as put-place-reads
 
 abbrev Inv-loop : tie.InvT-loop
 Inv-loop numbers out₀ at p₀ i₀ out p i = length out₀ ≡ length out

@@ -4,9 +4,6 @@ use lib.Seq.{length-take-le}
 use borrow.Author.Needs.{needs}
 use Rattle.compare.proofs.put_plan_in.Statement.{statement}
 use Rattle.compare.proofs.put_plan_in.Tie as tie
-use Rattle.compare.proofs.put_plan_in.Reads as reads
-use Rattle.compare.proofs.put_plan_in.Lts as lts
-use Rattle.compare.proofs.put_plan_into.Reads as put-plan-into-reads
 
 slice-relend-prefix-put-plan-into : tie.Need-slice-relend-prefix-put-plan-into
 slice-relend-prefix-put-plan-into c = search needs

@@ -4,9 +4,6 @@ use lib.Seq.{length-take-le}
 use borrow.Author.Needs.{needs}
 use Rattle.compare.proofs.put_sheet_in.Statement.{statement}
 use Rattle.compare.proofs.put_sheet_in.Tie as tie
-use Rattle.compare.proofs.put_sheet_in.Reads as reads
-use Rattle.compare.proofs.put_sheet_in.Lts as lts
-use Rattle.compare.proofs.put_sheet_into.Reads as put-sheet-into-reads
 
 slice-relend-prefix-put-sheet-into : tie.Need-slice-relend-prefix-put-sheet-into
 slice-relend-prefix-put-sheet-into c = search needs

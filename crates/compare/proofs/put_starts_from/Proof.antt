@@ -4,9 +4,6 @@ use lib.Seq.{length-take-le}
 use borrow.Author.Needs.{needs}
 use Rattle.compare.proofs.put_starts_from.Statement.{statement}
 use Rattle.compare.proofs.put_starts_from.Tie as tie
-use Rattle.compare.proofs.put_starts_from.Reads as reads
-use Rattle.compare.proofs.put_starts_from.Lts as lts
-use Rattle.compare.proofs.put_starts_in.Reads as put-starts-in-reads
 
 slice-relend-prefix-put-starts-in : tie.Need-slice-relend-prefix-put-starts-in
 slice-relend-prefix-put-starts-in c = search needs

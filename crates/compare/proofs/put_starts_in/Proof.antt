@@ -4,9 +4,6 @@ use lib.Seq.{length-take-le}
 use borrow.Author.Needs.{needs}
 use Rattle.compare.proofs.put_starts_in.Statement.{statement}
 use Rattle.compare.proofs.put_starts_in.Tie as tie
-use Rattle.compare.proofs.put_starts_in.Reads as reads
-use Rattle.compare.proofs.put_starts_in.Lts as lts
-use Rattle.compare.proofs.put_starts_into.Reads as put-starts-into-reads
 
 slice-relend-prefix-put-starts-into : tie.Need-slice-relend-prefix-put-starts-into
 slice-relend-prefix-put-starts-into c = search needs

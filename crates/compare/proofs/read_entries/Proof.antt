@@ -5,9 +5,6 @@ use lib.ListN.{length}
 use borrow.Author.Needs.{needs}
 use Rattle.compare.proofs.read_entries.Statement.{statement}
 use Rattle.compare.proofs.read_entries.Tie as tie
-use Rattle.compare.proofs.read_entries.Reads as reads
-use Rattle.compare.proofs.read_entries.Lts as lts
-use Rattle.compare.proofs.read_entry.Reads as read-entry-reads
 
 abbrev Inv-loop : tie.InvT-loop
 Inv-loop list₀ i₀ list i = length list₀ ≡ length list

@@ -4,11 +4,6 @@ use lib.ListN.{length}
 use borrow.Author.Needs.{needs}
 use Rattle.compare.proofs.run.Statement.{statement}
 use Rattle.compare.proofs.run.Tie as tie
-use Rattle.compare.proofs.run.Reads as reads
-use Rattle.compare.proofs.run.Lts as lts
-use Rattle.compare.proofs.put_sheet.Reads as put-sheet-reads
-use Rattle.compare.proofs.read_number.Reads as read-number-reads
-use Rattle.console.proofs.flush.Reads as flush-reads
 
 abbrev Inv-loop : tie.InvT-loop
 Inv-loop out₀ at₀ turns₀ size₀ out at turns size = length out₀ ≡ length out

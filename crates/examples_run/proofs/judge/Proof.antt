@@ -4,9 +4,6 @@ use lib.Seq.{length-take-le}
 use borrow.Author.Needs.{needs}
 use Rattle.examples_run.proofs.judge.Statement.{statement}
 use Rattle.examples_run.proofs.judge.Tie as tie
-use Rattle.examples_run.proofs.judge.Reads as reads
-use Rattle.examples_run.proofs.judge.Lts as lts
-use Rattle.planner.proofs.judge.Reads as judge-reads
 
 slice-aggregate-judge : tie.Need-slice-aggregate-judge
 slice-aggregate-judge c = sym (length-take-le _ _ (c .before .if1 .taken))

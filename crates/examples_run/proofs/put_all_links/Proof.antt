@@ -5,9 +5,6 @@ use lib.ListN.{length}
 use borrow.Author.Needs.{needs}
 use Rattle.examples_run.proofs.put_all_links.Statement.{statement}
 use Rattle.examples_run.proofs.put_all_links.Tie as tie
-use Rattle.examples_run.proofs.put_all_links.Reads as reads
-use Rattle.examples_run.proofs.put_all_links.Lts as lts
-use Rattle.examples_run.proofs.put_links.Reads as put-links-reads
 
 abbrev Inv-loop : tie.InvT-loop
 Inv-loop n s₀ at p₀ i₀ s p i = length s₀ ≡ length s

@@ -5,9 +5,6 @@ use lib.ListN.{length}
 use borrow.Author.Needs.{needs}
 use Rattle.examples_run.proofs.put_links.Statement.{statement}
 use Rattle.examples_run.proofs.put_links.Tie as tie
-use Rattle.examples_run.proofs.put_links.Reads as reads
-use Rattle.examples_run.proofs.put_links.Lts as lts
-use Rattle.examples_run.proofs.put_link.Reads as put-link-reads
 
 abbrev Inv-loop : tie.InvT-loop
 Inv-loop i first n s₀ at p₀ j₀ s p j = length s₀ ≡ length s

@@ -5,9 +5,6 @@ use lib.ListN.{length}
 use borrow.Author.Needs.{needs}
 use Rattle.examples_run.proofs.put_steps.Statement.{statement}
 use Rattle.examples_run.proofs.put_steps.Tie as tie
-use Rattle.examples_run.proofs.put_steps.Reads as reads
-use Rattle.examples_run.proofs.put_steps.Lts as lts
-use Rattle.examples_run.proofs.put.Reads as put-reads
 
 abbrev Inv-loop : tie.InvT-loop
 Inv-loop n s₀ at p₀ v₀ s p v = length s₀ ≡ length s

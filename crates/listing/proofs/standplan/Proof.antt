@@ -12,7 +12,6 @@ use Rattle.listing.proofs.standplan.Tie as tie
 use Rattle.listing.proofs.standplan.Reads as reads
 use Rattle.listing.proofs.standplan.Lts as lts
 use Rattle.listing.proofs.print_accepted.Reads as print-accepted-reads
-use Rattle.listing.proofs.refusal_number.Reads as refusal-number-reads
 use Rattle.planner.proofs.plan.Reads as plan-reads
 use Rattle.printer.proofs.print_refusal.Reads as print-refusal-reads
 
@@ -74,7 +73,7 @@ returns-3 : tie.Need-returns-3
 returns-3 c =
     let a = c .before .before .before .before .before .before .before .before .before .before .before .before .before in
     let p = c .before .before .before .before .before .before .before .before .before .plan .ensures in
-    let k = c .before .before .before .before .refusal-number .ensures in
+    let k = c .before .before .before .before .refusal-number .ensures .0 in
     printed-as (ap refusal-text k ∙ plan-refuses (now (a .args .s)) (bytes-by (now (a .args .s)) (λ i. omega (arith, c .before .before .before .before .before .before .before .before .before .before .before .before .shared-slice-known .given i))) _ (search needs) (sym (ap verdict-of (c .before .before .before .before .before .before .verdict .given .1)) ∙ p .0)) (c .before .before .print-refusal .ensures)
 
 pub standplan-spec : {M : Type 1} → statement M

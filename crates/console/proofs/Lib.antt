@@ -1,0 +1,2 @@
+pub mod Buffering
+pub mod Digits

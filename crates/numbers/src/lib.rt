@@ -1,0 +1,56 @@
+// Document 01's numbers for the answers that are enums: refusals, verdicts and the status of a call.
+use definitions::Refusal;
+use definitions::Status;
+use definitions::Verdict;
+ghost use mathlib.Core.Path.{_≡_};
+ghost use Prim.Native.Nat.{_≤_};
+ghost use Rattle.definitions.specs.Dispatcher.{Progress};
+ghost use Rattle.definitions.specs.Numbers.{number, status-of, verdict-of};
+ghost use Rattle.numbers.specs.Codes.{call-code, code};
+
+// The refusal's number.
+pub fn refusal_number(k: Refusal) -> u32
+    ensures { λ r. ⌜ (r ≡ number k) × (r ≤ 18) ⌝ }
+{
+    match k {
+        Refusal::Truncated => 1,
+        Refusal::OperationCount => 2,
+        Refusal::LinkCount => 3,
+        Refusal::BadMap => 4,
+        Refusal::BadEndpoint => 5,
+        Refusal::BadOrder => 6,
+        Refusal::Trailing => 7,
+        Refusal::ForwardCycle => 8,
+        Refusal::Unreachable => 9,
+        Refusal::Infeasible => 10,
+        Refusal::Inconsistent => 11,
+        Refusal::WaitsNeeded => 12,
+        Refusal::BadDelays => 13,
+        Refusal::TooShort => 14,
+        Refusal::NotBegun => 15,
+        Refusal::AlreadyBegun => 16,
+        Refusal::CannotFinish => 17,
+        Refusal::ClockEnd => 18,
+    }
+}
+
+// A verdict: 0 or 1 where the sheet is accepted, 256 and the refusal's number where it is refused.
+pub fn verdict_code(verdict: Verdict) -> u32
+    ensures { λ r. ⌜ r ≡ code (verdict-of verdict) ⌝ }
+{
+    match verdict {
+        Verdict::WellPosed => 0,
+        Verdict::Serialized => 1,
+        Verdict::Refused(k) => 256 + refusal_number(k),
+    }
+}
+
+// A call's status: 0 where it went through, else 256 and the refusal's number.
+pub fn status_code(status: Status) -> u32
+    ensures { λ r. ⌜ ((g : Progress) → r ≡ call-code (status-of status g)) ⌝ }
+{
+    match status {
+        Status::Done => 0,
+        Status::Refused(k) => 256 + refusal_number(k),
+    }
+}
