@@ -35,9 +35,9 @@ same-length c = search needs
 
 returns-3 : tie.Need-returns-3
 returns-3 c shape gains =
-    let analysed = c .before .before .before .before .before .before .before .before .before .before .before .analyse .ensures shape in
-    let accepted = sym (c .before .before .before .before .before .before .before .before .before .before .accepted .ensures) ∙ not-false _ (c .before .before .before .before .before .before .before .before .before .if1 .left) in
-    plan-written analysed _ accepted (c .before .before .before .before .before .before .before .before .if2 .left) (c .before .before .write-plan .ensures (plannable analysed (search needs) shape gains accepted))
+    let analysed = c .before .before .before .before .before .before .before .before .before .before .before .before .before .analyse .ensures shape in
+    let accepted = sym (c .before .before .before .before .before .before .before .before .before .before .before .before .accepted .ensures) ∙ not-false _ (c .before .before .before .before .before .before .before .before .before .before .before .if1 .left) in
+    plan-written analysed _ accepted (c .before .before .before .before .before .before .before .before .before .before .if2 .left) (c .before .before .write-plan .ensures (plannable analysed (search needs) shape gains accepted))
 
 pub plan-edges-spec : {M : Type 1} → statement M
 plan-edges-spec =

@@ -45,10 +45,10 @@ same-length c = search needs
 
 returns-5 : tie.Need-returns-5
 returns-5 c shape gains os long map =
-    let analysed = c .before .before .before .before .before .before .before .before .before .before .before .before .before .before .analyse .ensures shape in
-    let accepted = sym (c .before .before .before .before .before .before .before .before .before .before .before .before .before .accepted .ensures) ∙ not-false _ (c .before .before .before .before .before .before .before .before .before .before .before .before .if1 .left) in
-    let right = sym (c .before .before .before .before .before .before .before .before .before .before .before .delays-bad .ensures .wrong os long map) ∙ c .before .before .before .before .before .before .before .before .before .before .if2 .left in
-    starts-written analysed os _ _ accepted right (c .before .before .before .before .before .before .before .before .before .if3 .left) (c .before .before .before .before .before .before .before .before .if4 .left)
+    let analysed = c .before .before .before .before .before .before .before .before .before .before .before .before .before .before .before .before .analyse .ensures shape in
+    let accepted = sym (c .before .before .before .before .before .before .before .before .before .before .before .before .before .before .before .accepted .ensures) ∙ not-false _ (c .before .before .before .before .before .before .before .before .before .before .before .before .before .before .if1 .left) in
+    let right = sym (c .before .before .before .before .before .before .before .before .before .before .before .before .before .delays-bad .ensures .wrong os long map) ∙ c .before .before .before .before .before .before .before .before .before .before .before .before .if2 .left in
+    starts-written analysed os _ _ accepted right (c .before .before .before .before .before .before .before .before .before .before .before .if3 .left) (c .before .before .before .before .before .before .before .before .before .before .if4 .left)
     (c .before .before .write-starts .ensures (plannable analysed (search needs) shape gains accepted) os long right)
 
 pub starts-edges-spec : {M : Type 1} → statement M

@@ -1,6 +1,5 @@
 -- `planning::write_plan` meets its contract: the tables that it makes hold the walks and anchor sets of the edges with the waits in.
 use borrow.Author.Needs.{needs}
-use Rattle.analysis.proofs.Judging.{shape-inside}
 use Rattle.planning.proofs.Tables.{plannable-holds}
 use Rattle.planning.proofs.write_plan.Statement.{statement}
 use Rattle.planning.proofs.write_plan.Tie as tie
@@ -25,7 +24,7 @@ same-length c = search needs
 returns : tie.Need-returns
 returns c p =
     c .before .before .fill-plan .ensures .plan _
-    (plannable-holds (search needs) p (c .before .before .before .before .before .before .before .walks .ensures (shape-inside (p .well .shape))) (c .before .before .before .before .before .before .with-source .ensures))
+    (plannable-holds (search needs) p (c .before .before .before .before .before .before .before .walks .ensures) (c .before .before .before .before .before .before .with-source .ensures))
 
 pub write-plan-spec : {M : Type 1} → statement M
 write-plan-spec =

@@ -2,7 +2,6 @@
 use borrow.Author.Needs.{needs}
 use Prim.Native.Nat.{_≤_}
 use Rattle.starts.proofs.Accepted.{plan-starts-fit}
-use Rattle.analysis.proofs.Judging.{shape-inside}
 use Rattle.planning.proofs.Tables.{plannable-holds}
 use Rattle.planning.proofs.write_starts.Statement.{statement}
 use Rattle.planning.proofs.write_starts.Tie as tie
@@ -28,7 +27,7 @@ returns : tie.Need-returns
 returns c p os long right =
     let few : c .before .before .before .before .before .before .before .before .before .before .before .args .n ≤ 64 = search needs in
     c .before .before .fill-starts .ensures .times _
-    (plannable-holds few p (c .before .before .before .before .before .before .before .walks .ensures (shape-inside (p .well .shape))) (c .before .before .before .before .before .before .with-source .ensures))
+    (plannable-holds few p (c .before .before .before .before .before .before .before .walks .ensures) (c .before .before .before .before .before .before .with-source .ensures))
     (plan-starts-fit (p .well) (p .gains) few os _ long (search needs) right)
 
 pub write-starts-spec : {M : Type 1} → statement M
