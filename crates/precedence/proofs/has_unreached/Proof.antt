@@ -1,4 +1,4 @@
--- `anchors::has_unreached` meets its contract. Invariant: every step below v is step 0 or comes after it.
+-- `precedence::has_unreached` meets its contract. Invariant: every step below v is step 0 or comes after it.
 use mathlib.Core.Path.{_≡_, refl, sym, ap₂, _∙_}
 use mathlib.Core.Bool.{Bool, true, false, not, _||_}
 use Prim.Native.Nat.{ℕ, _-_, _≤_}
@@ -9,11 +9,11 @@ use Rattle.definitions.specs.Basics.{any-below}
 use Rattle.laws.proofs.Searches.{any-below-more, any-below-nothing}
 use Rattle.laws.proofs.Tests.{any-below-by, any-below-none, none-any-below}
 use Rattle.relations.specs.Rows.{row-bit}
-use Rattle.anchors.proofs.Travelling.{unreached-by}
+use Rattle.precedence.proofs.Travelling.{unreached-by}
 use native.Mathlib.Omega.{arith}
 use borrow.Author.Needs.{needs}
-use Rattle.anchors.proofs.has_unreached.Statement.{statement}
-use Rattle.anchors.proofs.has_unreached.Tie as tie
+use Rattle.precedence.proofs.has_unreached.Statement.{statement}
+use Rattle.precedence.proofs.has_unreached.Tie as tie
 
 -- v is not step 0, and does not come after it
 abbrev lost : List ℕ → ℕ → Bool

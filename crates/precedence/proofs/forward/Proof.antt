@@ -1,14 +1,14 @@
--- `anchors::forward` meets its contract: closing the direct predecessors gives the chains.
+-- `precedence::forward` meets its contract: closing the direct predecessors gives the chains.
 use Prim.Native.Nat.{ℕ}
 use mathlib.Core.List.{List}
 use mathlib.Core.Path.{subst}
 use Rattle.closure.specs.Chains.{Closure}
 use Rattle.relations.proofs.Gathering.{gathered-unique}
-use Rattle.anchors.specs.Chains.{precedes}
-use Rattle.anchors.proofs.Travelling.{closed-by}
+use Rattle.precedence.specs.Chains.{precedes}
+use Rattle.precedence.proofs.Travelling.{closed-by}
 use borrow.Author.Needs.{needs}
-use Rattle.anchors.proofs.forward.Statement.{statement}
-use Rattle.anchors.proofs.forward.Tie as tie
+use Rattle.precedence.proofs.forward.Statement.{statement}
+use Rattle.precedence.proofs.forward.Tie as tie
 
 predecessors-requires : tie.Need-predecessors-requires
 predecessors-requires c κs = search needs

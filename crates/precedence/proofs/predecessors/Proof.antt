@@ -1,17 +1,16 @@
--- `anchors::predecessors` meets its contract. Invariant: the rows hold what the words passed over say.
-use mathlib.Core.Path.{sym, ap}
-use mathlib.Core.Bool.{not, _&&_}
-use Prim.Native.Nat.{ℕ, _-_, _≤_}
-use lib.Dec.{eqb}
-use lib.ListN.{length, getD, take}
+-- `precedence::predecessors` meets its contract. Invariant: the rows hold what the words passed over say.
+use mathlib.Core.Path.{ap}
+use mathlib.Core.Bool.{not}
+use Prim.Native.Nat.{_-_, _≤_}
+use lib.ListN.{length, take}
 use Rattle.edges.specs.Words.{unpack, graph}
 use Rattle.relations.specs.Rows.{Gathered}
-use Rattle.relations.proofs.Gathering.{pass-none, pass-more, pass-all}
-use Rattle.anchors.specs.Chains.{precedes}
+use Rattle.relations.proofs.Gathering.{pass-none, relate-more, pass-all}
+use Rattle.precedence.specs.Chains.{precedes}
 use native.Mathlib.Omega.{arith}
 use borrow.Author.Needs.{needs}
-use Rattle.anchors.proofs.predecessors.Statement.{statement}
-use Rattle.anchors.proofs.predecessors.Tie as tie
+use Rattle.precedence.proofs.predecessors.Statement.{statement}
+use Rattle.precedence.proofs.predecessors.Tie as tie
 
 abbrev Inv-loop : tie.InvT-loop
 Inv-loop es rows₀ i₀ rows i = (i ≤ length es) × Gathered precedes (graph (take i es)) rows
@@ -32,14 +31,20 @@ shared-slice-read-w c = search needs
 edge-to-requires : tie.Need-edge-to-requires Inv-loop μ-loop
 edge-to-requires c κs = search needs
 
-mul-with-predecessor : tie.Need-mul-with-predecessor Inv-loop μ-loop
-mul-with-predecessor c = search needs
+edge-from-requires : tie.Need-edge-from-requires Inv-loop μ-loop
+edge-from-requires c κs = search needs
 
-array-read-with-predecessor : tie.Need-array-read-with-predecessor Inv-loop μ-loop
-array-read-with-predecessor c = search needs
+is-back-requires : tie.Need-is-back-requires Inv-loop μ-loop
+is-back-requires c κs = search needs
 
-with-predecessor-requires : tie.Need-with-predecessor-requires Inv-loop μ-loop
-with-predecessor-requires c κs = search needs
+mul-insert-if : tie.Need-mul-insert-if Inv-loop μ-loop
+mul-insert-if c = search needs
+
+array-read-insert-if : tie.Need-array-read-insert-if Inv-loop μ-loop
+array-read-insert-if c = search needs
+
+insert-if-requires : tie.Need-insert-if-requires Inv-loop μ-loop
+insert-if-requires c κs = search needs
 
 mul-rows : tie.Need-mul-rows Inv-loop μ-loop
 mul-rows c = search needs
@@ -56,11 +61,11 @@ loop-less c = search needs
 loop-again : tie.Need-loop-again Inv-loop μ-loop
 unfolding graph
 loop-again c =
-    let s = c .before .before .before .before in
-    let es = s .before .before .args .es .now in
-    let e = unpack (getD es (s .loop .i) 0) in (
+    let s = c .before .before .before .before .before .before in
+    let to = c .before .before .before .edge-to in
+    let from = c .before .before .edge-from in (
       omega arith,
-      pass-more precedes unpack es (s .loop .i) 0 (c .before .edge-to .result) (c .with-predecessor .result) (λ k. not (e .back) && eqb k (e .from)) (search needs) (s .loop .inv .1) (c .before .edge-to .ensures .1) (c .with-predecessor .ensures) (λ w k. ap (λ (x : ℕ). eqb w x && (not (e .back) && eqb k (e .from))) (sym (c .before .edge-to .ensures .0))),
+      relate-more (λ e. e .to) (λ e. e .from) (λ e. not (e .back)) unpack (s .before .before .args .es .now) (s .loop .i) 0 (c .insert-if .result) (search needs) (s .loop .inv .1) (to .ensures .0) (to .ensures .1) (from .ensures .0) (ap not (c .before .is-back .ensures)) (c .insert-if .ensures),
     )
 
 returns : tie.Need-returns Inv-loop μ-loop
@@ -77,9 +82,11 @@ predecessors-spec =
     mul-w
     shared-slice-read-w
     edge-to-requires
-    mul-with-predecessor
-    array-read-with-predecessor
-    with-predecessor-requires
+    edge-from-requires
+    is-back-requires
+    mul-insert-if
+    array-read-insert-if
+    insert-if-requires
     mul-rows
     array-write-rows
     add-i

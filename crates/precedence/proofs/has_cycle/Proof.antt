@@ -1,9 +1,9 @@
--- `anchors::has_cycle` meets its contract: a loop of the closed rows is a circle.
+-- `precedence::has_cycle` meets its contract: a loop of the closed rows is a circle.
 use mathlib.Core.Path.{_∙_}
-use Rattle.anchors.proofs.Travelling.{loop-is-circle}
+use Rattle.precedence.proofs.Travelling.{loop-is-circle}
 use borrow.Author.Needs.{needs}
-use Rattle.anchors.proofs.has_cycle.Statement.{statement}
-use Rattle.anchors.proofs.has_cycle.Tie as tie
+use Rattle.precedence.proofs.has_cycle.Statement.{statement}
+use Rattle.precedence.proofs.has_cycle.Tie as tie
 
 has-loop-requires : tie.Need-has-loop-requires
 has-loop-requires c κs = search needs
