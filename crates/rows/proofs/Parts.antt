@@ -17,7 +17,7 @@ use Rattle.definitions.specs.declared.Status.{Status}
 use Rattle.definitions.specs.declared.Status.the-variants as Statuses
 use Rattle.laws.proofs.Bools.{and-split}
 use Rattle.laws.proofs.Outcomes.{refuse-given}
-use Rattle.planner.specs.Answers.{part-of}
+use Rattle.rows.specs.Answers.{part-of}
 
 module _ (table : List ℕ) (n v : ℕ) where
   pub row-none : n ≡ 0 → row-answer table n v ≡ refused 2

@@ -1,12 +1,13 @@
--- `planner::row_status` meets its contract: the tests of the code are those of the definition, one by one.
+-- `rows::row_status` meets its contract: the tests of the code are those of the definition, one by one.
+use Prim.Native.Nat.{_≤_}
 use native.Mathlib.Omega.{arith}
 use denote.Ref.{now}
-use Rattle.analysis.proofs.Writing.{square-small}
-use Rattle.planner.proofs.Parts.{row-none, row-many, row-outside, row-short, row-there}
-use Rattle.planner.proofs.row_status.Statement.{statement}
-use Rattle.planner.proofs.row_status.Tie as tie
-use Rattle.planner.proofs.row_status.Reads as reads
-use Rattle.planner.proofs.row_status.Lts as lts
+use native.Mathlib.Nat.{mul-le-mul}
+use Rattle.rows.proofs.Parts.{row-none, row-many, row-outside, row-short, row-there}
+use Rattle.rows.proofs.row_status.Statement.{statement}
+use Rattle.rows.proofs.row_status.Tie as tie
+use Rattle.rows.proofs.row_status.Reads as reads
+use Rattle.rows.proofs.row_status.Lts as lts
 
 returns : tie.Need-returns
 returns c = rw (row-none (now (c .before .args .table)) _ (c .before .args .v) (c .if1 .taken))
@@ -20,7 +21,9 @@ returns-3 c =
     rw (row-outside (now (a .table)) (a .n) (a .v) (omega arith) (omega arith) (c .if3 .taken))
 
 mul-size : tie.Need-mul-size
-mul-size c = record { fits = omega (arith, square-small (c .before .before .before .args .n) (omega arith)) }
+mul-size c =
+    let few : c .before .before .before .args .n ≤ 64 = omega arith in
+    record { fits = omega (arith, mul-le-mul few few) }
 
 returns-4 : tie.Need-returns-4
 returns-4 c =

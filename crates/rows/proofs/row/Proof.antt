@@ -1,15 +1,15 @@
--- `planner::row` meets its contract.
+-- `rows::row` meets its contract.
 use mathlib.Core.Path.{sym}
 use native.Mathlib.Omega.{arith}
 use denote.Ref.{now}
 use borrow.Author.Needs.{needs}
-use Rattle.analysis.proofs.Writing.{square-small}
-use Rattle.planner.proofs.Parts.{row-done, row-refused, asked-part, row-end}
-use Rattle.planner.proofs.row.Statement.{statement}
-use Rattle.planner.proofs.row.Tie as tie
-use Rattle.planner.proofs.row.Reads as reads
-use Rattle.planner.proofs.row.Lts as lts
-use Rattle.planner.proofs.row_status.Reads as row-status-reads
+use native.Mathlib.Nat.{mul-le-mul}
+use Rattle.rows.proofs.Parts.{row-done, row-refused, asked-part, row-end}
+use Rattle.rows.proofs.row.Statement.{statement}
+use Rattle.rows.proofs.row.Tie as tie
+use Rattle.rows.proofs.row.Reads as reads
+use Rattle.rows.proofs.row.Lts as lts
+use Rattle.rows.proofs.row_status.Reads as row-status-reads
 
 row-status-requires : tie.Need-row-status-requires
 row-status-requires c κs = search needs
@@ -21,19 +21,19 @@ mul-start : tie.Need-mul-start
 mul-start c =
     let a = c .before .before .before .before .args in
     let r = row-done (now (a .table)) (a .n) (a .v) _ (c .before .before .row-status .ensures) (c .enum-told .given .1) in
-    record { fits = omega (arith, r .few, row-end (a .n) (a .v) (r .inside), square-small (a .n) (r .few)) }
+    record { fits = omega (arith, r .few, row-end (a .n) (a .v) (r .inside), mul-le-mul (r .few) (r .few)) }
 
 add-end : tie.Need-add-end
 add-end c =
     let a = c .before .before .before .before .args in
     let r = row-done (now (a .table)) (a .n) (a .v) _ (c .before .before .row-status .ensures) (c .enum-told .given .1) in
-    record { fits = omega (arith, r .few, row-end (a .n) (a .v) (r .inside), square-small (a .n) (r .few)) }
+    record { fits = omega (arith, r .few, row-end (a .n) (a .v) (r .inside), mul-le-mul (r .few) (r .few)) }
 
 mul-result : tie.Need-mul-result
 mul-result c =
     let a = c .before .before .before .before .args in
     let r = row-done (now (a .table)) (a .n) (a .v) _ (c .before .before .row-status .ensures) (c .enum-told .given .1) in
-    record { fits = omega (arith, r .few, row-end (a .n) (a .v) (r .inside), square-small (a .n) (r .few)) }
+    record { fits = omega (arith, r .few, row-end (a .n) (a .v) (r .inside), mul-le-mul (r .few) (r .few)) }
 
 sub-result : tie.Need-sub-result
 sub-result c = search needs
