@@ -1,1 +1,1 @@
-pub mod Travelling
+pub mod Members

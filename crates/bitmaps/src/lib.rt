@@ -23,6 +23,17 @@ pub fn insert(m: u64, k: usize) -> u64
     m | (1 << k)
 }
 
+// With k as a member where that is asked for.
+pub fn insert_if(m: u64, k: usize, wanted: bool) -> u64
+    requires { ⌜ k < 64 ⌝ }
+    ensures { λ r. ⌜ ((j : ℕ) → test-bit r j ≡ (test-bit m j || (wanted && eqb j k))) ⌝ }
+{
+    if wanted {
+        return insert(m, k);
+    }
+    m
+}
+
 // Without k as a member.
 pub fn remove(m: u64, k: usize) -> u64
     requires { ⌜ k < 64 ⌝ }

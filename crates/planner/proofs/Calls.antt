@@ -24,15 +24,15 @@ use Rattle.links.specs.Sheets.{Listed}
 use Rattle.edges.specs.Words.{graph}
 use Rattle.reader.specs.Answers.{Reports}
 use Rattle.reader.proofs.Reports.{Holds, report-given}
-use Rattle.schedule.specs.Delays.{unbounded-at}
+use Rattle.delays.specs.Delays.{unbounded-at}
 use Rattle.theory.specs.Graphs.{Gains, Shape}
 use Rattle.analysis.specs.declared.Analysis.{Analysis}
 use Rattle.planner.specs.declared.WaitMaps.{WaitMaps}
 use Rattle.analysis.specs.Analysis.{Analysed}
-use Rattle.analysis.specs.Outcomes.{plan-outcome, starts-outcome}
+use Rattle.planning.specs.Outcomes.{plan-outcome, starts-outcome}
 use Rattle.planner.specs.Answers.{Lists}
 use Rattle.planner.proofs.Held.{by-held, held-count, held-gains, held-shape, held-steps}
-use Rattle.analysis.proofs.Writing.{Answered}
+use Rattle.planning.proofs.Writing.{Answered}
 
 -- The elements of a list of bytes are below 256, from each place.
 pub bytes-by : (s : List ℕ) → ((i : ℕ) → getD s i 0 < 256) → Bytes s

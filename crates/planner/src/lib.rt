@@ -1,24 +1,22 @@
-// The planner's library over bytes: judging a sheet, listing its waits, planning it, working out start times, and a row of a plan.
+// The planner's library over bytes: judging a sheet, listing its waits, planning it, working out start times. The crate rows has a row of a plan.
 // Each answer is that of the definitions, for every input.
 use analysis::Analysis;
 use analysis::analyse;
-use analysis::plan_edges;
-use analysis::starts_edges;
+use planning::plan_edges;
+use planning::starts_edges;
 use definitions::Reading;
-use definitions::Refusal;
 use definitions::Sheet;
-use definitions::Status;
 use definitions::Verdict;
 ghost use mathlib.Core.Path.{_≡_};
 ghost use Prim.Native.Nat.{_≤_};
-ghost use Rattle.definitions.specs.Answers.{count-of, edges-of, judged, plan-verdict, planned, row-answer, serialized-of, starts-answer, starts-verdict, waits-answer, written};
+ghost use Rattle.definitions.specs.Answers.{count-of, edges-of, judged, plan-verdict, planned, serialized-of, starts-answer, starts-verdict, waits-answer, written};
 ghost use Rattle.definitions.specs.Basics.{given};
 ghost use Rattle.definitions.specs.Bytes.{Records, held};
-ghost use Rattle.definitions.specs.Numbers.{status-of, verdict-of};
+ghost use Rattle.definitions.specs.Numbers.{verdict-of};
 ghost use Rattle.definitions.specs.Plan.{delays, plan-table, start-times};
 ghost use Rattle.demands.proofs.Reading.{Fits};
 ghost use Rattle.analysis.specs.Analysis.{Analysed};
-ghost use Rattle.planner.specs.Answers.{Lists, part-of};
+ghost use Rattle.planner.specs.Answers.{Lists};
 
 // The waits of a sheet, bit a of map i, and their count, beside the verdict: none on a refusal.
 pub struct WaitMaps {
@@ -57,7 +55,7 @@ fn starts_sheet(sheet: Sheet, allow: bool, list: &[u32], out: &mut [u32]) -> Ver
 {
     let n = sheet.n;
     let operations = sheet.operations;
-    let unbounded = schedule::unbounded_map(operations, n);
+    let unbounded = delays::unbounded_map(operations, n);
     let e = links::edges_of(sheet);
     let words = e.words;
     let count = e.count;
@@ -138,41 +136,5 @@ pub fn starts(s: &[u8], allow: bool, list: &[u32], out: &mut [u32]) -> Verdict
             let sheet = report.sheet;
             starts_sheet(sheet, allow, list, out)
         }
-    }
-}
-
-// ---- a row of a plan
-
-// Whether row v of a plan for n steps can be handed back, or the refusal: 2, 5, 14.
-pub fn row_status(table: &[u32], n: usize, v: usize) -> Status
-    ensures { λ r. ⌜ status-of r (part-of (row-answer (now (table .entry)) n v)) ≡ row-answer (now (table .entry)) n v ⌝ }
-{
-    if n == 0 {
-        return Status::Refused(Refusal::OperationCount);
-    }
-    if 64 < n {
-        return Status::Refused(Refusal::OperationCount);
-    }
-    if n <= v {
-        return Status::Refused(Refusal::BadEndpoint);
-    }
-    let size = n * n;
-    if table.len() < size {
-        return Status::Refused(Refusal::TooShort);
-    }
-    Status::Done
-}
-
-// Row v of a plan for n steps: that part of the caller's table, or the empty part where it is refused.
-pub fn row<'a>(table: &'a [u32], n: usize, v: usize) -> &'a [u32]
-    ensures { λ r. ⌜ now r ≡ part-of (row-answer (now (table .entry)) n v) ⌝ }
-{
-    match row_status(table, n, v) {
-        Status::Done => {
-            let start = v * n;
-            let end = start + n;
-            &table[start..end]
-        }
-        Status::Refused(_) => &table[0..0],
     }
 }

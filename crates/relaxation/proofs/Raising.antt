@@ -53,14 +53,6 @@ module _ (v a c : ℕ) (d : List (List ℕ)) (S : Square d) where
   pub raised-kept : c ≤ entry d v a → Raised v a c d d false
   raised-kept l = record { square = S; here = omega arith; other = λ w b o. refl; kept = λ q. refl }
 
--- A map with a member where it is to be.
-pub member-put : (x b y : Bool) → b ≡ true → (x || y) ≡ (x || (b && y))
-member-put x b y h = ap (λ (c : Bool). x || (c && y)) (sym h)
-
-pub member-left : (x b y : Bool) → b ≡ false → x ≡ (x || (b && y))
-member-left true b y h = refl
-member-left false b y h = sym (ap (λ (c : Bool). c && y) h)
-
 -- An extended walk, by cases of the code.
 pub extend-none : (c g l : ℕ) → c ≡ 0 → 0 ≡ min (extend c g l) 4294967295
 unfolding extend

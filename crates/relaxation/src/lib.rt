@@ -4,11 +4,8 @@ use edges::edge_gain;
 use edges::edge_loss;
 use edges::edge_to;
 ghost use mathlib.Core.Path.{_≡_};
-ghost use mathlib.Core.Bool.{_&&_, _||_};
-ghost use Prim.Native.Nat.{ℕ, _<_, min};
-ghost use lib.Dec.{eqb};
+ghost use Prim.Native.Nat.{_<_, min};
 ghost use lib.ListN.{length};
-ghost use Rattle.definitions.specs.Basics.{test-bit};
 ghost use Rattle.definitions.specs.Links.{Edge};
 ghost use Rattle.definitions.specs.Rounds.{extend};
 ghost use Rattle.edges.specs.Words.{unpack};
@@ -44,17 +41,6 @@ pub fn raise(d: &mut [[u32; 64]; 64], v: usize, a: usize, c: u32) -> bool
     false
 }
 
-// The map with a in it, where it is to be.
-fn with_member(m: u64, a: usize, stands: bool) -> u64
-    requires { ⌜ a < 64 ⌝ }
-    ensures { λ r. ⌜ ((j : ℕ) → test-bit r j ≡ (test-bit m j || (stands && eqb j a))) ⌝ }
-{
-    if stands {
-        return bitmaps::insert(m, a);
-    }
-    m
-}
-
 // One edge for the anchors in m; the anchors whose cells grew.
 fn relax(d: &mut [[u32; 64]; 64], from: usize, to: usize, gain: u64, loss: u64, m: u64) -> u64
     requires { ⌜ (from < 64) × (to < 64) × (gain < 16777216) × Square (now d) ⌝ }
@@ -66,7 +52,7 @@ fn relax(d: &mut [[u32; 64]; 64], from: usize, to: usize, gain: u64, loss: u64, 
         let a = bitmaps::lowest(left);
         let c = extended(d[from][a], gain, loss);
         let grew = raise(d, to, a, c);
-        moved = with_member(moved, a, grew);
+        moved = bitmaps::insert_if(moved, a, grew);
         left = bitmaps::remove(left, a);
     }
     moved

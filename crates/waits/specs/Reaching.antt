@@ -8,7 +8,7 @@ use Rattle.definitions.specs.Links.{Edge, members, usable}
 use Rattle.definitions.specs.Rounds.{after-reaches}
 use Rattle.relations.specs.Rows.{row-bit}
 use Rattle.theory.specs.Graphs.{Shape}
-use Rattle.anchors.specs.Chains.{AnchorSets}
+use Rattle.anchors.specs.Sets.{AnchorSets}
 
 -- Bit a of row v: a walk that begins with a counted edge out of a reaches v.
 pub record Reaches (n : ℕ) (g : List Edge) (rows : List ℕ) : Type 0 where

@@ -1,11 +1,11 @@
 -- `anchors::anchor_row` meets its contract. Invariant: the row holds the anchors below a.
 use mathlib.Core.Path.{_≡_, ap, _∙_}
-use mathlib.Core.Bool.{_&&_}
+use mathlib.Core.Bool.{Bool, _&&_, _||_}
 use Prim.Native.Nat.{ℕ, _-_, _≤_}
-use lib.Dec.{ltb}
+use lib.Dec.{eqb, ltb}
 use Rattle.definitions.specs.Basics.{test-bit}
 use Rattle.relations.proofs.Gathering.{made-none, made-more}
-use Rattle.anchors.specs.Chains.{anchors-to}
+use Rattle.anchors.specs.Sets.{anchors-to}
 use native.Mathlib.Omega.{arith}
 use borrow.Author.Needs.{needs}
 use Rattle.anchors.proofs.anchor_row.Statement.{statement}
@@ -20,14 +20,17 @@ abbrev μ-loop : tie.MeasureT-loop
 loop-holds : tie.Need-loop-holds Inv-loop μ-loop
 loop-holds c = (omega arith, made-none (anchors-to (c .args .targets .now) (test-bit (c .args .before))))
 
-mul-with-anchor : tie.Need-mul-with-anchor Inv-loop μ-loop
-mul-with-anchor c = search needs
+mul-is-anchor : tie.Need-mul-is-anchor Inv-loop μ-loop
+mul-is-anchor c = search needs
 
-element-copy-out-with-anchor : tie.Need-element-copy-out-with-anchor Inv-loop μ-loop
-element-copy-out-with-anchor c = search needs
+element-copy-out-is-anchor : tie.Need-element-copy-out-is-anchor Inv-loop μ-loop
+element-copy-out-is-anchor c = search needs
 
-with-anchor-requires : tie.Need-with-anchor-requires Inv-loop μ-loop
-with-anchor-requires c κs = search needs
+is-anchor-requires : tie.Need-is-anchor-requires Inv-loop μ-loop
+is-anchor-requires c κs = search needs
+
+insert-if-requires : tie.Need-insert-if-requires Inv-loop μ-loop
+insert-if-requires c κs = search needs
 
 add-a : tie.Need-add-a Inv-loop μ-loop
 add-a c = search needs
@@ -37,9 +40,10 @@ loop-less c = search needs
 
 loop-again : tie.Need-loop-again Inv-loop μ-loop
 loop-again c =
-    let s = c .before .before .before in (
+    let s = c .before .before .before .before in
+    let P = anchors-to (s .before .args .targets .now) (test-bit (s .before .args .before)) in (
       omega arith,
-      made-more (anchors-to (s .before .args .targets .now) (test-bit (s .before .args .before))) (s .loop .row) (c .with-anchor .result) (s .loop .a) (s .loop .inv .1) (c .with-anchor .ensures),
+      made-more P (s .loop .row) (c .insert-if .result) (s .loop .a) (s .loop .inv .1) (λ k. c .insert-if .ensures k ∙ ap (λ (b : Bool). test-bit (s .loop .row) k || (b && eqb k (s .loop .a))) (c .before .is-anchor .ensures)),
     )
 
 returns : tie.Need-returns Inv-loop μ-loop
@@ -54,9 +58,10 @@ anchor-row-spec =
     Inv-loop
     μ-loop
     loop-holds
-    mul-with-anchor
-    element-copy-out-with-anchor
-    with-anchor-requires
+    mul-is-anchor
+    element-copy-out-is-anchor
+    is-anchor-requires
+    insert-if-requires
     add-a
     loop-less
     loop-again

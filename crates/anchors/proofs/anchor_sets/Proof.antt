@@ -6,8 +6,8 @@ use Prim.Native.Nat.{ℕ, _-_, _≤_}
 use lib.Dec.{ltb}
 use Rattle.relations.specs.Rows.{row-bit}
 use Rattle.relations.proofs.Gathering.{Made, made-no-row, made-row}
-use Rattle.anchors.specs.Chains.{anchors-to, at-or-before}
-use Rattle.anchors.proofs.Travelling.{anchors-same, sets-by}
+use Rattle.anchors.specs.Sets.{anchors-to, at-or-before}
+use Rattle.anchors.proofs.Members.{anchors-same, sets-by}
 use native.Mathlib.Omega.{arith}
 use borrow.Author.Needs.{needs}
 use Rattle.anchors.proofs.anchor_sets.Statement.{statement}

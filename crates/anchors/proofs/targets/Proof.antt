@@ -1,13 +1,10 @@
 -- `anchors::targets` meets its contract. Invariant: the rows hold what the words passed over say.
-use mathlib.Core.Path.{sym, ap}
-use mathlib.Core.Bool.{_&&_}
-use Prim.Native.Nat.{ℕ, _-_, _≤_}
-use lib.Dec.{eqb}
-use lib.ListN.{length, getD, take}
+use Prim.Native.Nat.{_-_, _≤_}
+use lib.ListN.{length, take}
 use Rattle.edges.specs.Words.{unpack, graph}
 use Rattle.relations.specs.Rows.{Gathered}
-use Rattle.relations.proofs.Gathering.{pass-none, pass-more, pass-all}
-use Rattle.anchors.specs.Chains.{counts-to}
+use Rattle.relations.proofs.Gathering.{pass-none, relate-more, pass-all}
+use Rattle.anchors.specs.Sets.{counts-to}
 use native.Mathlib.Omega.{arith}
 use borrow.Author.Needs.{needs}
 use Rattle.anchors.proofs.targets.Statement.{statement}
@@ -32,14 +29,20 @@ shared-slice-read-w c = search needs
 edge-from-requires : tie.Need-edge-from-requires Inv-loop μ-loop
 edge-from-requires c κs = search needs
 
-mul-with-target : tie.Need-mul-with-target Inv-loop μ-loop
-mul-with-target c = search needs
+edge-to-requires : tie.Need-edge-to-requires Inv-loop μ-loop
+edge-to-requires c κs = search needs
 
-array-read-with-target : tie.Need-array-read-with-target Inv-loop μ-loop
-array-read-with-target c = search needs
+is-counted-requires : tie.Need-is-counted-requires Inv-loop μ-loop
+is-counted-requires c κs = search needs
 
-with-target-requires : tie.Need-with-target-requires Inv-loop μ-loop
-with-target-requires c κs = search needs
+mul-insert-if : tie.Need-mul-insert-if Inv-loop μ-loop
+mul-insert-if c = search needs
+
+array-read-insert-if : tie.Need-array-read-insert-if Inv-loop μ-loop
+array-read-insert-if c = search needs
+
+insert-if-requires : tie.Need-insert-if-requires Inv-loop μ-loop
+insert-if-requires c κs = search needs
 
 mul-rows : tie.Need-mul-rows Inv-loop μ-loop
 mul-rows c = search needs
@@ -56,11 +59,11 @@ loop-less c = search needs
 loop-again : tie.Need-loop-again Inv-loop μ-loop
 unfolding graph
 loop-again c =
-    let s = c .before .before .before .before in
-    let es = s .before .before .args .es .now in
-    let e = unpack (getD es (s .loop .i) 0) in (
+    let s = c .before .before .before .before .before .before in
+    let from = c .before .before .before .edge-from in
+    let to = c .before .before .edge-to in (
       omega arith,
-      pass-more counts-to unpack es (s .loop .i) 0 (c .before .edge-from .result) (c .with-target .result) (λ k. e .counted && eqb k (e .to)) (search needs) (s .loop .inv .1) (c .before .edge-from .ensures .1) (c .with-target .ensures) (λ w k. ap (λ (x : ℕ). eqb w x && (e .counted && eqb k (e .to))) (sym (c .before .edge-from .ensures .0))),
+      relate-more (λ e. e .from) (λ e. e .to) (λ e. e .counted) unpack (s .before .before .args .es .now) (s .loop .i) 0 (c .insert-if .result) (search needs) (s .loop .inv .1) (from .ensures .0) (from .ensures .1) (to .ensures .0) (c .before .is-counted .ensures) (c .insert-if .ensures),
     )
 
 returns : tie.Need-returns Inv-loop μ-loop
@@ -77,9 +80,11 @@ targets-spec =
     mul-w
     shared-slice-read-w
     edge-from-requires
-    mul-with-target
-    array-read-with-target
-    with-target-requires
+    edge-to-requires
+    is-counted-requires
+    mul-insert-if
+    array-read-insert-if
+    insert-if-requires
     mul-rows
     array-write-rows
     add-i

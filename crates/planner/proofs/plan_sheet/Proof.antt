@@ -10,7 +10,7 @@ use Rattle.planner.proofs.plan_sheet.Tie as tie
 use Rattle.planner.proofs.plan_sheet.Reads as reads
 use Rattle.planner.proofs.plan_sheet.Lts as lts
 use Rattle.links.proofs.edges_of.Reads as edges-of-reads
-use Rattle.analysis.proofs.plan_edges.Reads as plan-edges-reads
+use Rattle.planning.proofs.plan_edges.Reads as plan-edges-reads
 
 edges-of-requires : tie.Need-edges-of-requires
 edges-of-requires c κs = search needs

@@ -10,8 +10,8 @@ use Rattle.planner.proofs.starts_sheet.Tie as tie
 use Rattle.planner.proofs.starts_sheet.Reads as reads
 use Rattle.planner.proofs.starts_sheet.Lts as lts
 use Rattle.links.proofs.edges_of.Reads as edges-of-reads
-use Rattle.analysis.proofs.starts_edges.Reads as starts-edges-reads
-use Rattle.schedule.proofs.unbounded_map.Reads as unbounded-map-reads
+use Rattle.planning.proofs.starts_edges.Reads as starts-edges-reads
+use Rattle.delays.proofs.unbounded_map.Reads as unbounded-map-reads
 
 unbounded-map-requires : tie.Need-unbounded-map-requires
 unbounded-map-requires c κs = search needs

@@ -14,7 +14,7 @@ use Rattle.bitmaps.proofs.lowest.Reads as lowest-reads
 use Rattle.bitmaps.proofs.remove.Reads as remove-reads
 use Rattle.relaxation.proofs.extended.Reads as extended-reads
 use Rattle.relaxation.proofs.raise.Reads as raise-reads
-use Rattle.relaxation.proofs.with_member.Reads as with-member-reads
+use Rattle.bitmaps.proofs.insert_if.Reads as insert-if-reads
 
 abbrev Inv-loop : tie.InvT-loop
 Inv-loop d₀ from to gain loss m moved₀ left₀ d moved left = Square d × ((e : Edge) → e .from ≡ from → e .to ≡ to → e .gain ≡ gain → e .loss ≡ loss → Relaxing e m left moved d₀ d)
@@ -55,8 +55,8 @@ raise-requires : tie.Need-raise-requires Inv-loop μ-loop
 raise-requires c κs = (c .before .before .before .before .before .before .pre .1, c .before .before .before .lowest .ensures .below, c .before .before .before .before .before .loop .inv .0)
 
 -- src/lib.rt:69:9
-with-member-requires : tie.Need-with-member-requires Inv-loop μ-loop
-with-member-requires c κs = search needs
+insert-if-requires : tie.Need-insert-if-requires Inv-loop μ-loop
+insert-if-requires c κs = search needs
 
 -- src/lib.rt:70:9
 remove-requires : tie.Need-remove-requires Inv-loop μ-loop
@@ -80,7 +80,7 @@ loop-again c =
           (low .ensures .member)
           (c .before .before .before .before .extended .ensures)
           up
-          (c .before .with-member .ensures)
+          (c .before .insert-if .ensures)
           (c .remove .ensures)
           (top .loop .inv .1 e f t g l),
     )
@@ -103,7 +103,7 @@ relax-spec =
     index-2-extended
     extended-requires
     raise-requires
-    with-member-requires
+    insert-if-requires
     remove-requires
     loop-less
     loop-again
