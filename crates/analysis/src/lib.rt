@@ -6,7 +6,7 @@ ghost use mathlib.Core.Path.{_≡_};
 ghost use mathlib.Core.List.{List};
 ghost use Prim.Native.Nat.{ℕ, _≤_};
 ghost use lib.ListN.{length};
-ghost use Rattle.anchors.specs.Chains.{Closed};
+ghost use Rattle.precedence.specs.Chains.{Closed};
 ghost use Rattle.definitions.specs.Links.{Edge, members};
 ghost use Rattle.definitions.specs.Numbers.{status-of, verdict-of};
 ghost use Rattle.definitions.specs.Waits.{wait-count, wait-maps};
@@ -43,10 +43,10 @@ fn first_fault(es: &[u64], closed: &[u64; 64], n: usize) -> Status
     requires { ⌜ (1 ≤ n) × (n ≤ 64) × (length (now es) ≤ 2048) ⌝ }
     ensures { λ r. ⌜ (Closed n (graph (now (es .entry))) (now (closed .entry)) → status-of r tt ≡ judge-first n (graph (now (es .entry)))) ⌝ }
 {
-    if anchors::has_cycle(closed, n) {
+    if precedence::has_cycle(closed, n) {
         return Status::Refused(Refusal::ForwardCycle);
     }
-    if anchors::has_unreached(closed, n) {
+    if precedence::has_unreached(closed, n) {
         return Status::Refused(Refusal::Unreachable);
     }
     if !feasibility::feasible(es, n) {
@@ -105,7 +105,7 @@ pub fn analyse(es: &[u64], n: usize, allow: bool) -> Analysis
     requires { ⌜ (1 ≤ n) × (n ≤ 64) × (length (now es) ≤ 2048) ⌝ }
     ensures { λ r. ⌜ (Shape n (members (graph (now (es .entry)))) → Analysed n (graph (now (es .entry))) allow r) ⌝ }
 {
-    let closed = anchors::forward(es, n);
+    let closed = precedence::forward(es, n);
     match first_fault(es, &closed, n) {
         Status::Refused(k) => refused_analysis(k),
         Status::Done => serialize(es, &closed, n, allow),

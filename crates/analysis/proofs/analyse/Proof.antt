@@ -8,7 +8,7 @@ use Rattle.analysis.proofs.analyse.Statement.{statement}
 use Rattle.analysis.proofs.analyse.Tie as tie
 use Rattle.analysis.proofs.analyse.Reads as reads
 use Rattle.analysis.proofs.analyse.Lts as lts
-use Rattle.anchors.proofs.forward.Reads as forward-reads
+use Rattle.precedence.proofs.forward.Reads as forward-reads
 use Rattle.analysis.proofs.first_fault.Reads as first-fault-reads
 use Rattle.analysis.proofs.refused_analysis.Reads as refused-analysis-reads
 use Rattle.analysis.proofs.serialize.Reads as serialize-reads

@@ -7,8 +7,8 @@ use Rattle.analysis.proofs.first_fault.Statement.{statement}
 use Rattle.analysis.proofs.first_fault.Tie as tie
 use Rattle.analysis.proofs.first_fault.Reads as reads
 use Rattle.analysis.proofs.first_fault.Lts as lts
-use Rattle.anchors.proofs.has_cycle.Reads as has-cycle-reads
-use Rattle.anchors.proofs.has_unreached.Reads as has-unreached-reads
+use Rattle.precedence.proofs.has_cycle.Reads as has-cycle-reads
+use Rattle.precedence.proofs.has_unreached.Reads as has-unreached-reads
 use Rattle.feasibility.proofs.feasible.Reads as feasible-reads
 
 has-cycle-requires : tie.Need-has-cycle-requires
