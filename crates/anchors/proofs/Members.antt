@@ -1,13 +1,13 @@
 -- What the rows of anchor sets say: an anchor of v has a target that is v or comes before v.
 use mathlib.Core.Path.{_≡_, refl, sym, ap, _∙_}
-use mathlib.Core.Bool.{Bool, true, _&&_, _||_}
+use mathlib.Core.Bool.{Bool, true, false, _&&_, _||_}
 use mathlib.Core.Logic.{_⊎_, inl, inr, _≢_}
 use mathlib.Core.List.{List}
 use Prim.Native.Nat.{ℕ, _<_, _≤_}
 use native.Mathlib.Omega.{arith}
 use native.Mathlib.Decide.{decLt}
 use lib.Dec.{eqb, ltb}
-use borrow.Author.Tests.{eq-eqb, eqb-true, le-ltb}
+use borrow.Author.Tests.{eq-eqb, eqb-true, le-ltb, lt-ltb}
 use Rattle.definitions.specs.Anchors.{InAnchorSet, is-source, chain, in-anchor-set}
 use Rattle.definitions.specs.Basics.{any-below}
 use Rattle.definitions.specs.Links.{Edge, Forward, Joined, After, members, stop}
@@ -85,3 +85,21 @@ module _ {n : ℕ} {g : List Edge} {rows : List ℕ} (closed : Closed n g rows) 
 pub anchors-same : (targets : List ℕ) (a : ℕ) {f h : ℕ → Bool} → ((k : ℕ) → f k ≡ h k) → anchors-to targets f a ≡ anchors-to targets h a
 anchors-same targets a {f} {h} e =
     ap (λ (b : Bool). eqb a 0 || b) (any-below-same (λ (w : ℕ). row-bit targets a w && f w) (λ (w : ℕ). row-bit targets a w && h w) 64 (λ w b. ap (λ (t : Bool). row-bit targets a w && t) (e w)))
+
+-- Only a step with targets can have one that passes, and step 0 is in every set: so the members of the map are all that have to be asked.
+asked : (l t x z : Bool) → (z ≡ true → l ≡ true) → (x ≡ true → t ≡ true) → (((l && t) && x) || z) ≡ (l && (z || x))
+asked true true true true h k = refl
+asked true true true false h k = refl
+asked true true false true h k = refl
+asked true true false false h k = refl
+asked true false x true h k = refl
+asked true false true false h k = k refl
+asked true false false false h k = refl
+asked false t x true h k = sym (h refl)
+asked false t x false h k = refl
+
+pub row-of-map : {n : ℕ} (targets : List ℕ) (before : ℕ → Bool) → 0 < n → (a : ℕ) → (((ltb a n && any-below (row-bit targets a) 64) && any-below (λ w. row-bit targets a w && before w) 64) || eqb a 0) ≡ (ltb a n && anchors-to targets before a)
+row-of-map {n} targets before b a =
+    asked (ltb a n) (any-below (row-bit targets a) 64) (any-below (λ w. row-bit targets a w && before w) 64) (eqb a 0) (λ h. lt-ltb a n (omega (arith, eqb-true a 0 h))) (λ h.
+    let r = any-below-has (λ (w : ℕ). row-bit targets a w && before w) 64 h in
+    any-below-by (row-bit targets a) 64 {k = r .0} (r .1) (and-split (row-bit targets a (r .0)) (before (r .0)) (r .2) .0))

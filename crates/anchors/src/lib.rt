@@ -1,9 +1,9 @@
 // Anchor sets, held as rows of bits, from what comes before what: see specs/Sets.antt.
 ghost use mathlib.Core.Path.{_≡_};
-ghost use mathlib.Core.Bool.{_&&_, _||_};
+ghost use mathlib.Core.Bool.{_&&_};
 ghost use mathlib.Core.List.{List};
 ghost use Prim.Native.Nat.{ℕ, _≤_};
-ghost use lib.Dec.{eqb, ltb};
+ghost use lib.Dec.{ltb};
 ghost use Rattle.definitions.specs.Basics.{any-below, test-bit};
 ghost use Rattle.definitions.specs.Links.{Edge};
 ghost use Rattle.edges.specs.Words.{graph};
@@ -29,42 +29,55 @@ pub fn targets(es: &[u64]) -> [u64; 64]
     rows
 }
 
-// Whether a is an anchor, from its targets and the map that one of them has to be in.
-fn is_anchor(a: usize, targets: u64, before: u64) -> bool
-    ensures { λ r. ⌜ r ≡ (eqb a 0 || any-below (λ w. test-bit targets w && test-bit before w) 64) ⌝ }
+// Whether a row of targets has one.
+fn has_target(row: u64) -> bool
+    ensures { λ r. ⌜ r ≡ any-below (test-bit row) 64 ⌝ }
 {
-    if a == 0 {
-        return true;
-    }
-    bitmaps::meets(targets, before)
+    row != 0
 }
 
-// The anchors below n with a target in a map.
-fn anchor_row(before: u64, targets: &[u64; 64], n: usize) -> u64
+// The steps below n that have targets, a map.
+fn anchor_map(targets: &[u64; 64], n: usize) -> u64
     requires { ⌜ n ≤ 64 ⌝ }
-    ensures { λ r. ⌜ ((a : ℕ) → test-bit r a ≡ (ltb a n && anchors-to (now (targets .entry)) (test-bit before) a)) ⌝ }
+    ensures { λ r. ⌜ ((a : ℕ) → test-bit r a ≡ (ltb a n && any-below (row-bit (now (targets .entry)) a) 64)) ⌝ }
 {
-    let mut row = 0;
+    let mut map = 0;
     let mut a = 0;
     while a < n {
-        let stands = is_anchor(a, targets[a], before);
-        row = bitmaps::insert_if(row, a, stands);
+        let stands = has_target(targets[a]);
+        map = bitmaps::insert_if(map, a, stands);
         a += 1;
+    }
+    map
+}
+
+// The members of a map that have a target in another.
+fn anchor_row(before: u64, targets: &[u64; 64], map: u64) -> u64
+    ensures { λ r. ⌜ ((a : ℕ) → test-bit r a ≡ (test-bit map a && any-below (λ w. row-bit (now (targets .entry)) a w && test-bit before w) 64)) ⌝ }
+{
+    let mut row = 0;
+    let mut left = map;
+    while left != 0 {
+        let a = bitmaps::lowest(left);
+        let stands = bitmaps::meets(targets[a], before);
+        row = bitmaps::insert_if(row, a, stands);
+        left = bitmaps::remove(left, a);
     }
     row
 }
 
-// The anchor sets, from the closed rows and the targets.
+// The anchor sets, from the closed rows and the targets. Step 0 is in every set.
 pub fn anchor_sets(closed: &[u64; 64], targets: &[u64; 64], n: usize) -> [u64; 64]
     requires { ⌜ n ≤ 64 ⌝ }
     ensures bits { λ r. ⌜ ((a v : ℕ) → row-bit r v a ≡ (ltb v n && (ltb a n && anchors-to (now (targets .entry)) (at-or-before (now (closed .entry)) v) a))) ⌝ }
     ensures sets { λ r. ⌜ ((g : List Edge) → Closed n g (now (closed .entry)) → Targets g (now (targets .entry)) → AnchorSets n g r) ⌝ }
 {
+    let map = anchor_map(targets, n);
     let mut rows = [0u64; 64];
     let mut v = 0;
     while v < n {
         let before = bitmaps::insert(closed[v], v);
-        let row = anchor_row(before, targets, n);
+        let row = bitmaps::insert(anchor_row(before, targets, map), 0);
         rows[v] = row;
         v += 1;
     }

@@ -1,6 +1,6 @@
 -- Laws of rows of bits: what a store does to them, and how a pass over a list gathers them.
 use mathlib.Core.Path.{_≡_, refl, sym, ap, subst, _∙_}
-use mathlib.Core.Bool.{Bool, true, false, _&&_, _||_}
+use mathlib.Core.Bool.{Bool, true, false, not, _&&_, _||_}
 use mathlib.Core.Logic.{_⊎_, inl, inr, _≢_}
 use mathlib.Core.List.{List, [], _∷_, _++_, map}
 use Prim.Native.Nat.{ℕ, zero, suc, _+_, _<_, _≤_}
@@ -9,7 +9,7 @@ use native.Mathlib.Decide.{decLt}
 use lib.Dec.{eqb, ltb}
 use lib.ListN.{length, getD, set, take, replicate, length-replicate, length-set}
 use lib.Seq.{ext-getD, getD-set-same, getD-set-other, take-all}
-use borrow.Author.Tests.{eq-eqb, le-ltb, lt-ltb, ne-eqb}
+use borrow.Author.Tests.{eq-eqb, eqb-true, le-ltb, lt-ltb, ne-eqb}
 use Rattle.definitions.specs.Basics.{any, test-bit}
 use Rattle.laws.proofs.Bools.{same-or-not}
 use Rattle.laws.proofs.Maps.{same-map, test-zero}
@@ -125,6 +125,37 @@ made-more P m m′ a f g k =
     ∙ ap (λ (b : Bool). b || (P a && eqb k a)) (f k)
     ∙ ap (λ (b : Bool). (ltb k a && P k) || b) (and-comm (P a) (eqb k a))
     ∙ below-or-at k a (P a) (P k) (λ e. ap P (sym e))
+
+-- A member that moves from what is left to where it belongs.
+pub moves : (a e l t : Bool) → (t ≡ true → l ≡ true) → ((a || (t && e)) || ((l && not t) && e)) ≡ (a || (l && e))
+moves true e l t h = refl
+moves false true true true h = refl
+moves false true true false h = refl
+moves false true false true h = sym (h refl)
+moves false true false false h = refl
+moves false false true true h = refl
+moves false false true false h = refl
+moves false false false true h = refl
+moves false false false false h = refl
+
+guarded : (t p q : Bool) → (t ≡ true → p ≡ q) → (t && p) ≡ (t && q)
+guarded true p q h = h refl
+guarded false p q h = refl
+
+-- A map that is picked from another, one member of what is left at a time: what it has, with what passes of what is left, stays the same.
+module _ (P : ℕ → Bool) (m : ℕ) where
+  pub pick-none : (k : ℕ) → (test-bit 0 k || (test-bit m k && P k)) ≡ (test-bit m k && P k)
+  pick-none k = ap (λ (b : Bool). b || (test-bit m k && P k)) (test-zero k)
+
+  pub pick-more : (m′ left left′ a : ℕ) → test-bit left a ≡ true → ((k : ℕ) → test-bit m′ k ≡ (test-bit m k || (P a && eqb k a))) → ((k : ℕ) → test-bit left′ k ≡ (test-bit left k && not (eqb k a))) → (k : ℕ) → (test-bit m′ k || (test-bit left′ k && P k)) ≡ (test-bit m k || (test-bit left k && P k))
+  pick-more m′ left left′ a stands f g k =
+      ap (λ (b : Bool). b || (test-bit left′ k && P k)) (f k)
+      ∙ ap (λ (b : Bool). (test-bit m k || (P a && eqb k a)) || (b && P k)) (g k)
+      ∙ ap (λ (b : Bool). (test-bit m k || b) || ((test-bit left k && not (eqb k a)) && P k)) (and-comm (P a) (eqb k a) ∙ guarded (eqb k a) (P a) (P k) (λ t. ap P (sym (eqb-true k a t))))
+      ∙ moves (test-bit m k) (P k) (test-bit left k) (eqb k a) (λ t. ap (test-bit left) (eqb-true k a t) ∙ stands)
+
+  pub pick-all : (left k : ℕ) {b : Bool} → left ≡ 0 → (test-bit m k || (test-bit left k && P k)) ≡ b → test-bit m k ≡ b
+  pick-all left k e h = sym (or-none (test-bit m k)) ∙ ap (λ (t : Bool). test-bit m k || (t && P k)) (sym (ap (λ (x : ℕ). test-bit x k) e ∙ test-zero k)) ∙ h
 
 -- Rows that are made one by one.
 pub record Made (F : ℕ → ℕ → Bool) (v : ℕ) (rows : List ℕ) : Type 0 where

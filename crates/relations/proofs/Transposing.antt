@@ -1,6 +1,6 @@
 -- A relation turned round: the loop over the members of one row, and the loop over the rows.
 use mathlib.Core.Path.{_≡_, refl, sym, ap, _∙_}
-use mathlib.Core.Bool.{Bool, true, false, not, _&&_, _||_}
+use mathlib.Core.Bool.{Bool, true, not, _&&_, _||_}
 use mathlib.Core.List.{List}
 use Prim.Native.Nat.{ℕ, _+_, _<_}
 use lib.Dec.{eqb, ltb}
@@ -10,7 +10,7 @@ use Rattle.definitions.specs.Basics.{test-bit}
 use Rattle.laws.proofs.Maps.{test-zero}
 use Rattle.laws.proofs.Searches.{or-none}
 use Rattle.relations.specs.Rows.{row-bit, Spread}
-use Rattle.relations.proofs.Gathering.{store-bit, zero-bit, made-none, made-more}
+use Rattle.relations.proofs.Gathering.{store-bit, zero-bit, made-none, made-more, moves}
 
 -- The loop over the members of m: what the rows have, with what is left to put in, is what they have in the end.
 pub record Spreading (m v : ℕ) (rows rows′ : List ℕ) (left : ℕ) : Type 0 where
@@ -19,18 +19,6 @@ pub record Spreading (m v : ℕ) (rows rows′ : List ℕ) (left : ℕ) : Type 0
 
 pub spreading-none : (m v : ℕ) (rows : List ℕ) → Spreading m v rows rows m
 spreading-none m v rows = record { long = refl; bits = λ k w. refl }
-
--- A member that moves from what is left into its row.
-moves : (a e l t : Bool) → (t ≡ true → l ≡ true) → ((a || (t && e)) || ((l && not t) && e)) ≡ (a || (l && e))
-moves true e l t h = refl
-moves false true true true h = refl
-moves false true true false h = refl
-moves false true false true h = sym (h refl)
-moves false true false false h = refl
-moves false false true true h = refl
-moves false false true false h = refl
-moves false false false true h = refl
-moves false false false false h = refl
 
 pub spreading-more : (m v j x left left′ : ℕ) (rows rows′ : List ℕ) → j < length rows′ → test-bit left j ≡ true → ((w : ℕ) → test-bit x w ≡ (row-bit rows′ j w || eqb w v)) → ((k : ℕ) → test-bit left′ k ≡ (test-bit left k && not (eqb k j))) → Spreading m v rows rows′ left → Spreading m v rows (set rows′ j x) left′
 spreading-more m v j x left left′ rows rows′ b stands f g S = record { long = length-set rows′ j x ∙ S .long; bits = at }

@@ -1,55 +1,62 @@
--- `anchors::anchor_row` meets its contract. Invariant: the row holds the anchors below a.
+-- `anchors::anchor_row` meets its contract. Invariant: what the row has, with what passes of what is left, stays the same.
 use mathlib.Core.Path.{_≡_, ap, _∙_}
 use mathlib.Core.Bool.{Bool, _&&_, _||_}
-use Prim.Native.Nat.{ℕ, _-_, _≤_}
-use lib.Dec.{eqb, ltb}
-use Rattle.definitions.specs.Basics.{test-bit}
-use Rattle.relations.proofs.Gathering.{made-none, made-more}
-use Rattle.anchors.specs.Sets.{anchors-to}
+use mathlib.Core.List.{List}
+use Prim.Native.Nat.{ℕ}
+use lib.Dec.{eqb}
+use Rattle.definitions.specs.Basics.{any-below, test-bit}
+use Rattle.laws.proofs.Maps.{removed-lt}
+use Rattle.relations.specs.Rows.{row-bit}
+use Rattle.relations.proofs.Gathering.{pick-none, pick-more, pick-all}
 use native.Mathlib.Omega.{arith}
 use borrow.Author.Needs.{needs}
 use Rattle.anchors.proofs.anchor_row.Statement.{statement}
 use Rattle.anchors.proofs.anchor_row.Tie as tie
 
+-- One of the targets of k is in the map.
+abbrev met : List ℕ → ℕ → ℕ → Bool
+met targets before k = any-below (λ w. row-bit targets k w && test-bit before w) 64
+
 abbrev Inv-loop : tie.InvT-loop
-Inv-loop before targets n row₀ a₀ row a = (a ≤ n) × ((k : ℕ) → test-bit row k ≡ (ltb k a && anchors-to targets (test-bit before) k))
+Inv-loop before targets map row₀ left₀ row left = (k : ℕ) → (test-bit row k || (test-bit left k && met targets before k)) ≡ (test-bit map k && met targets before k)
 
 abbrev μ-loop : tie.MeasureT-loop
-μ-loop before targets n row₀ a₀ row a = n - a
+μ-loop before targets map row₀ left₀ row left = left
 
 loop-holds : tie.Need-loop-holds Inv-loop μ-loop
-loop-holds c = (omega arith, made-none (anchors-to (c .args .targets .now) (test-bit (c .args .before))))
+loop-holds c = pick-none (met (c .args .targets .now) (c .args .before)) _
 
-mul-is-anchor : tie.Need-mul-is-anchor Inv-loop μ-loop
-mul-is-anchor c = search needs
+lowest-requires : tie.Need-lowest-requires Inv-loop μ-loop
+lowest-requires c κs = search needs
 
-element-copy-out-is-anchor : tie.Need-element-copy-out-is-anchor Inv-loop μ-loop
-element-copy-out-is-anchor c = search needs
+mul-meets : tie.Need-mul-meets Inv-loop μ-loop
+mul-meets c = search needs
 
-is-anchor-requires : tie.Need-is-anchor-requires Inv-loop μ-loop
-is-anchor-requires c κs = search needs
+element-copy-out-meets : tie.Need-element-copy-out-meets Inv-loop μ-loop
+element-copy-out-meets c = search needs
+
+meets-requires : tie.Need-meets-requires Inv-loop μ-loop
+meets-requires c κs = search needs
 
 insert-if-requires : tie.Need-insert-if-requires Inv-loop μ-loop
 insert-if-requires c κs = search needs
 
-add-a : tie.Need-add-a Inv-loop μ-loop
-add-a c = search needs
+remove-requires : tie.Need-remove-requires Inv-loop μ-loop
+remove-requires c κs = search needs
 
 loop-less : tie.Need-loop-less Inv-loop μ-loop
-loop-less c = search needs
+loop-less c = removed-lt _ _ _ (c .before .before .before .before .lowest .ensures .member) (c .remove .ensures)
 
 loop-again : tie.Need-loop-again Inv-loop μ-loop
 loop-again c =
-    let s = c .before .before .before .before in
-    let P = anchors-to (s .before .args .targets .now) (test-bit (s .before .args .before)) in (
-      omega arith,
-      made-more P (s .loop .row) (c .insert-if .result) (s .loop .a) (s .loop .inv .1) (λ k. c .insert-if .ensures k ∙ ap (λ (b : Bool). test-bit (s .loop .row) k || (b && eqb k (s .loop .a))) (c .before .is-anchor .ensures)),
-    )
+    let s = c .before .before .before .before .before .before in
+    let a = c .before .before .before .before .lowest in
+    let P = met (s .before .args .targets .now) (s .before .args .before) in
+    λ k. pick-more P (s .loop .row) (c .before .insert-if .result) (s .loop .left) (c .remove .result) (a .result) (a .ensures .member) (λ j. c .before .insert-if .ensures j ∙ ap (λ (b : Bool). test-bit (s .loop .row) j || (b && eqb j (a .result))) (c .before .before .meets .ensures)) (c .remove .ensures) k
+    ∙ s .loop .inv k
 
 returns : tie.Need-returns Inv-loop μ-loop
-returns c k =
-    let e : c .before .loop .a ≡ c .before .before .args .n = omega arith in
-    c .before .loop .inv .1 k ∙ ap (λ (x : ℕ). ltb k x && anchors-to (c .before .before .args .targets .now) (test-bit (c .before .before .args .before)) k) e
+returns c k = pick-all (met (c .before .before .args .targets .now) (c .before .before .args .before)) (c .before .loop .row) (c .before .loop .left) k (omega arith) (c .before .loop .inv k)
 
 pub anchor-row-spec : {M : Type 1} → statement M
 anchor-row-spec =
@@ -58,11 +65,12 @@ anchor-row-spec =
     Inv-loop
     μ-loop
     loop-holds
-    mul-is-anchor
-    element-copy-out-is-anchor
-    is-anchor-requires
+    lowest-requires
+    mul-meets
+    element-copy-out-meets
+    meets-requires
     insert-if-requires
-    add-a
+    remove-requires
     loop-less
     loop-again
     returns)

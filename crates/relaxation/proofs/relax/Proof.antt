@@ -14,7 +14,6 @@ use Rattle.bitmaps.proofs.lowest.Reads as lowest-reads
 use Rattle.bitmaps.proofs.remove.Reads as remove-reads
 use Rattle.relaxation.proofs.extended.Reads as extended-reads
 use Rattle.relaxation.proofs.raise.Reads as raise-reads
-use Rattle.bitmaps.proofs.insert_if.Reads as insert-if-reads
 
 abbrev Inv-loop : tie.InvT-loop
 Inv-loop d₀ from to gain loss m moved₀ left₀ d moved left = Square d × ((e : Edge) → e .from ≡ from → e .to ≡ to → e .gain ≡ gain → e .loss ≡ loss → Relaxing e m left moved d₀ d)
@@ -68,7 +67,7 @@ loop-less c = removed-lt _ _ _ (c .before .before .before .before .before .befor
 
 -- src/lib.rt:65:5
 loop-again : tie.Need-loop-again Inv-loop μ-loop
-loop-again c = 
+loop-again c =
     let low = c .before .before .before .before .before .before .lowest in
     let top = c .before .before .before .before .before .before .before .before in
     let up = c .before .before .raise .ensures in (

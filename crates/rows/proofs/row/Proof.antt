@@ -7,9 +7,6 @@ use native.Mathlib.Nat.{mul-le-mul}
 use Rattle.rows.proofs.Parts.{row-done, row-refused, asked-part, row-end}
 use Rattle.rows.proofs.row.Statement.{statement}
 use Rattle.rows.proofs.row.Tie as tie
-use Rattle.rows.proofs.row.Reads as reads
-use Rattle.rows.proofs.row.Lts as lts
-use Rattle.rows.proofs.row_status.Reads as row-status-reads
 
 row-status-requires : tie.Need-row-status-requires
 row-status-requires c κs = search needs

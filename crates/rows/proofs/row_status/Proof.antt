@@ -6,8 +6,6 @@ use native.Mathlib.Nat.{mul-le-mul}
 use Rattle.rows.proofs.Parts.{row-none, row-many, row-outside, row-short, row-there}
 use Rattle.rows.proofs.row_status.Statement.{statement}
 use Rattle.rows.proofs.row_status.Tie as tie
-use Rattle.rows.proofs.row_status.Reads as reads
-use Rattle.rows.proofs.row_status.Lts as lts
 
 returns : tie.Need-returns
 returns c = rw (row-none (now (c .before .args .table)) _ (c .before .args .v) (c .if1 .taken))
