@@ -2,11 +2,11 @@
 // Each answer is that of the definitions, for every input.
 use analysis::Analysis;
 use analysis::analyse;
-use planning::plan_edges;
-use planning::starts_edges;
 use definitions::Reading;
 use definitions::Sheet;
 use definitions::Verdict;
+use planning::plan_edges;
+use planning::starts_edges;
 ghost use mathlib.Core.Path.{_≡_};
 ghost use Prim.Native.Nat.{_≤_};
 ghost use Rattle.definitions.specs.Answers.{count-of, edges-of, judged, plan-verdict, planned, serialized-of, starts-answer, starts-verdict, waits-answer, written};

@@ -46,7 +46,14 @@ fn with_source(reach: &[u64; 64], n: usize) -> [u64; 64]
     sets
 }
 
-fn write_plan(es: &[u64], n: usize, order: &[u8; 64], reach: &[u64; 64], maps: &[u64; 64], table: &mut [u32])
+fn write_plan(
+    es: &[u64],
+    n: usize,
+    order: &[u8; 64],
+    reach: &[u64; 64],
+    maps: &[u64; 64],
+    table: &mut [u32],
+)
     requires { ⌜ (1 ≤ n) × (n ≤ 64) × (length (now es) ≤ 2048) × (n * n ≤ length (now table)) ⌝ }
     ensures { λ r. ⌜ (Plannable n (graph (now (es .entry))) (now (reach .entry)) (now (maps .entry)) → now (table .exit) ≡ plan-table n (serialized n (graph (now (es .entry)))) ++ drop (n * n) (now (table .entry))) ⌝ }
 {

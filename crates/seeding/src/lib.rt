@@ -18,7 +18,11 @@ fn seeded(gain: u64, loss: u64) -> u32
     requires { ⌜ gain < 16777216 ⌝ }
     ensures { λ r. ⌜ r ≡ suc (gain - loss) ⌝ }
 {
-    if loss < gain { (gain - loss + 1) as u32 } else { 1 }
+    if loss < gain {
+        (gain - loss + 1) as u32
+    } else {
+        1
+    }
 }
 
 // The walk of one counted edge out of a step other than 0, in the column of that step.

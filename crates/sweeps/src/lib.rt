@@ -18,7 +18,14 @@ fn index(x: u16) -> usize
 }
 
 // The edges out of u, for the anchors in m.
-fn push_edges(d: &mut [[u32; 64]; 64], fresh: &mut [u64; 64], es: &[u64], lists: &[u16; 2112], u: usize, m: u64)
+fn push_edges(
+    d: &mut [[u32; 64]; 64],
+    fresh: &mut [u64; 64],
+    es: &[u64],
+    lists: &[u16; 2112],
+    u: usize,
+    m: u64,
+)
     requires { ⌜ (u < 64) × (length (now es) ≤ 2048) × Lists (now es) (now lists) × Square (now d) × (length (now fresh) ≡ 64) ⌝ }
     ensures { λ r. ⌜ HandedAll (λ a. members (graph (now (es .entry)))) u m (now (d .entry)) (now (d .exit)) (now (fresh .entry)) (now (fresh .exit)) ⌝ }
 {
@@ -44,7 +51,14 @@ fn push_waits(d: &mut [[u32; 64]; 64], fresh: &mut [u64; 64], waiting: u64, u: u
 }
 
 // Step u hands on what it has not handed on yet.
-fn visit(d: &mut [[u32; 64]; 64], fresh: &mut [u64; 64], es: &[u64], lists: &[u16; 2112], waiting: &[u64; 64], u: usize)
+fn visit(
+    d: &mut [[u32; 64]; 64],
+    fresh: &mut [u64; 64],
+    es: &[u64],
+    lists: &[u16; 2112],
+    waiting: &[u64; 64],
+    u: usize,
+)
     requires { ⌜ (u < 64) × (length (now es) ≤ 2048) × Lists (now es) (now lists) × Square (now d) × (length (now fresh) ≡ 64) ⌝ }
     ensures { λ r. ⌜ SweptAll (Both (now (es .entry)) (now (waiting .entry))) (λ v. v ≡ u) (now (d .entry)) (now (d .exit)) (now (fresh .entry)) (now (fresh .exit)) ⌝ }
 {
@@ -65,7 +79,15 @@ fn place(x: u8) -> usize
 }
 
 // The steps of an order, one after another. What the order is decides only how much is left to do.
-fn sweep_order(d: &mut [[u32; 64]; 64], fresh: &mut [u64; 64], es: &[u64], lists: &[u16; 2112], waiting: &[u64; 64], order: &[u8; 64], n: usize)
+fn sweep_order(
+    d: &mut [[u32; 64]; 64],
+    fresh: &mut [u64; 64],
+    es: &[u64],
+    lists: &[u16; 2112],
+    waiting: &[u64; 64],
+    order: &[u8; 64],
+    n: usize,
+)
     requires { ⌜ (n ≤ 64) × (length (now es) ≤ 2048) × Lists (now es) (now lists) × Square (now d) × (length (now fresh) ≡ 64) ⌝ }
     ensures { λ r. ⌜ SweptAll (Both (now (es .entry)) (now (waiting .entry))) (λ v. ⊥) (now (d .entry)) (now (d .exit)) (now (fresh .entry)) (now (fresh .exit)) ⌝ }
 {
@@ -78,7 +100,14 @@ fn sweep_order(d: &mut [[u32; 64]; 64], fresh: &mut [u64; 64], es: &[u64], lists
 }
 
 // Every step below n, from the last to the first: returns mostly lead to lower steps.
-fn sweep_down(d: &mut [[u32; 64]; 64], fresh: &mut [u64; 64], es: &[u64], lists: &[u16; 2112], waiting: &[u64; 64], n: usize)
+fn sweep_down(
+    d: &mut [[u32; 64]; 64],
+    fresh: &mut [u64; 64],
+    es: &[u64],
+    lists: &[u16; 2112],
+    waiting: &[u64; 64],
+    n: usize,
+)
     requires { ⌜ (n ≤ 64) × (length (now es) ≤ 2048) × Lists (now es) (now lists) × Square (now d) × (length (now fresh) ≡ 64) ⌝ }
     ensures { λ r. ⌜ SweptAll (Both (now (es .entry)) (now (waiting .entry))) (λ v. v < n) (now (d .entry)) (now (d .exit)) (now (fresh .entry)) (now (fresh .exit)) ⌝ }
 {
@@ -90,7 +119,15 @@ fn sweep_down(d: &mut [[u32; 64]; 64], fresh: &mut [u64; 64], es: &[u64], lists:
 }
 
 // One sweep: the order settles the forward edges, the way back the returns.
-pub fn sweep(d: &mut [[u32; 64]; 64], fresh: &mut [u64; 64], es: &[u64], lists: &[u16; 2112], waiting: &[u64; 64], order: &[u8; 64], n: usize)
+pub fn sweep(
+    d: &mut [[u32; 64]; 64],
+    fresh: &mut [u64; 64],
+    es: &[u64],
+    lists: &[u16; 2112],
+    waiting: &[u64; 64],
+    order: &[u8; 64],
+    n: usize,
+)
     requires { ⌜ (n ≤ 64) × (length (now es) ≤ 2048) × Lists (now es) (now lists) × Square (now d) × (length (now fresh) ≡ 64) ⌝ }
     ensures { λ r. ⌜ SweptAll (Both (now (es .entry)) (now (waiting .entry))) (λ v. v < n) (now (d .entry)) (now (d .exit)) (now (fresh .entry)) (now (fresh .exit)) ⌝ }
 {

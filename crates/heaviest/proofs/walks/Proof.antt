@@ -43,7 +43,7 @@ settle-requires c κs = search needs
 
 -- src/lib.rt:81:1
 returns : tie.Need-returns
-returns c = 
+returns c =
     let s = c .before .before .before .before .before .before .before .before .before .before .before .before .before .before .before .before .before in
     let turned = c .before .before .before .before .before .before .before .before .before .before .before .before .before .before .transpose .ensures in
     λ within well posed gains a v inside below.

@@ -76,7 +76,7 @@ element-write-fresh c = search needs
 
 -- src/lib.rt:25:1
 returns-3 : tie.Need-returns-3
-returns-3 c = 
+returns-3 c =
     let s = c .before .before .before .before .before .before .before .before .before .before .before .before in
     let from = c .before .before .before .before .before .before .before .before .before .before .before .edge-from in
     let to = c .before .before .before .before .before .before .before .edge-to in

@@ -67,14 +67,14 @@ index-requires-2 c κs = search needs
 
 -- src/lib.rt:26:5
 loop-less : tie.Need-loop-less Inv-loop μ-loop
-loop-less c = 
+loop-less c =
     let s = c .before .before .before .before .before .before .before in
     let some : 1 ≤ s .loop .k = omega arith in
     listing-less _ _ _ _ _ _ _ _ _ _ _ some (s .loop .inv) (c .before .before .push-word .ensures) (listing-next _ _ _ _ _ _ _ _ _ _ (c .before .before .before .before .before .before .before .before .before .before .before .pre .2) some (s .loop .inv) (c .index2 .ensures))
 
 -- src/lib.rt:26:5
 loop-again : tie.Need-loop-again Inv-loop μ-loop
-loop-again c = 
+loop-again c =
     let s = c .before .before .before .before .before .before .before in
     let some : 1 ≤ s .loop .k = omega arith in
     listing-turn _ _ _ _ _ _ _ _ _ _ _ some (s .loop .inv) (c .before .before .push-word .ensures) (listing-next _ _ _ _ _ _ _ _ _ _ (c .before .before .before .before .before .before .before .before .before .before .before .pre .2) some (s .loop .inv) (c .index2 .ensures))

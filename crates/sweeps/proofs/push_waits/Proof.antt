@@ -49,7 +49,7 @@ loop-less c = removed-lt _ _ _ (c .before .before .before .before .before .lowes
 
 -- src/lib.rt:31:5
 loop-again : tie.Need-loop-again Inv-loop μ-loop
-loop-again c = 
+loop-again c =
     let s = c .before .before .before .before .before .before .before in
     let low = c .before .before .before .before .before .lowest .ensures in (
       left-within _ _ _ _ (s .loop .inv .0) (c .remove .ensures),
