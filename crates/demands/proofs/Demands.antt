@@ -1,7 +1,8 @@
 -- The theorems: one for each statement of specs/Demands.antt, in its order.
 use mathlib.Core.Path.{refl}
-use Rattle.demands.specs.Demands.{EdgesMeant, ListsMeant, ImpossibleExactly, ReadExactly, WellFormedExactly, JudgedExactly, EachCallRefuses, StartsReturned, CallsExactly, StartsKept, NobodyEarlier, NobodyEarlierWithWaits, OursAmongRivals, TestsMeant, WaitsListed, WaitsSound, OffsetsRight, StartRule, DecidingSets, PlanTable, LinesListed, HypothesesMet}
+use Rattle.demands.specs.Demands.{EdgesMeant, ListsMeant, ImpossibleExactly, ReadExactly, WellFormedExactly, JudgedExactly, EachCallRefuses, StartsReturned, CallsExactly, StartsKept, NobodyEarlier, NobodyEarlierWithWaits, OursAmongRivals, TestsMeant, WaitsListed, WaitsSound, OffsetsRight, StartRule, DecidingSets, PlanTable, LinesListed, FrontDecides, HypothesesMet}
 use Rattle.demands.proofs.Reading.{read-fits}
+use Rattle.demands.proofs.FirstBytes.{front-for}
 use Rattle.demands.proofs.Meaning.{meant-for}
 use Rattle.demands.proofs.Listing.{listed-for, lines-for}
 use Rattle.demands.proofs.Calls.{same-refusal}
@@ -103,6 +104,12 @@ plan-table s allow q v accepted = plan-for accepted
 -- The lines are a selection of pairs by the test.
 pub lines-listed : LinesListed
 lines-listed s allow q v accepted = lines-for (read-fits s q (accepted .sheet .bytes) (accepted .sheet .reads)) accepted
+
+-- ## How much of an input decides
+
+-- A parser looks at no more bytes than its parts do together; cut behind these, the bytes give the same.
+pub front-decides : FrontDecides
+front-decides = front-for
 
 -- ## The theorems speak of something
 

@@ -1,4 +1,5 @@
 pub mod Reading
+pub mod FirstBytes
 pub mod Edges
 pub mod Judging
 pub mod Refusals

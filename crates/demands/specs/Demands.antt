@@ -13,7 +13,7 @@ use mathlib.Core.Bool.{Bool, true, false, cond}
 use mathlib.Core.Logic.{_⊎_, _≢_, _↔_}
 use mathlib.Core.List.{List, [], _∷_, _++_, map, List·Memᴰ}
 use Prim.Native.Nat.{ℕ, suc, _+_, _*_, _^_, _≤_, _<_}
-use lib.ListN.{length, getD, drop, replicate}
+use lib.ListN.{length, getD, take, drop, replicate}
 use Rattle.definitions.specs.Basics.{largest, test-bit, given, refused}
 use Rattle.definitions.specs.Bytes.{Records, read}
 use Rattle.definitions.specs.Links.{Constraint, sequencing, constraints, delay-at, Keeps, KeepsAll, Edge, members, Forward, Walk, Joined, After}
@@ -23,7 +23,7 @@ use Rattle.definitions.specs.Waits.{Wait, WaitPair, wait-list, wait-maps, wait-
 use Rattle.definitions.specs.Plan.{Offset, offset, start-times, decides, plan-row, plan-table, row-part, undecided, delays-wrong, delays}
 use Rattle.definitions.specs.Rival.{Extension}
 use Rattle.definitions.specs.Answers.{closes-circle, unreached, count-of, edges-of, serialized-of, judged, waits-answer, planned, starts-answer}
-use Rattle.definitions.specs.Output.{StartLine, start-lines, listed}
+use Rattle.definitions.specs.Output.{StartLine, start-lines, listed, standplan}
 use Rattle.definitions.specs.Worked.{Worked, worked-sheets}
 use Rattle.definitions.specs.declared.Delay.the-variants.{Open, Fixed}
 use Rattle.theory.specs.Counts.{standing-bits}
@@ -383,6 +383,17 @@ pub record LinesFor (s : List ℕ) (allow : Bool) (q : Records) (v : ℕ) : Type
 
 abbrev pub LinesListed : Type 0
 LinesListed = (s : List ℕ) (allow : Bool) (q : Records) (v : ℕ) → Accepted s allow q v → LinesFor s allow q v
+
+-- ## How much of an input decides
+
+-- The longest sheet has 3 + 1 + 63 * 3 + 512 * 7 = 3,777 bytes; one more shows that something follows it. So any longer front of any bytes decides what is read and what `standplan` prints. Proof:
+-- front-decides.
+pub record FrontFor (s : List ℕ) (limit : ℕ) : Type 0 where
+  pub reads : read (take limit s) ≡ read s
+  pub prints : standplan (take limit s) ≡ standplan s
+
+abbrev pub FrontDecides : Type 0
+FrontDecides = (s : List ℕ) (limit : ℕ) → 3777 < limit → FrontFor s limit
 
 -- ## The hypotheses are met
 

@@ -1,5 +1,5 @@
 // Reads one sheet from standard input, allows waits, and prints its plan or its refusal.
-// The longest sheet has 3,777 bytes, so the first 4,096 bytes of an input decide what is printed of it.
+// The longest sheet has 3,777 bytes, so the first 4,096 bytes of an input decide what is printed of it: `front-decides` (crates/demands/proofs/Demands.antt).
 
 // Prints the text of the bytes of a sheet.
 fn print(s: &[u8]) {
