@@ -1,14 +1,10 @@
 -- Walking back along the edges that were noted.
-use mathlib.Core.Path.{_≡_, refl, sym, ap, _∙_}
-use mathlib.Core.Bool.{Bool, true}
+use mathlib.Core.Path.{_≡_, refl, sym}
 use mathlib.Core.List.{List, Memᴰ·map}
 use Prim.Native.Nat.{ℕ, suc, _+_, _-_, _*_, _≤_, _<_}
 use native.Mathlib.Omega.{arith}
-use native.Mathlib.Numerals.{add-one}
-use lib.Dec.{ltb}
 use lib.ListN.{length, getD}
-use borrow.Author.Tests.{ltb-true}
-use Rattle.definitions.specs.Links.{Walk, members, stop}
+use Rattle.definitions.specs.Links.{Walk, members}
 use Rattle.edges.specs.Words.{graph, unpack}
 use Rattle.laws.proofs.Lists.{mem-at}
 use Rattle.theory.proofs.Walks.{join, walk-edge, walk-from, walk-none, walk-to}

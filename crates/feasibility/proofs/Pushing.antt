@@ -8,14 +8,14 @@ use native.Mathlib.Omega.{arith}
 use lib.Dec.{eqb}
 use lib.ListN.{length, getD, set, length-set}
 use lib.Seq.{getD-set-same, getD-set-other}
-use borrow.Author.Tests.{eqb-true, eqb-false, eq-eqb}
+use borrow.Author.Tests.{eqb-true, eqb-false}
 use Rattle.adjacency.specs.Lists.{Lists, last-from}
 use Rattle.adjacency.proofs.Laws.{last-below, last-leaves, last-skips}
 use Rattle.definitions.specs.Basics.{test-bit}
 use Rattle.definitions.specs.Links.{Edge, Graph, _⊑_, members}
 use Rattle.definitions.specs.Rounds.{cell, extend}
 use Rattle.edges.specs.Words.{graph, unpack}
-use Rattle.laws.proofs.Bools.{bool-cases, both-ways, or-left, or-split, same-or-not}
+use Rattle.laws.proofs.Bools.{bool-cases, both-ways, or-left}
 use Rattle.relaxation.specs.Columns.{Handed, Only, Relaxed, cut-hand}
 use Rattle.relaxation.proofs.Raising.{used-on}
 use Rattle.sweeps.proofs.Handing.{Behind, behind-mem, behind-split, handed-both, mem-behind}

@@ -2,20 +2,20 @@
 use mathlib.Core.Path.{_≡_, refl, sym, ap, subst, _∙_}
 use mathlib.Core.Bool.{Bool, true, false}
 use mathlib.Core.Logic.{_⊎_, inl, inr, _≢_}
-use mathlib.Core.List.{List, List·Memᴰ, Memᴰ·of-map}
-use Prim.Native.Nat.{ℕ, zero, suc, _+_, _*_, _≤_, _<_}
+use mathlib.Core.List.{List, Memᴰ·of-map}
+use Prim.Native.Nat.{ℕ, _+_, _≤_, _<_}
 use native.Mathlib.Omega.{arith}
 use native.Mathlib.Decide.{decLt}
 use native.Mathlib.Nat.{mul-le-mul-right}
-use lib.Dec.{eqb, ltb}
+use lib.Dec.{ltb}
 use lib.ListN.{length, set, replicate, List·getD-eq-default}
-use lib.Seq.{getD-set-same, getD-set-other}
+use lib.Seq.{getD-set-other}
 use borrow.Author.Tests.{eqb-true, eq-eqb, lt-ltb, ltb-true}
 use Rattle.definitions.specs.Anchors.{is-source}
 use Rattle.definitions.specs.Basics.{all-below, test-bit}
 use Rattle.definitions.specs.Links.{Edge, Graph, members}
 use Rattle.definitions.specs.Plan.{first-row}
-use Rattle.definitions.specs.Rounds.{cell, extend, rounds, source-row, stable}
+use Rattle.definitions.specs.Rounds.{cell, rounds, source-row, stable}
 use Rattle.edges.specs.Words.{graph, unpack}
 use Rattle.edges.proofs.Digits.{gain-small}
 use Rattle.laws.proofs.Bools.{both-ways, not-passing, same-or-not}
@@ -59,29 +59,26 @@ graph-gains es e m =
     let r = Memᴰ·of-map unpack es m in
     rw (sym (r .2)) (let b = gain-small (r .0) in omega (arith, b))
 
-module _ (es : List ℕ) (n : ℕ) (some : 1 ≤ n) (few : n ≤ 64) (shape : Shape n (members (graph es))) (rooted : Rooted n (members (graph es))) where
-  abbrev settled : List ℕ
-  settled = rounds (graph es) n (source-row n 0)
+-- Only the n cells of the settled row can hold a walk.
+settled-inside : (g : List Edge) (n v : ℕ) → 1 ≤ cell (rounds g n (source-row n 0)) v → v < n
+unfolding source-row
+settled-inside g n v h = by (decLt v n)
+  where
+    by : Dec (v < n) → v < n
+    by (yes b) = b
+    by (no b) =
+        absurd (omega (arith, List·getD-eq-default (rounds g n (source-row n 0)) 0 {n = v} (omega (arith, rounds-length g n (source-row n 0), raise-length (replicate n 0) 0 1, zeros-length n))))
 
-  -- Where no closed walk is above 0, the settled row is such a column, and n sweeps end at it.
-  module _ (never : NonPositive (members (graph es))) where
-    settled-top : Top (members (graph es)) (cell (rounds (graph es) n (source-row n 0)))
-    unfolding first-row
-    settled-top =
-        record { settles = row-settles some shape never some (λ h. rooted) (λ e m b i. is-source refl); source = row-seeds some shape never some (λ h. rooted) (λ e m b i. is-source refl) .source refl; small = λ v. omega (arith, settled-small some shape rooted never 16777215 (graph-gains es) v, mul-le-mul-right {m = n} {n = 64} 16777215 few) }
+-- Where no closed walk is above 0, the settled row is such a column, and n sweeps end at it.
+module _ (es : List ℕ) (n : ℕ) (some : 1 ≤ n) (shape : Shape n (members (graph es))) (rooted : Rooted n (members (graph es))) (never : NonPositive (members (graph es))) where
+  settled-top : n ≤ 64 → Top (members (graph es)) (cell (rounds (graph es) n (source-row n 0)))
+  unfolding first-row
+  settled-top few =
+      record { settles = row-settles some shape never some (λ h. rooted) (λ e m b i. is-source refl); source = row-seeds some shape never some (λ h. rooted) (λ e m b i. is-source refl) .source refl; small = λ v. omega (arith, settled-small some shape rooted never 16777215 (graph-gains es) v, mul-le-mul-right {m = n} {n = 64} 16777215 few) }
 
-    settled-swept : {r s : ℕ → ℕ} → Seeds (members (graph es)) 0 r → Sweeps (members (graph es)) r n s → ((v : ℕ) → s v ≤ cell (rounds (graph es) n (source-row n 0)) v) → (v : ℕ) → s v ≡ cell (rounds (graph es) n (source-row n 0)) v
-    unfolding first-row
-    settled-swept = row-swept some shape never some (λ h. rooted) (λ e m b i. is-source refl)
-
-    settled-inside : (v : ℕ) → 1 ≤ cell (rounds (graph es) n (source-row n 0)) v → v < n
-    unfolding source-row
-    settled-inside v h = by (decLt v n)
-      where
-        by : Dec (v < n) → v < n
-        by (yes b) = b
-        by (no b) =
-            absurd (omega (arith, List·getD-eq-default settled 0 {n = v} (omega (arith, rounds-length (graph es) n (source-row n 0), raise-length (replicate n 0) 0 1, zeros-length n))))
+  settled-swept : {r s : ℕ → ℕ} → Seeds (members (graph es)) 0 r → Sweeps (members (graph es)) r n s → ((v : ℕ) → s v ≤ cell (rounds (graph es) n (source-row n 0)) v) → (v : ℕ) → s v ≡ cell (rounds (graph es) n (source-row n 0)) v
+  unfolding first-row
+  settled-swept = row-swept some shape never some (λ h. rooted) (λ e m b i. is-source refl)
 
 first-seeds : (E : Graph) → Seeds E 0 (cell first)
 first-seeds E = record { source = λ h. omega (arith, first-one); after = λ e m l. absurd (l .not-source refl) }
@@ -130,11 +127,11 @@ module _ (es : List ℕ) (n : ℕ) (some : 1 ≤ n) (few : n ≤ 64) {k : ℕ} {
     -- The sweep after the n-th raises nothing where no closed walk is above 0, and then no mark would stand.
     spent-more : (x : ℕ) → test-bit m′ x ≡ true → n ≡ k → Shape n (members (graph es)) → Rooted n (members (graph es)) → ¬ NonPositive (members (graph es))
     spent-more x h e shape rooted never =
-        let T = settled-top es n some few shape rooted never in
+        let T = settled-top es n some shape rooted never few in
         let t = cell (rounds (graph es) n (source-row n 0)) in
-        let at = settled-swept es n some few shape rooted never (first-seeds (members (graph es))) (subst (λ (j : ℕ). Sweeps (members (graph es)) (cell first) j (cell row)) (sym e) (S .sweeps shape t T)) (S .below t T) x in
+        let at = settled-swept es n some shape rooted never (first-seeds (members (graph es))) (subst (λ (j : ℕ). Sweeps (members (graph es)) (cell first) j (cell row)) (sym e) (S .sweeps shape t T)) (S .below t T) x in
         let b = below-more t T x in
-        let inside = settled-inside es n some few shape rooted never x (omega (arith, reached-more x h, b)) in
+        let inside = settled-inside (graph es) n x (omega (arith, reached-more x h, b)) in
         omega (arith, P .clears x inside h, b, at)
 
     pub searched-more : (x : ℕ) → test-bit m′ x ≡ true → k ≤ n → Searched es n (k + 1) row′ via′ m′
@@ -149,7 +146,7 @@ module _ (es : List ℕ) (n : ℕ) (some : 1 ≤ n) (few : n ≤ 64) {k : ℕ} {
             omega (arith, P .swept .covers (S .covers) e i (ap (λ (x : ℕ). test-bit x (e .from)) z ∙ test-zero (e .from)), ltb-true (cell row′ (e .to)) 4294967295 (all-below-each (λ v. ltb (cell row′ v) 4294967295) n (sym q) (e .to) (shape .to-below e i)))
     searched-rest z false q shape rooted =
         sym (not-passing (stable (graph es) (rounds (graph es) n (source-row n 0))) (λ t.
-        let T = settled-top es n some few shape rooted (stable-nonpositive-iff some shape rooted .0 t) in
+        let T = settled-top es n some shape rooted (stable-nonpositive-iff some shape rooted .0 t) few in
         both-ways (all-below-by (λ v. ltb (cell row′ v) 4294967295) n (λ v b. lt-ltb (cell row′ v) 4294967295 (omega (arith, below-more (cell (rounds (graph es) n (source-row n 0))) T v, T .small v)))) (sym q)))
 
   pub searched-spent : n < k → Shape n (members (graph es)) → Rooted n (members (graph es)) → false ≡ stable (graph es) (rounds (graph es) n (source-row n 0))

@@ -1,6 +1,5 @@
 -- `feasibility::far_back` meets its contract.
 use borrow.Author.Needs.{needs}
-use native.Mathlib.Omega.{arith}
 use Prim.Native.Nat.{_-_, _<_}
 use Rattle.feasibility.proofs.far_back.Statement.{statement}
 use Rattle.feasibility.proofs.far_back.Tie as tie

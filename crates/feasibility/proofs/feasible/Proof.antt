@@ -1,7 +1,6 @@
 -- `feasibility::feasible` meets its contract.
 use borrow.Author.Needs.{needs}
 use native.Mathlib.Omega.{arith}
-use mathlib.Core.Path.{sym}
 use Prim.Native.Nat.{_+_, _-_}
 use Rattle.feasibility.proofs.Searching.{Searched, circle-found, searched-more, searched-rest, searched-spent, searched-start}
 use Rattle.feasibility.proofs.feasible.Statement.{statement}

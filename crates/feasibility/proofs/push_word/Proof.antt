@@ -1,6 +1,5 @@
 -- `feasibility::push_word` meets its contract.
 use borrow.Author.Needs.{needs}
-use native.Mathlib.Omega.{arith}
 use Rattle.edges.specs.Words.{unpack}
 use Rattle.feasibility.proofs.Pushing.{word-kept, word-stored}
 use Rattle.feasibility.proofs.push_word.Statement.{statement}

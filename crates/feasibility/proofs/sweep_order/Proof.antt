@@ -1,6 +1,5 @@
 -- `feasibility::sweep_order` meets its contract.
 use borrow.Author.Needs.{needs}
-use native.Mathlib.Omega.{arith}
 use mathlib.Core.Logic.{inl}
 use Prim.Native.Nat.{_-_}
 use Rattle.definitions.specs.Links.{members}

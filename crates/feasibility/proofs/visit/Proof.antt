@@ -1,6 +1,5 @@
 -- `feasibility::visit` meets its contract.
 use borrow.Author.Needs.{needs}
-use native.Mathlib.Omega.{arith}
 use mathlib.Core.Path.{sym, _∙_}
 use borrow.Author.Tests.{not-true, not-false}
 use Rattle.feasibility.proofs.Passing.{passed-idle, passed-visit}
