@@ -13,7 +13,6 @@ use Rattle.definitions.specs.Waits.{needs-waits, wait-count}
 use Rattle.definitions.specs.declared.Refusal.{Refusal}
 use Rattle.definitions.specs.declared.Refusal.the-variants.{Inconsistent}
 use Rattle.definitions.specs.declared.Verdict.the-variants as Verdicts
-use Rattle.feasibility.specs.Rows.{Inside}
 use Rattle.laws.proofs.Bools.{both-ways}
 use Rattle.laws.proofs.Outcomes.{given-not-refused}
 use Rattle.reach.specs.Pushes.{Reached}
@@ -31,10 +30,7 @@ split false true c i j k rest = refl
 split false false true i j k rest = refl
 split false false false i j k rest = refl
 
--- What the kernels ask and give: edges with both ends below n, and what reaches what.
-pub shape-inside : {n : ℕ} {g : List Edge} → Shape n (members g) → Inside n g
-shape-inside shape e m = (shape .from-below e m, shape .to-below e m)
-
+-- What reaches what, as the kernel gives it.
 pub reached-reaches : {n : ℕ} {g : List Edge} {rows : List ℕ} → Shape n (members g) → Reached n g rows → Reaches n g rows
 reached-reaches {n} {g} shape reached =
     record { bits = λ a v below. reached .reaches shape a v ∙ ap (λ (l : List Edge). after-reaches n l a v) (sym (usable-all g a)) }

@@ -39,7 +39,7 @@ fn refused_analysis(k: Refusal) -> Analysis
 }
 
 // Refusals 8, 9 and 10.
-fn first_fault(es: &[u64], closed: &[u64; 64], n: usize) -> Status
+fn first_fault(es: &[u64], closed: &[u64; 64], order: &[u8; 64], n: usize) -> Status
     requires { ⌜ (1 ≤ n) × (n ≤ 64) × (length (now es) ≤ 2048) ⌝ }
     ensures { λ r. ⌜ (Closed n (graph (now (es .entry))) (now (closed .entry)) → status-of r tt ≡ judge-first n (graph (now (es .entry)))) ⌝ }
 {
@@ -49,7 +49,7 @@ fn first_fault(es: &[u64], closed: &[u64; 64], n: usize) -> Status
     if precedence::has_unreached(closed, n) {
         return Status::Refused(Refusal::Unreachable);
     }
-    if !feasibility::feasible(es, n) {
+    if !feasibility::feasible(es, order, n) {
         return Status::Refused(Refusal::Infeasible);
     }
     Status::Done
@@ -79,7 +79,7 @@ fn waits_from(es: &[u64], closed: &[u64; 64], reach: &[u64; 64], n: usize) -> [u
 }
 
 // The analysis from refusal 11 on.
-fn serialize(es: &[u64], closed: &[u64; 64], n: usize, allow: bool) -> Analysis
+fn serialize(es: &[u64], closed: &[u64; 64], order: [u8; 64], n: usize, allow: bool) -> Analysis
     requires { ⌜ n ≤ 64 ⌝ }
     ensures { λ r. ⌜ (Closed n (graph (now (es .entry))) (now (closed .entry)) → Serialized n (graph (now (es .entry))) allow r) ⌝ }
 {
@@ -90,7 +90,6 @@ fn serialize(es: &[u64], closed: &[u64; 64], n: usize, allow: bool) -> Analysis
     let maps = waits_from(es, closed, &reach, n);
     let count = waits::count_waits(&maps, n);
     let verdict = waits_verdict(count, allow);
-    let order = order::order(closed, n);
     Analysis {
         verdict: verdict,
         order: order,
@@ -106,8 +105,9 @@ pub fn analyse(es: &[u64], n: usize, allow: bool) -> Analysis
     ensures { λ r. ⌜ (Shape n (members (graph (now (es .entry)))) → Analysed n (graph (now (es .entry))) allow r) ⌝ }
 {
     let closed = precedence::forward(es, n);
-    match first_fault(es, &closed, n) {
+    let order = order::order(&closed, n);
+    match first_fault(es, &closed, &order, n) {
         Status::Refused(k) => refused_analysis(k),
-        Status::Done => serialize(es, &closed, n, allow),
+        Status::Done => serialize(es, &closed, order, n, allow),
     }
 }

@@ -1,3 +1,4 @@
-pub mod Growth
-pub mod Cut
+pub mod Pushing
 pub mod Passing
+pub mod Searching
+pub mod Circles

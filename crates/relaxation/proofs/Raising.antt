@@ -76,7 +76,7 @@ unused e r s used raised h same =
     record { up = λ v. omega (arith, same v); hands = λ q. absurd (both-ways q h); sound = λ t k below v. omega (arith, same v, below v); other = λ v o. same v; kept = λ q v. same v }
 
 -- An edge on a column: what it hands on is at its end.
-used-on : (e : Edge) (r s : ℕ → ℕ) (used raised : Bool) → s (e .to) ≡ max (r (e .to)) (cut-hand r e) → ((v : ℕ) → v ≢ e .to → s v ≡ r v) → (raised ≡ false → s (e .to) ≡ r (e .to)) → Relaxed e used r s raised
+pub used-on : (e : Edge) (r s : ℕ → ℕ) (used raised : Bool) → s (e .to) ≡ max (r (e .to)) (cut-hand r e) → ((v : ℕ) → v ≢ e .to → s v ≡ r v) → (raised ≡ false → s (e .to) ≡ r (e .to)) → Relaxed e used r s raised
 used-on e r s used raised here other kept =
     record { up = λ v. up v (same-or-not v (e .to)); hands = λ q. omega arith; sound = λ t k below v. sound t k below v (same-or-not v (e .to)); other = other; kept = λ q v. still q v (same-or-not v (e .to)) }
   where

@@ -2,7 +2,7 @@
 use mathlib.Core.Path.{_≡_, refl, sym, ap, _∙_}
 use mathlib.Core.Bool.{Bool, true, false, not, _&&_}
 use mathlib.Core.Logic.{_⊎_, inl, inr, _≢_}
-use mathlib.Core.List.{List, List·Memᴰ, Memᴰ·cast, Memᴰ·map, Memᴰ·of-map}
+use mathlib.Core.List.{List, Memᴰ·cast, Memᴰ·map, Memᴰ·of-map}
 use Prim.Native.Nat.{ℕ, suc, _+_, _-_, _≤_, _<_, min}
 use native.Mathlib.Omega.{arith}
 use native.Mathlib.Decide.{decLe}
@@ -19,7 +19,7 @@ use Rattle.edges.specs.Words.{graph, unpack}
 use Rattle.laws.proofs.Bools.{and-split, both-ways, same-or-not}
 use Rattle.laws.proofs.Lists.{mem-at, mem-place}
 use Rattle.laws.proofs.Maps.{test-zero}
-use Rattle.relaxation.specs.Columns.{Covered, Handed, HandedAll, Only, Square, WaitsFor, column, cut-hand, marks}
+use Rattle.relaxation.specs.Columns.{Handed, HandedAll, Only, Square, WaitsFor, column, cut-hand, marks}
 use Rattle.theory.proofs.Relaxation.{extend-mono}
 
 -- What an edge hands on grows with the cell that it reads.
@@ -35,7 +35,7 @@ mark-back {b = true} k h = absurd (both-ways (k refl) h)
 mark-back {b = false} k h = refl
 
 -- One graph and then another make a third, where the edges out of u are in one of them.
-handed-both : {E F G : Graph} {u : ℕ} {used : Bool} {r s t : ℕ → ℕ} {f g h : ℕ → Bool} → E ⊑ G → F ⊑ G → ((e : Edge) → G e → e .from ≡ u → E e ⊎ F e) → Handed E u used r s f g → Handed F u used s t g h → Handed G u used r t f h
+pub handed-both : {E F G : Graph} {u : ℕ} {used : Bool} {r s t : ℕ → ℕ} {f g h : ℕ → Bool} → E ⊑ G → F ⊑ G → ((e : Edge) → G e → e .from ≡ u → E e ⊎ F e) → Handed E u used r s f g → Handed F u used s t g h → Handed G u used r t f h
 handed-both {E} {F} {G} {u} {used} {r} {s} {t} i j split H K =
     record { up = λ v. omega (arith, H .up v, K .up v); hands = λ q e m o. by q e o (split e m o); sound = λ x st below. K .sound x (λ e m. st e (j e m)) (H .sound x (λ e m. st e (i e m)) below); marks = λ v q. K .marks v (H .marks v q); marked = λ v q. K .marked v q ∙ H .marked v (mark-back (K .marks v) q) }
   where
@@ -64,6 +64,28 @@ pub record Behind (es : List ℕ) (k : ℕ) (e : Edge) : Type 0 where
   pub inside : place < length es
   pub same : e ≡ unpack (getD es place 0)
 
+-- From edge k - 1 of the list of u to the one before it in that list, no edge leaves u.
+pub behind-split : (es : List ℕ) (u k k′ : ℕ) → k′ ≡ last-from es u (k - 1) → (e : Edge) → e .from ≡ u → Behind es k′ e → Behind es k e ⊎ Only (unpack (getD es (k - 1) 0)) e
+behind-split es u k k′ next e o b = by (decLe k (b .place)) (decLe (k - 1) (b .place))
+  where
+    by : Dec (k ≤ b .place) → Dec (k - 1 ≤ b .place) → Behind es k e ⊎ Only (unpack (getD es (k - 1) 0)) e
+    by (yes c) s = inl (record { place = b .place; behind = c; inside = b .inside; same = b .same })
+    by (no c) (yes s) =
+        let i : b .place ≡ k - 1 = omega arith in
+        inr (b .same ∙ ap (λ (x : ℕ). unpack (getD es x 0)) i)
+    by (no c) (no s) = absurd (last-skips es u (k - 1) (b .place) (omega (arith, b .behind)) (omega arith) (ap (λ (x : Edge). x .from) (sym (b .same)) ∙ o))
+
+pub behind-mem : (es : List ℕ) (k : ℕ) → Behind es k ⊑ members (graph es)
+unfolding graph
+behind-mem es k e b = Memᴰ·cast (b .same) (Memᴰ·map unpack (mem-at es (b .place) 0 (b .inside)))
+
+pub mem-behind : (es : List ℕ) (k : ℕ) → k ≡ 0 → members (graph es) ⊑ Behind es k
+unfolding graph
+mem-behind es k z e i =
+    let r = Memᴰ·of-map unpack es i in
+    let P = mem-place es 0 (r .1) in
+    record { place = P .index; behind = omega arith; inside = P .inside; same = sym (r .2) ∙ ap unpack (sym (P .here)) }
+
 -- The loop over the list of a step: k is one more than the index of the edge that comes next, and those behind it have handed on.
 pub record Listing (es : List ℕ) (u m : ℕ) (d₀ d : List (List ℕ)) (f₀ f : List ℕ) (k : ℕ) : Type 0 where
   pub few : k ≤ length es
@@ -82,16 +104,9 @@ module _ (es : List ℕ) (u m : ℕ) (d₀ : List (List ℕ)) (f₀ : List ℕ) 
     own : unpack (getD es (k - 1) 0) .from ≡ u
     own = L .leaves (k - 1) (omega arith)
 
-    place-by : (e : Edge) → e .from ≡ u → (b : Behind es k′ e) → Dec (k ≤ b .place) → Dec (k - 1 ≤ b .place) → Behind es k e ⊎ Only (unpack (getD es (k - 1) 0)) e
-    place-by e o b (yes c) s = inl (record { place = b .place; behind = c; inside = b .inside; same = b .same })
-    place-by e o b (no c) (yes s) =
-        let i : b .place ≡ k - 1 = omega arith in
-        inr (b .same ∙ ap (λ (x : ℕ). unpack (getD es x 0)) i)
-    place-by e o b (no c) (no s) = absurd (last-skips es u (k - 1) (b .place) (omega (arith, b .behind)) (omega arith) (ap (λ (x : Edge). x .from) (sym (b .same)) ∙ o))
-
     pub listing-turn : Listing es u m d₀ d′ f₀ f′ k′
     listing-turn =
-        record { few = omega (arith, below, L .few); leaves = λ i e. last-leaves es u (k - 1) i (sym next ∙ e) .0; handed = handed-all own (λ e b. record { place = b .place; behind = omega (arith, below, b .behind); inside = b .inside; same = b .same }) (λ e o. record { place = k - 1; behind = below; inside = omega (arith, L .few); same = o }) (λ e b o. place-by e o b (decLe k (b .place)) (decLe (k - 1) (b .place))) (L .handed) H }
+        record { few = omega (arith, below, L .few); leaves = λ i e. last-leaves es u (k - 1) i (sym next ∙ e) .0; handed = handed-all own (λ e b. record { place = b .place; behind = omega (arith, below, b .behind); inside = b .inside; same = b .same }) (λ e o. record { place = k - 1; behind = below; inside = omega (arith, L .few); same = o }) (λ e b o. behind-split es u k k′ next e o b) (L .handed) H }
 
     pub listing-less : k′ < k
     listing-less = omega (arith, below)
@@ -106,15 +121,7 @@ module _ (es : List ℕ) (u m : ℕ) (d₀ : List (List ℕ)) (f₀ : List ℕ) 
       ∙ ap (λ (v : ℕ). last-from es v (k - 1)) (L .leaves (k - 1) (omega arith))
 
   pub listing-end : (d : List (List ℕ)) (f : List ℕ) (k : ℕ) → k ≡ 0 → Listing es u m d₀ d f₀ f k → HandedAll (λ a. members (graph es)) u m d₀ d f₀ f
-  unfolding graph
-  listing-end d f k z L =
-      handed-as
-      (λ e b. Memᴰ·cast (b .same) (Memᴰ·map unpack (mem-at es (b .place) 0 (b .inside))))
-      (λ e i.
-      let r = Memᴰ·of-map unpack es i in
-      let P = mem-place es 0 (r .1) in
-      record { place = P .index; behind = omega arith; inside = P .inside; same = sym (r .2) ∙ ap unpack (sym (P .here)) })
-      (L .handed)
+  listing-end d f k z L = handed-as (behind-mem es k) (mem-behind es k z) (L .handed)
 
 -- The loop over what waits for u: those that are left have not been handed to.
 pub record Told (u m left : ℕ) (e : Edge) : Type 0 where

@@ -3,23 +3,22 @@ use mathlib.Core.Path.{_≡_, refl, sym, ap, subst, _∙_}
 use mathlib.Core.Bool.{Bool, true, false}
 use mathlib.Core.Logic.{_⊎_, inl, inr, _≢_}
 use mathlib.Core.List.{List, List·Memᴰ}
-use Prim.Native.Nat.{ℕ, _+_, _-_, _≤_, _<_}
+use Prim.Native.Nat.{ℕ, _-_, _≤_, _<_}
 use native.Mathlib.Omega.{arith}
 use native.Mathlib.Decide.{decLe}
 use lib.ListN.{length, getD, set}
 use lib.Seq.{getD-set-other}
 use Rattle.definitions.specs.Basics.{test-bit}
 use Rattle.definitions.specs.Links.{Edge, Graph, members}
-use Rattle.definitions.specs.Waits.{wait-edge}
 use Rattle.edges.specs.Words.{graph}
 use Rattle.laws.proofs.Bools.{bool-cases, same-or-not}
 use Rattle.laws.proofs.Maps.{test-zero}
-use Rattle.relaxation.specs.Columns.{Covered, Handed, HandedAll, Square, Swept, SweptAll, WaitsFor, column, cut-hand, marks}
+use Rattle.relaxation.specs.Columns.{Covered, Handed, HandedAll, Square, Swept, SweptAll, WaitsFor, cut-hand, marks}
 use Rattle.sweeps.specs.Graphs.{Both}
 use Rattle.sweeps.proofs.Handing.{cut-mono, cut-same, handed-all, mark-back}
 
 -- A step hands on what it has not handed on yet, and its own marks go. Where its cell was not raised meanwhile, all of it is handed on.
-swept-visit : {E : Graph} {u : ℕ} {used : Bool} {r s : ℕ → ℕ} {f f′ g : ℕ → Bool} → used ≡ f u → ((v : ℕ) → v ≢ u → f′ v ≡ f v) → Handed E u used r s f′ g → Swept E (λ v. v ≡ u) r s f g
+pub swept-visit : {E : Graph} {u : ℕ} {used : Bool} {r s : ℕ → ℕ} {f f′ g : ℕ → Bool} → used ≡ f u → ((v : ℕ) → v ≢ u → f′ v ≡ f v) → Handed E u used r s f′ g → Swept E (λ v. v ≡ u) r s f g
 swept-visit {E} {u} {used} {r} {s} {f} {f′} {g} own rest H =
     record { up = H .up; sound = H .sound; covers = λ c e m q. covers c e m q (same-or-not (e .from) u); hands = λ c e m o. hands c e m o (bool-cases (f u)) }
   where
@@ -33,11 +32,11 @@ swept-visit {E} {u} {used} {r} {s} {f} {f′} {g} own rest H =
         omega (arith, c e m (sym (rest (e .from) o) ∙ mark-back (H .marks (e .from)) q), H .up (e .to), cut-same e r s (H .marked (e .from) q))
 
 -- A step without marks has nothing to hand on.
-swept-idle : {E : Graph} {u : ℕ} {r : ℕ → ℕ} {f : ℕ → Bool} → f u ≡ false → Swept E (λ v. v ≡ u) r r f f
+pub swept-idle : {E : Graph} {u : ℕ} {r : ℕ → ℕ} {f : ℕ → Bool} → f u ≡ false → Swept E (λ v. v ≡ u) r r f f
 swept-idle {f = f} q =
     record { up = λ v. omega arith; sound = λ t st below. below; covers = λ c. c; hands = λ c e m o. c e m (ap f o ∙ q) }
 
-swept-both : {E : Graph} {On Then All : ℕ → Type 0} {r s t : ℕ → ℕ} {f g h : ℕ → Bool} → ((v : ℕ) → All v → On v ⊎ Then v) → Swept E On r s f g → Swept E Then s t g h → Swept E All r t f h
+pub swept-both : {E : Graph} {On Then All : ℕ → Type 0} {r s t : ℕ → ℕ} {f g h : ℕ → Bool} → ((v : ℕ) → All v → On v ⊎ Then v) → Swept E On r s f g → Swept E Then s t g h → Swept E All r t f h
 swept-both {E} {On} {Then} {All} {r} {s} {t} {f} split P Q =
     record { up = λ v. omega (arith, P .up v, Q .up v); sound = λ x st below. Q .sound x st (P .sound x st below); covers = λ c. Q .covers (P .covers c); hands = λ c e m o. by c e m (split (e .from) o) }
   where
@@ -75,9 +74,12 @@ module _ (es waiting : List ℕ) (u : ℕ) (d d′ d″ : List (List ℕ)) (f f�
       record { square = whole .square; long = whole .long; each = λ a. swept-visit refl (λ v o. ap (λ (x : ℕ). test-bit x a) (getD-set-other f u v 0 0 o)) (whole .each a) }
 
 -- The loop from the last step to the first.
-pub swept-down : {E : ℕ → Graph} (n k : ℕ) {d d′ d″ : List (List ℕ)} {f f′ f″ : List ℕ} → 1 ≤ k → SweptAll E (λ v. (k ≤ v) × (v < n)) d d′ f f′ → SweptAll E (λ v. v ≡ k - 1) d′ d″ f′ f″ → SweptAll E (λ v. (k - 1 ≤ v) × (v < n)) d d″ f f″
-swept-down n k some P Q = swept-then (λ v o. by v o (decLe k v)) P Q
+pub down-split : (n k v : ℕ) → (k - 1 ≤ v) × (v < n) → ((k ≤ v) × (v < n)) ⊎ (v ≡ k - 1)
+down-split n k v o = by (decLe k v)
   where
-    by : (v : ℕ) → (k - 1 ≤ v) × (v < n) → Dec (k ≤ v) → ((k ≤ v) × (v < n)) ⊎ (v ≡ k - 1)
-    by v o (yes c) = inl (c, o .1)
-    by v o (no c) = inr (omega (arith, o .0))
+    by : Dec (k ≤ v) → ((k ≤ v) × (v < n)) ⊎ (v ≡ k - 1)
+    by (yes c) = inl (c, o .1)
+    by (no c) = inr (omega (arith, o .0))
+
+pub swept-down : {E : ℕ → Graph} (n k : ℕ) {d d′ d″ : List (List ℕ)} {f f′ f″ : List ℕ} → 1 ≤ k → SweptAll E (λ v. (k ≤ v) × (v < n)) d d′ f f′ → SweptAll E (λ v. v ≡ k - 1) d′ d″ f′ f″ → SweptAll E (λ v. (k - 1 ≤ v) × (v < n)) d d″ f f″
+swept-down n k some P Q = swept-then (down-split n k) P Q

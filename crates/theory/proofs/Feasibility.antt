@@ -13,11 +13,11 @@ use Rattle.definitions.specs.Plan.{Span, after, source}
 use Rattle.definitions.specs.Rounds.{after-reaches, cell, extend, reaches, rounds, source-row, stable}
 use Rattle.laws.proofs.Bools.{both-ways, not-passing}
 use Rattle.laws.proofs.Tests.{all-below-by, all-below-each, any-none, none-any}
-use Rattle.theory.specs.Graphs.{ForwardAcyclic, KeepsEdge, Losses, NonPositive, Rooted, Schedule, Shape, Well, sole-delay}
+use Rattle.theory.specs.Graphs.{ForwardAcyclic, Gains, KeepsEdge, Losses, NonPositive, Rooted, Schedule, Shape, Well, sole-delay}
 use Rattle.theory.proofs.FirstRows.{source-start}
-use Rattle.theory.proofs.Pigeonhole.{brief, walk-loss}
+use Rattle.theory.proofs.Pigeonhole.{brief, shorten, walk-gain, walk-loss}
 use Rattle.theory.proofs.Reachability.{after-reaches-iff, forwards-mem, forwards-shape, joined-reaches, mem-forwards, reaches-joined}
-use Rattle.theory.proofs.Relaxation.{Covers, Grounded, Stable, Start, covers-up, fixpoint-stable, grounded, rounds-fixed, rounds-length, rounds-offset, rounds-rise, stable-iff, stable-walk}
+use Rattle.theory.proofs.Relaxation.{Covers, Grounded, Stable, Start, covers-up, fixpoint-stable, grounded, rounds-fixed, rounds-length, rounds-offset, rounds-rise, rounds-under, stable-iff, stable-walk}
 use Rattle.theory.proofs.Serialization.{schedule-nonpositive}
 use Rattle.theory.proofs.SoleDelays.{sole-delay-own}
 use Rattle.theory.proofs.Walks.{after-bound, after-start-below, joined-mono, walk-from, walk-mono, walk-to}
@@ -54,8 +54,9 @@ module _ {n : ℕ} {es : List Edge} (some : 0 < n) (shape : Shape n (members es)
   unfolding rounds
   source-covered = covers-up (start .covers-source refl) (rounds-rise es 0 n (source-row n 0) (start .fits) (omega arith) 0)
 
-  all-covered : Stable es settled → (v : ℕ) → v < n → 1 ≤ cell settled v
-  all-covered st v b = stable-walk settled st 0 0 source-covered (joined-mono (λ e m. m .0) (rooted v b) .walk) .some
+  -- A row in which every edge has handed on, from a source that has its empty walk, covers every vertex.
+  all-covered : (row : List ℕ) → Stable es row → Covers (cell row 0) 0 0 → (v : ℕ) → v < n → 1 ≤ cell row v
+  all-covered row st c v b = stable-walk row st 0 0 c (joined-mono (λ e m. m .0) (rooted v b) .walk) .some
 
   -- Where no closed walk is above 0, n rounds settle the row.
   nonpositive-stable : NonPositive (members es) → Stable es (rounds es n (source-row n 0))
@@ -76,21 +77,38 @@ module _ {n : ℕ} {es : List Edge} (some : 0 < n) (shape : Shape n (members es)
   zero-delay-schedule : NonPositive (members es) → Schedule (members es) (λ v. 0) (λ v. cell (rounds es n (source-row n 0)) v - 1)
   zero-delay-schedule never =
       let st = nonpositive-stable never in
-      stable-schedule shape settled st (all-covered st) (source-at-zero never)
+      stable-schedule shape settled st (all-covered settled st source-covered) (source-at-zero never)
 
   -- A stable row with no empty cell: around a closed walk the cells come back to where they were.
-  closed-in : {x y k p q : ℕ} → Stable es settled → Walk (members es) x y k p q → x ≡ y → p ≤ q
-  closed-in st (stop e hk hp hq) s = omega arith
-  closed-in {x} {y} {k} {p} {q} st (step w e m f o hk hp hq) s = from-cell (cell settled x) refl (all-covered st x (omega (arith, shape .to-below e m)))
+  closed-in : (row : List ℕ) → Stable es row → Covers (cell row 0) 0 0 → {x y k p q : ℕ} → Walk (members es) x y k p q → x ≡ y → p ≤ q
+  closed-in row st c (stop e hk hp hq) s = omega arith
+  closed-in row st c {x} {y} {k} {p} {q} (step w e m f o hk hp hq) s = from-cell (cell row x) refl (all-covered row st c x (omega (arith, shape .to-below e m)))
     where
-      from-cell : (r : ℕ) → cell settled x ≡ r → 1 ≤ cell settled x → p ≤ q
+      from-cell : (r : ℕ) → cell row x ≡ r → 1 ≤ cell row x → p ≤ q
       from-cell zero h l = absurd (omega arith)
       from-cell (suc r) h l =
-          omega (arith, stable-walk settled st r 0 (record { some = omega arith; enough = omega arith }) (step w e m f o hk hp hq) .enough, ap (cell settled) s)
+          omega (arith, stable-walk row st r 0 (record { some = omega arith; enough = omega arith }) (step w e m f o hk hp hq) .enough, ap (cell row) s)
+
+  pub stable-nonpositive : (row : List ℕ) → Stable es row → 1 ≤ cell row 0 → NonPositive (members es)
+  stable-nonpositive row st h = record { closed = λ w. closed-in row st (record { some = h; enough = omega arith }) w refl }
+
+  -- The cells of the settled row are small: a walk of fewer than n edges is as heavy.
+  pub settled-small : NonPositive (members es) → (g : ℕ) → Gains (members es) g → (v : ℕ) → cell (rounds es n (source-row n 0)) v ≤ suc (n * g)
+  settled-small never g gains v = go (cell settled v) refl
+    where
+      by-span : {o p q : ℕ} → o + q ≤ p → Span (members es) 0 v p q → o ≤ n * g
+      by-span h (source z w) =
+          let t = shorten shape never some w in
+          omega (arith, t .heavy, walk-gain gains (t .walk), mul-le-mul-right {m = t .k₂} {n = n} g (omega (arith, t .few)))
+      by-span h (after w) = absurd (w .not-source refl)
+
+      go : (r : ℕ) → cell settled v ≡ r → cell settled v ≤ suc (n * g)
+      go zero h = omega arith
+      go (suc o) h = let R = rounds-under shape ground start n v o h in omega (arith, by-span (R .under) (R .span))
 
   -- Refusal 10, and what it says.
   pub stable-nonpositive-iff : (stable es (rounds es n (source-row n 0)) ≡ true) ↔ NonPositive (members es)
-  stable-nonpositive-iff = (λ h. record { closed = λ w. closed-in (stable-iff es settled .0 h) w refl }, λ never. stable-iff es settled .1 (nonpositive-stable never))
+  stable-nonpositive-iff = (λ h. stable-nonpositive settled (stable-iff es settled .0 h) (source-covered .some), λ never. stable-iff es settled .1 (nonpositive-stable never))
 
   pub stable-schedule-iff : (stable es (rounds es n (source-row n 0)) ≡ true) ↔ ((t : ℕ → ℕ) × Schedule (members es) (λ v. 0) t)
   stable-schedule-iff = (

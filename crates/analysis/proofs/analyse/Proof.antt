@@ -8,6 +8,7 @@ use Rattle.analysis.proofs.analyse.Statement.{statement}
 use Rattle.analysis.proofs.analyse.Tie as tie
 use Rattle.analysis.proofs.analyse.Reads as reads
 use Rattle.analysis.proofs.analyse.Lts as lts
+use Rattle.order.proofs.order.Reads as order-reads
 use Rattle.precedence.proofs.forward.Reads as forward-reads
 use Rattle.analysis.proofs.first_fault.Reads as first-fault-reads
 use Rattle.analysis.proofs.refused_analysis.Reads as refused-analysis-reads
@@ -15,6 +16,9 @@ use Rattle.analysis.proofs.serialize.Reads as serialize-reads
 
 forward-requires : tie.Need-forward-requires
 forward-requires c κs = search needs
+
+order-requires : tie.Need-order-requires
+order-requires c κs = search needs
 
 first-fault-requires : tie.Need-first-fault-requires
 first-fault-requires c κs = search needs
@@ -33,13 +37,13 @@ serialize-requires c κs = search needs
 
 returns : tie.Need-returns
 returns c shape =
-    let closed = c .before .before .before .before .before .before .forward .ensures .1 shape in
+    let closed = c .before .before .before .before .before .before .before .before .before .forward .ensures .1 shape in
     let first = c .before .before .before .before .first-fault .ensures closed in
     analysed-refused _ _ _ _ _ (sym first ∙ ap (λ (x : Status). status-of {A = Unit {0}} x tt) (c .before .before .k .given .1)) (c .refused-analysis .ensures .0) (c .refused-analysis .ensures .1)
 
 returns-2 : tie.Need-returns-2
 returns-2 c shape =
-    let closed = c .before .before .before .before .before .before .forward .ensures .1 shape in
+    let closed = c .before .before .before .before .before .before .before .before .before .forward .ensures .1 shape in
     let first = c .before .before .before .before .first-fault .ensures closed in
     analysed-rest _ _ _ _ (sym first ∙ ap (λ (x : Status). status-of {A = Unit {0}} x tt) (c .before .before .enum-told .given .1)) (c .serialize .ensures closed)
 
@@ -48,6 +52,7 @@ analyse-spec =
     tie.close
     (tie.spec
     forward-requires
+    order-requires
     first-fault-requires
     enum-known-k
     refused-analysis-requires

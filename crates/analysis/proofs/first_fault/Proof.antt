@@ -2,7 +2,8 @@
 use mathlib.Core.Path.{sym, _∙_}
 use borrow.Author.Needs.{needs}
 use borrow.Author.Tests.{not-true, not-false}
-use Rattle.analysis.proofs.Judging.{first-8, first-9, first-10, first-done, shape-inside}
+use Rattle.demands.proofs.Sheets.{not-9}
+use Rattle.analysis.proofs.Judging.{first-8, first-9, first-10, first-done}
 use Rattle.analysis.proofs.first_fault.Statement.{statement}
 use Rattle.analysis.proofs.first_fault.Tie as tie
 use Rattle.analysis.proofs.first_fault.Reads as reads
@@ -31,13 +32,13 @@ returns-3 : tie.Need-returns-3
 returns-3 c closed =
     let no-circle = sym (c .before .before .before .before .before .has-cycle .ensures .1 _ closed) ∙ c .before .before .before .before .if1 .left in
     let all-reached = sym (c .before .before .before .has-unreached .ensures .1 _ closed) ∙ c .before .before .if2 .left in
-    sym (first-10 _ _ no-circle all-reached (sym (c .before .feasible .ensures (shape-inside (closed .shape))) ∙ not-true _ (c .if3 .taken)))
+    sym (first-10 _ _ no-circle all-reached (sym (c .before .feasible .ensures (closed .shape) (not-9 (c .before .before .before .before .before .before .before .pre .0) (closed .shape) all-reached)) ∙ not-true _ (c .if3 .taken)))
 
 returns-4 : tie.Need-returns-4
 returns-4 c closed =
     let no-circle = sym (c .before .before .before .before .before .has-cycle .ensures .1 _ closed) ∙ c .before .before .before .before .if1 .left in
     let all-reached = sym (c .before .before .before .has-unreached .ensures .1 _ closed) ∙ c .before .before .if2 .left in
-    sym (first-done _ _ no-circle all-reached (sym (c .before .feasible .ensures (shape-inside (closed .shape))) ∙ not-false _ (c .if3 .left)))
+    sym (first-done _ _ no-circle all-reached (sym (c .before .feasible .ensures (closed .shape) (not-9 (c .before .before .before .before .before .before .before .pre .0) (closed .shape) all-reached)) ∙ not-false _ (c .if3 .left)))
 
 pub first-fault-spec : {M : Type 1} → statement M
 first-fault-spec =

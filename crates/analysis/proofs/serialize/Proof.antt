@@ -9,7 +9,6 @@ use Rattle.analysis.proofs.serialize.Lts as lts
 use Rattle.analysis.proofs.refused_analysis.Reads as refused-analysis-reads
 use Rattle.analysis.proofs.waits_from.Reads as waits-from-reads
 use Rattle.analysis.proofs.waits_verdict.Reads as waits-verdict-reads
-use Rattle.order.proofs.order.Reads as order-reads
 use Rattle.reach.proofs.reach.Reads as reach-reads
 use Rattle.waits.proofs.count_waits.Reads as count-waits-reads
 use Rattle.waits.proofs.is_inconsistent.Reads as is-inconsistent-reads
@@ -37,16 +36,13 @@ count-waits-requires c κs = search needs
 waits-verdict-requires : tie.Need-waits-verdict-requires
 waits-verdict-requires c κs = search needs
 
-order-requires : tie.Need-order-requires
-order-requires c κs = search needs
-
 returns-2 : tie.Need-returns-2
 returns-2 c closed =
-    let reaches = reached-reaches (closed .shape) (c .before .before .before .before .before .before .before .before .before .reach .ensures) in
-    let consistent = sym (c .before .before .before .before .before .before .before .is-inconsistent .ensures .1 _ reaches) ∙ c .before .before .before .before .before .before .if1 .left in
-    let maps = c .before .before .before .before .waits-from .ensures closed reaches in
-    let count = c .before .before .count-waits .ensures .1 _ maps in
-    serialized-found _ _ _ _ consistent (c .before .waits-verdict .ensures _ _ count) (record { reaches = reaches; maps = maps; count = count })
+    let reaches = reached-reaches (closed .shape) (c .before .before .before .before .before .before .before .before .reach .ensures) in
+    let consistent = sym (c .before .before .before .before .before .before .is-inconsistent .ensures .1 _ reaches) ∙ c .before .before .before .before .before .if1 .left in
+    let maps = c .before .before .before .waits-from .ensures closed reaches in
+    let count = c .before .count-waits .ensures .1 _ maps in
+    serialized-found _ _ _ _ consistent (c .waits-verdict .ensures _ _ count) (record { reaches = reaches; maps = maps; count = count })
 
 pub serialize-spec : {M : Type 1} → statement M
 serialize-spec =
@@ -59,5 +55,4 @@ serialize-spec =
     waits-from-requires
     count-waits-requires
     waits-verdict-requires
-    order-requires
     returns-2)

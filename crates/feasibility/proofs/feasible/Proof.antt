@@ -1,39 +1,54 @@
 -- `feasibility::feasible` meets its contract.
 use borrow.Author.Needs.{needs}
 use native.Mathlib.Omega.{arith}
-use mathlib.Core.Path.{refl, ap, _∙_}
-use mathlib.Core.Bool.{not}
-use borrow.Author.Tests.{not-true}
-use Prim.Native.Nat.{_-_}
-use Rattle.definitions.specs.Rounds.{source-row, raise}
-use Rattle.feasibility.proofs.Passing.{Turned, turned-start, turned-step, turned-small, turned-length, turned-last, turned-rest, was-stable, not-not}
+use Prim.Native.Nat.{_+_, _-_}
+use Rattle.feasibility.proofs.Searching.{Searched, circle-found, searched-more, searched-rest, searched-spent, searched-start}
 use Rattle.feasibility.proofs.feasible.Statement.{statement}
 use Rattle.feasibility.proofs.feasible.Tie as tie
+use Rattle.feasibility.proofs.feasible.Reads as reads
+use Rattle.feasibility.proofs.feasible.Lts as lts
+use Rattle.adjacency.proofs.lists.Reads as lists-reads
+use Rattle.bitmaps.proofs.lowest.Reads as lowest-reads
+use Rattle.feasibility.proofs.closes_above.Reads as closes-above-reads
+use Rattle.feasibility.proofs.far_back.Reads as far-back-reads
+use Rattle.feasibility.proofs.sweep.Reads as sweep-reads
+use Rattle.feasibility.proofs.uncut.Reads as uncut-reads
 
 abbrev Inv-loop : tie.InvT-loop
-Inv-loop es n row₀ k₀ row k = Turned es row n k
+Inv-loop es order n lists row₀ via₀ marks₀ k₀ row via marks k = Searched es n k row via marks
 
 abbrev μ-loop : tie.MeasureT-loop
-μ-loop es n row₀ k₀ row k = n - k
+μ-loop es order n lists row₀ via₀ marks₀ k₀ row via marks k = n + 1 - k
+
+lists-requires : tie.Need-lists-requires Inv-loop μ-loop
+lists-requires c κs = search needs
 
 array-write-row : tie.Need-array-write-row Inv-loop μ-loop
 array-write-row c = search needs
 
 loop-holds : tie.Need-loop-holds Inv-loop μ-loop
-unfolding source-row raise
-loop-holds c = turned-start _ _ _ refl
+loop-holds c = searched-start _ _
 
-round-row-requires : tie.Need-round-row-requires Inv-loop μ-loop
-round-row-requires c κs =
-    let s = c .before .before in
-    let p = s .before .before .pre in
-    (p .2, turned-length _ _ _ _ (s .loop .inv), λ v. omega (arith, turned-small _ _ (s .loop .row) (s .loop .k) (p .2) (s .loop .inv) v, s .loop .inv .inside, p .1))
+sweep-requires : tie.Need-sweep-requires Inv-loop μ-loop
+sweep-requires c κs = let p = c .before .before .before .before .before .before .before .pre in let h = c .before .before .before .before .loop .inv in (p .1, p .2, c .before .before .before .before .before .lists .ensures, h .long, h .noted)
+
+uncut-requires : tie.Need-uncut-requires Inv-loop μ-loop
+uncut-requires c κs = search needs
 
 returns : tie.Need-returns Inv-loop μ-loop
-returns c I =
-    let s = c .before .before .before .before in
-    let p = s .before .before .pre in
-    turned-rest _ _ _ _ (p .0) (p .1) (s .loop .inv) (was-stable _ _ (c .before .round-row .ensures .1) (not-true _ (c .if1 .taken))) I
+returns c = let p = c .before .before .before .before .before .before .before .before .before .before .before .pre in searched-rest _ _ (p .0) (p .1) (c .before .before .before .before .before .before .before .before .loop .inv) (c .before .before .before .sweep .ensures) (omega arith) _ (c .uncut .ensures)
+
+lowest-requires : tie.Need-lowest-requires Inv-loop μ-loop
+lowest-requires c κs = omega arith
+
+far-back-requires : tie.Need-far-back-requires Inv-loop μ-loop
+far-back-requires c κs = c .before .lowest .ensures .below
+
+closes-above-requires : tie.Need-closes-above-requires Inv-loop μ-loop
+closes-above-requires c κs = (c .before .far-back .ensures, c .before .before .before .before .before .before .before .before .before .before .before .before .before .pre .1)
+
+returns-2 : tie.Need-returns-2 Inv-loop μ-loop
+returns-2 c = circle-found _ _ (c .before .before .before .before .before .before .before .before .before .before .before .before .before .before .before .pre .0) (c .before .closes-above .ensures (c .if2 .taken))
 
 add-k : tie.Need-add-k Inv-loop μ-loop
 add-k c = search needs
@@ -42,21 +57,10 @@ loop-less : tie.Need-loop-less Inv-loop μ-loop
 loop-less c = search needs
 
 loop-again : tie.Need-loop-again Inv-loop μ-loop
-loop-again c = turned-step _ _ _ _ _ (c .before .before .before .loop-test .taken) (c .before .before .before .before .loop .inv) (c .before .round-row .ensures .0)
+loop-again c = let p = c .before .before .before .before .before .before .before .before .before .before .before .before .before .before .before .pre in searched-more _ _ (p .0) (p .1) (c .before .before .before .before .before .before .before .before .before .before .before .before .loop .inv) (c .before .before .before .before .before .before .before .sweep .ensures) _ (c .before .before .before .before .before .lowest .ensures .member) (c .before .before .before .before .before .before .before .before .before .before .before .loop-test .taken)
 
-round-row-requires-2 : tie.Need-round-row-requires-2 Inv-loop μ-loop
-round-row-requires-2 c κs =
-    let s = c .before .before in
-    let p = s .before .before .pre in
-    (p .2, turned-length _ _ _ _ (s .loop .inv), λ v. omega (arith, turned-small _ _ (s .loop .row) (s .loop .k) (p .2) (s .loop .inv) v, s .loop .inv .inside, p .1))
-
-returns-2 : tie.Need-returns-2 Inv-loop μ-loop
-returns-2 c I =
-    let s = c .before .before .before in
-    let p = s .before .before .pre in
-    ap not (c .round-row2 .ensures .1)
-    ∙ not-not _
-    ∙ turned-last _ _ _ _ (p .0) (p .1) (s .loop .inv) (c .before .before .loop-test .left) I
+returns-3 : tie.Need-returns-3 Inv-loop μ-loop
+returns-3 c = let p = c .before .before .before .before .pre in searched-spent _ _ (p .0) (p .1) (c .before .loop .inv) (omega arith)
 
 pub feasible-spec : {M : Type 1} → statement M
 feasible-spec =
@@ -64,12 +68,17 @@ feasible-spec =
     (tie.spec
     Inv-loop
     μ-loop
+    lists-requires
     array-write-row
     loop-holds
-    round-row-requires
+    sweep-requires
+    uncut-requires
     returns
+    lowest-requires
+    far-back-requires
+    closes-above-requires
+    returns-2
     add-k
     loop-less
     loop-again
-    round-row-requires-2
-    returns-2)
+    returns-3)

@@ -1,0 +1,44 @@
+-- `feasibility::enters` meets its contract.
+use borrow.Author.Needs.{needs}
+use native.Mathlib.Omega.{arith}
+use mathlib.Core.Path.{sym, _∙_}
+use mathlib.Core.Bool.{true≢false}
+use borrow.Author.Tests.{eqb-true}
+use Rattle.feasibility.proofs.enters.Statement.{statement}
+use Rattle.feasibility.proofs.enters.Tie as tie
+use Rattle.feasibility.proofs.enters.Reads as reads
+use Rattle.feasibility.proofs.enters.Lts as lts
+use Rattle.edges.proofs.edge_to.Reads as edge-to-reads
+
+returns : tie.Need-returns
+returns c = λ h. absurd (true≢false (sym h))
+
+returns-2 : tie.Need-returns-2
+returns-2 c = λ h. absurd (true≢false (sym h))
+
+sub-edge-to : tie.Need-sub-edge-to
+sub-edge-to c = search needs
+
+mul-edge-to : tie.Need-mul-edge-to
+mul-edge-to c = search needs
+
+shared-slice-read-edge-to : tie.Need-shared-slice-read-edge-to
+shared-slice-read-edge-to c = search needs
+
+edge-to-requires : tie.Need-edge-to-requires
+edge-to-requires c κs = search needs
+
+returns-3 : tie.Need-returns-3
+returns-3 c = λ h. (omega arith, omega arith, sym (c .edge-to .ensures .0) ∙ eqb-true _ _ h)
+
+pub enters-spec : {M : Type 1} → statement M
+enters-spec =
+    tie.close
+    (tie.spec
+    returns
+    returns-2
+    sub-edge-to
+    mul-edge-to
+    shared-slice-read-edge-to
+    edge-to-requires
+    returns-3)

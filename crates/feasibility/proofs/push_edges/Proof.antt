@@ -1,0 +1,85 @@
+-- `feasibility::push_edges` meets its contract.
+use borrow.Author.Needs.{needs}
+use native.Mathlib.Omega.{arith}
+use mathlib.Core.Path.{_∙_}
+use Prim.Native.Nat.{_≤_}
+use Rattle.feasibility.proofs.Pushing.{Listing, listing-end, listing-less, listing-next, listing-start, listing-turn}
+use Rattle.feasibility.proofs.push_edges.Statement.{statement}
+use Rattle.feasibility.proofs.push_edges.Tie as tie
+use Rattle.feasibility.proofs.push_edges.Reads as reads
+use Rattle.feasibility.proofs.push_edges.Lts as lts
+use Rattle.feasibility.proofs.index.Reads as index-reads
+use Rattle.feasibility.proofs.push_word.Reads as push-word-reads
+
+abbrev Inv-loop : tie.InvT-loop
+Inv-loop row₀ via₀ marks es lists u m₀ k₀ row via m k = Listing es u row₀ row via marks m k
+
+abbrev μ-loop : tie.MeasureT-loop
+μ-loop row₀ via₀ marks es lists u m₀ k₀ row via m k = k
+
+mul-index : tie.Need-mul-index Inv-loop μ-loop
+mul-index c = search needs
+
+element-copy-out-index : tie.Need-element-copy-out-index Inv-loop μ-loop
+element-copy-out-index c = search needs
+
+index-requires : tie.Need-index-requires Inv-loop μ-loop
+index-requires c κs = search needs
+
+loop-holds : tie.Need-loop-holds Inv-loop μ-loop
+loop-holds c = let s = c .before .before .before in listing-start _ _ _ _ _ _ (s .pre .3) (s .pre .4) (c .index .ensures ∙ s .pre .2 .heads _ (s .pre .0))
+
+sub-push-word : tie.Need-sub-push-word Inv-loop μ-loop
+sub-push-word c = search needs
+
+mul-push-word : tie.Need-mul-push-word Inv-loop μ-loop
+mul-push-word c = omega (arith, c .before .before .before .loop .inv .few)
+
+shared-slice-read-push-word : tie.Need-shared-slice-read-push-word Inv-loop μ-loop
+shared-slice-read-push-word c = omega (arith, c .before .before .before .before .loop .inv .few)
+
+push-word-requires : tie.Need-push-word-requires Inv-loop μ-loop
+push-word-requires c κs = let h = c .before .before .before .before .loop .inv .pushed in (h .long, h .noted)
+
+add-index : tie.Need-add-index Inv-loop μ-loop
+add-index c = omega (arith, c .before .before .before .before .before .loop .inv .few, c .before .before .before .before .before .before .before .before .before .pre .1)
+
+mul-index-2 : tie.Need-mul-index-2 Inv-loop μ-loop
+mul-index-2 c = omega (arith, c .before .before .before .before .before .loop .inv .few, c .before .before .before .before .before .before .before .before .before .pre .1)
+
+element-copy-out-index-2 : tie.Need-element-copy-out-index-2 Inv-loop μ-loop
+element-copy-out-index-2 c = omega (arith, c .before .before .before .before .before .loop .inv .few, c .before .before .before .before .before .before .before .before .before .pre .1)
+
+index-requires-2 : tie.Need-index-requires-2 Inv-loop μ-loop
+index-requires-2 c κs = search needs
+
+loop-less : tie.Need-loop-less Inv-loop μ-loop
+loop-less c = let s = c .before .before .before .before .before .before .before in let some : 1 ≤ s .loop .k = omega arith in listing-less _ _ _ _ _ _ _ _ _ _ _ _ some (s .loop .inv) (c .before .before .push-word .ensures) (listing-next _ _ _ _ _ _ _ _ _ _ (c .before .before .before .before .before .before .before .before .before .before .before .pre .2) some (s .loop .inv) (c .index2 .ensures))
+
+loop-again : tie.Need-loop-again Inv-loop μ-loop
+loop-again c = let s = c .before .before .before .before .before .before .before in let some : 1 ≤ s .loop .k = omega arith in listing-turn _ _ _ _ _ _ _ _ _ _ _ _ some (s .loop .inv) (c .before .before .push-word .ensures) (listing-next _ _ _ _ _ _ _ _ _ _ (c .before .before .before .before .before .before .before .before .before .before .before .pre .2) some (s .loop .inv) (c .index2 .ensures))
+
+returns : tie.Need-returns Inv-loop μ-loop
+returns c = listing-end _ _ _ _ _ _ _ _ (omega arith) (c .before .loop .inv)
+
+pub push-edges-spec : {M : Type 1} → statement M
+push-edges-spec =
+    tie.close
+    (tie.spec
+    Inv-loop
+    μ-loop
+    mul-index
+    element-copy-out-index
+    index-requires
+    loop-holds
+    sub-push-word
+    mul-push-word
+    shared-slice-read-push-word
+    push-word-requires
+    add-index
+    mul-index-2
+    element-copy-out-index-2
+    index-requires-2
+    loop-less
+    loop-again
+    returns)
