@@ -2,7 +2,7 @@
 use mathlib.Core.Path.{_≡_, refl, sym, ap, _∙_}
 use mathlib.Core.Bool.{Bool, true, false, not, _&&_}
 use mathlib.Core.Logic.{_⊎_, inl, inr, _≢_}
-use mathlib.Core.List.{List, List·Memᴰ, Memᴰ·cast, Memᴰ·map, Memᴰ·of-map}
+use mathlib.Core.List.{List, Memᴰ·cast, Memᴰ·map, Memᴰ·of-map}
 use Prim.Native.Nat.{ℕ, suc, _+_, _-_, _≤_, _<_, min}
 use native.Mathlib.Omega.{arith}
 use native.Mathlib.Decide.{decLe}
@@ -19,7 +19,7 @@ use Rattle.edges.specs.Words.{graph, unpack}
 use Rattle.laws.proofs.Bools.{and-split, both-ways, same-or-not}
 use Rattle.laws.proofs.Lists.{mem-at, mem-place}
 use Rattle.laws.proofs.Maps.{test-zero}
-use Rattle.relaxation.specs.Columns.{Covered, Handed, HandedAll, Only, Square, WaitsFor, column, cut-hand, marks}
+use Rattle.relaxation.specs.Columns.{Handed, HandedAll, Only, Square, WaitsFor, column, cut-hand, marks}
 use Rattle.theory.proofs.Relaxation.{extend-mono}
 
 -- What an edge hands on grows with the cell that it reads.

@@ -3,18 +3,17 @@ use mathlib.Core.Path.{_≡_, refl, sym, ap, subst, _∙_}
 use mathlib.Core.Bool.{Bool, true, false}
 use mathlib.Core.Logic.{_⊎_, inl, inr, _≢_}
 use mathlib.Core.List.{List, List·Memᴰ}
-use Prim.Native.Nat.{ℕ, _+_, _-_, _≤_, _<_}
+use Prim.Native.Nat.{ℕ, _-_, _≤_, _<_}
 use native.Mathlib.Omega.{arith}
 use native.Mathlib.Decide.{decLe}
 use lib.ListN.{length, getD, set}
 use lib.Seq.{getD-set-other}
 use Rattle.definitions.specs.Basics.{test-bit}
 use Rattle.definitions.specs.Links.{Edge, Graph, members}
-use Rattle.definitions.specs.Waits.{wait-edge}
 use Rattle.edges.specs.Words.{graph}
 use Rattle.laws.proofs.Bools.{bool-cases, same-or-not}
 use Rattle.laws.proofs.Maps.{test-zero}
-use Rattle.relaxation.specs.Columns.{Covered, Handed, HandedAll, Square, Swept, SweptAll, WaitsFor, column, cut-hand, marks}
+use Rattle.relaxation.specs.Columns.{Covered, Handed, HandedAll, Square, Swept, SweptAll, WaitsFor, cut-hand, marks}
 use Rattle.sweeps.specs.Graphs.{Both}
 use Rattle.sweeps.proofs.Handing.{cut-mono, cut-same, handed-all, mark-back}
 
