@@ -13,7 +13,7 @@ unfoldable pub last-from : List ℕ → ℕ → ℕ → ℕ
 last-from es u zero = 0
 last-from es u (suc k) = cond (eqb (unpack (getD es k 0) .from) u) (suc k) (last-from es u k)
 
--- The lists of all words.
+-- The lists of all words. Places past the last word are free: nothing is said of them.
 pub record Lists (es lists : List ℕ) : Type 0 where
   pub heads : (u : ℕ) → u < 64 → getD lists u 0 ≡ last-from es u (length es)
   pub nexts : (i : ℕ) → i < length es → getD lists (64 + i) 0 ≡ last-from es (unpack (getD es i 0) .from) i

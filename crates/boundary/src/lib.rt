@@ -1,5 +1,5 @@
-// The library for C and Rust: the planner's functions on numbers and slices. A verdict is returned as one number: 0 or 1 where the sheet is accepted, 256 + k where it is refused by k.
-// Each function is thin over the planner's, and its answer is that of the definitions for every input.
+// The library for C and Rust: the planner's and the dispatcher's functions on numbers and slices. A verdict is returned as one number: 0 or 1 where the sheet is accepted, 256 + k where it is refused by k.
+// Each function is thin over one of theirs, and its answer is that of the definitions for every input.
 ghost use mathlib.Core.Path.{_≡_};
 ghost use Rattle.definitions.specs.Answers.{judged, planned, starts-answer, waits-answer};
 ghost use Rattle.definitions.specs.Dispatcher as Dispatcher;

@@ -70,7 +70,7 @@ fn word(from: u64, to: u64, counted: u64, back: u64, gain: u64, loss: u64) -> u6
     from + to * 64 + counted * 4096 + back * 8192 + gain * 16384 + loss * 274877906944
 }
 
-// The word of an edge whose fields fit; others are cut down to their low digits.
+// The word of an edge whose fields fit. Others are cut down to their low digits, which is not promised.
 pub fn pack(from: u8, to: u8, gain: u32, loss: u32, counted: bool, back: bool) -> u64
     ensures { λ r. ⌜ (Fit from to → gain < 16777216 → loss < 16777216 → unpack r ≡ edge from to gain loss counted back) ⌝ }
 {

@@ -3,7 +3,7 @@ use mathlib.Core.Path.{_≡_, refl, sym, ap, subst, _∙_}
 use mathlib.Core.Bool.{Bool, true, false, cond, _&&_, true≢false}
 use mathlib.Core.Logic.{_⊎_, inl, inr, _≢_}
 use mathlib.Core.List.{List, List·Memᴰ, [], _++_, List·Memᴰ·append-cases, Memᴰ·append-left, Memᴰ·append-right}
-use Prim.Native.Nat.{ℕ, zero, suc, _+_, _-_, _≤_, _<_, min}
+use Prim.Native.Nat.{ℕ, zero, suc, _+_, _-_, _≤_, _<_}
 use native.Mathlib.Omega.{arith}
 use lib.Dec.{eqb, ltb}
 use lib.ListN.{length, getD, set, replicate, getD-replicate}
@@ -16,8 +16,8 @@ use Rattle.definitions.specs.Rounds.{cell, extend}
 use Rattle.definitions.specs.Waits.{wait-edge}
 use Rattle.edges.specs.Serial.{wait-edges}
 use Rattle.edges.specs.Words.{graph}
-use Rattle.edges.proofs.Waiting.{WaitBit, wait-edges-has, wait-edges-only}
-use Rattle.laws.proofs.Bools.{and-join, and-split, bool-cases, both-ways, same-or-not}
+use Rattle.edges.proofs.Waiting.{wait-edges-has, wait-edges-only}
+use Rattle.laws.proofs.Bools.{and-join, and-split, both-ways, same-or-not}
 use Rattle.laws.proofs.Maps.{test-zero}
 use Rattle.laws.proofs.Tests.{all-below-each}
 use Rattle.relations.specs.Rows.{row-bit}
@@ -27,12 +27,12 @@ use Rattle.seeding.specs.Seeds.{SeededAll, WaitsBelow}
 use Rattle.seeding.proofs.Seeding.{seeded-then}
 use Rattle.sweeps.specs.Graphs.{Both}
 use Rattle.theory.specs.Graphs.{Gains, Well}
-use Rattle.theory.specs.Sweeps.{Leads, Seeds, Settles, Sweep, Sweeps, hand, more, none}
+use Rattle.theory.specs.Sweeps.{Seeds, Settles, Sweeps, hand, more, none}
 use Rattle.theory.proofs.FirstRows.{zeros-at}
 use Rattle.theory.proofs.Relaxation.{extend-mono}
 use Rattle.theory.proofs.Sweeping.{offsets-seeded, offsets-settle, offsets-small, offsets-swept, sweeps-rest}
 use Rattle.theory.proofs.WaitLists.{usable-all}
-use Rattle.heaviest.specs.Settling.{Above, First, FirstMarks, Settling, SettlingAll, Within}
+use Rattle.heaviest.specs.Settling.{Above, First, FirstMarks, SettlingAll, Within}
 
 -- Below a settled column that is small, nothing that an edge hands on is cut.
 uncut : {E : Graph} {r s t : ℕ → ℕ} → Above E r t → ((v : ℕ) → s v ≤ t v) → (e : Edge) → E e → hand s e ≤ cut-hand s e

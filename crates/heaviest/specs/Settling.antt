@@ -1,6 +1,6 @@
 -- Sweeps over a working table until nothing is left to hand on, and what the table begins with. The terms are those of relaxation's specs/Columns.antt.
 use mathlib.Core.Path.{_≡_}
-use mathlib.Core.Bool.{Bool, true, false, cond, _&&_}
+use mathlib.Core.Bool.{Bool, true, cond, _&&_}
 use mathlib.Core.List.{List}
 use Prim.Native.Nat.{ℕ, _≤_, _<_}
 use lib.Dec.{eqb}

@@ -1,22 +1,22 @@
 -- What the answers of planning and of listing waits say of the text that `standplan` prints.
 use mathlib.Core.Path.{_≡_, refl, sym, ap, subst, _∙_}
 use mathlib.Core.Bool.{Bool, true, false, _&&_}
-use mathlib.Core.List.{List, [], _∷_, _++_}
-use Prim.Native.Nat.{ℕ, zero, suc, _*_, _≤_, _<_}
+use mathlib.Core.List.{List, [], _∷_}
+use Prim.Native.Nat.{ℕ, zero, suc, _*_, _≤_}
 use native.Mathlib.Omega.{arith}
 use lib.Dec.{leb}
 use lib.ListN.{length, getD, take, drop, length-append}
 use borrow.Author.Tests.{le-ltb}
-use Rattle.definitions.specs.Answers.{Waits, count-of, edges-of, judge-records, judged, no-waits, plan-read, plan-verdict, planned, serialized-of, too-short, waits-answer, waits-read, waits-when, written}
-use Rattle.definitions.specs.Basics.{Outcome, given, refused, refuse-if, when-given, test-bit}
+use Rattle.definitions.specs.Answers.{Waits, count-of, edges-of, judge-records, judged, plan-read, plan-verdict, planned, serialized-of, too-short, waits-answer, waits-read, waits-when, written}
+use Rattle.definitions.specs.Basics.{Outcome, given, refused, refuse-if, when-given}
 use Rattle.definitions.specs.Bytes.{Parser, Records, Taken, at-end, byte, demand, operation, operations, read, records, sheet, two-bytes}
 use Rattle.definitions.specs.Bytes.{links as links-of}
 use Rattle.definitions.specs.Links.{Edge}
 use Rattle.definitions.specs.Output.{standplan}
 use Rattle.definitions.specs.Plan.{plan-table}
-use Rattle.definitions.specs.Waits.{wait-maps, wait-count, waits-for}
-use Rattle.demands.specs.Demands.{Accepted, Bytes}
-use Rattle.demands.proofs.Reading.{Fits, read-fits}
+use Rattle.definitions.specs.Waits.{wait-maps, wait-count}
+use Rattle.demands.specs.Demands.{Bytes}
+use Rattle.demands.proofs.Reading.{read-fits}
 use Rattle.demands.proofs.Planning.{offset-for}
 use Rattle.laws.proofs.Outcomes.{given-not-refused, given-same, refused-same, refuse-given, when-given-has, when-given-by}
 use Rattle.planner.specs.Answers.{Lists}

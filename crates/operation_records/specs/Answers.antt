@@ -35,7 +35,7 @@ abbrev pub place-end : Place → ℕ
 place-end (Places.At next) = next
 place-end (Places.Refused k) = 0
 
--- The n step records from the place `at` on, which end within the bytes; the array holds those that were read, and blank ones behind them.
+-- The n step records from the place `at` on, which end within the bytes; the array holds them, and blank ones behind them. Beside a refusal the first n entries are free.
 pub record OperationsReads (s : List ℕ) (at n : ℕ) (r : OperationsRead) : Type 0 where
   pub same : row-read s (take n (r .operations)) (r .place) ≡ operations n (drop at s)
   pub inside : place-end (r .place) ≤ length s

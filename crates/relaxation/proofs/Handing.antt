@@ -3,14 +3,14 @@ use mathlib.Core.Path.{_≡_, refl, sym, ap, _∙_}
 use mathlib.Core.Bool.{Bool, true, false, _||_, true≢false}
 use mathlib.Core.Logic.{_⊎_, inl, inr, _≢_}
 use mathlib.Core.List.{List}
-use Prim.Native.Nat.{ℕ, _≤_, _<_}
+use Prim.Native.Nat.{ℕ, _<_}
 use native.Mathlib.Omega.{arith}
 use lib.ListN.{length, getD, set, length-set}
 use lib.Seq.{getD-set-same, getD-set-other}
 use Rattle.definitions.specs.Basics.{test-bit}
 use Rattle.definitions.specs.Links.{Edge}
 use Rattle.laws.proofs.Bools.{or-left, same-or-not}
-use Rattle.relaxation.specs.Columns.{HandedAll, Only, RelaxedAll, column, cut-hand, marks}
+use Rattle.relaxation.specs.Columns.{HandedAll, Only, RelaxedAll, column, marks}
 
 or-false : (x y : Bool) → (x || y) ≡ false → y ≡ false
 or-false true y h = absurd (true≢false h)

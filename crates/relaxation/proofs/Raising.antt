@@ -12,7 +12,7 @@ use borrow.Author.Tests.{eq-eqb, ne-eqb}
 use Rattle.definitions.specs.Basics.{test-bit}
 use Rattle.definitions.specs.Links.{Edge}
 use Rattle.definitions.specs.Rounds.{extend}
-use Rattle.laws.proofs.Bools.{bool-cases, both-ways, same-or-not}
+use Rattle.laws.proofs.Bools.{both-ways, same-or-not}
 use Rattle.laws.proofs.Maps.{test-zero}
 use Rattle.theory.specs.Sweeps.{hand}
 use Rattle.theory.proofs.Relaxation.{extend-mono}

@@ -26,7 +26,7 @@ column d a v = entry d v a
 abbrev pub marks : List ℕ → ℕ → ℕ → Bool
 marks fresh a v = row-bit fresh v a
 
--- One cell took the larger of what it had and c; raised says whether it grew.
+-- One cell took the larger of what it had and c. Where `raised` does not stand it did not grow; where it stands nothing is said.
 pub record Raised (v a c : ℕ) (d d′ : List (List ℕ)) (raised : Bool) : Type 0 where
   pub square : Square d′
   pub here : entry d′ v a ≡ max (entry d v a) c
@@ -77,7 +77,7 @@ pub record WaitsFor (u m : ℕ) (e : Edge) : Type 0 where
 abbrev pub Covered : Graph → (ℕ → ℕ) → (ℕ → Bool) → Type 0
 Covered E r f = (e : Edge) → E e → f (e .from) ≡ false → cut-hand r e ≤ r (e .to)
 
--- Steps hand on, one after another, all that they have not handed on yet: those of On at least once. A step's marks go, those of what it raises stand.
+-- Steps hand on, one after another, all that they have not handed on yet: those of On at least once. Of the marks it is said that a step without one has handed on all, and no more.
 pub record Swept (E : Graph) (On : ℕ → Type 0) (r s : ℕ → ℕ) (f g : ℕ → Bool) : Type 0 where
   pub up : (v : ℕ) → r v ≤ s v
   pub sound : (t : ℕ → ℕ) → Settles E t → ((v : ℕ) → r v ≤ t v) → (v : ℕ) → s v ≤ t v

@@ -1,4 +1,4 @@
-// Cells handed on along edges: one edge, the edges out of one step, the waits for it. A cell is 0 where no walk comes, w + 1 for the weight w. See specs/Columns.antt.
+// Cells handed on along one edge, for the anchors of a map. A cell is 0 where no walk comes, w + 1 for the weight w. See specs/Columns.antt.
 use edges::edge_from;
 use edges::edge_gain;
 use edges::edge_loss;

@@ -3,21 +3,20 @@ use mathlib.Core.Path.{_≡_, refl, sym, ap, subst, _∙_}
 use mathlib.Core.Bool.{Bool, true, false, not, _&&_, _||_, true≢false}
 use mathlib.Core.Logic.{_⊎_, inl, inr, _≢_}
 use mathlib.Core.List.{List, List·Memᴰ, [], _∷_, _++_, List·Memᴰ·append-cases, List·Memᴰ·eq-of-singleton, List·Memᴰ·head, List·Memᴰ·not-nil, Memᴰ·append-left, Memᴰ·append-right, map, map-append}
-use Prim.Native.Nat.{ℕ, suc, _+_, _-_, _≤_, _<_, max}
+use Prim.Native.Nat.{ℕ, suc, _+_, _-_, _≤_, _<_}
 use native.Mathlib.Omega.{arith}
 use native.Mathlib.Numerals.{add-one}
 use native.Mathlib.Decide.{decLt}
 use lib.Dec.{eqb}
 use lib.ListN.{length, getD, set, take, length-set}
 use lib.Seq.{getD-set-same, getD-set-other, take-suc, take-length}
-use borrow.Author.Tests.{eq-eqb, ne-eqb}
+use borrow.Author.Tests.{eq-eqb}
 use Rattle.definitions.specs.Basics.{test-bit}
 use Rattle.definitions.specs.Links.{Edge, Graph, _⊑_, members}
 use Rattle.definitions.specs.Waits.{wait-edge}
 use Rattle.edges.specs.Words.{graph, unpack}
-use Rattle.laws.proofs.Bools.{both-ways, or-left, or-right, same-or-not}
-use Rattle.laws.proofs.Maps.{test-zero}
-use Rattle.relaxation.specs.Columns.{Only, Raised, Square, WaitsFor, column, entry, marks}
+use Rattle.laws.proofs.Bools.{both-ways, or-right, same-or-not}
+use Rattle.relaxation.specs.Columns.{Only, Raised, Square, WaitsFor, column, marks}
 use Rattle.sweeps.proofs.Handing.{Told, told-before, told-new, told-split, told-waits, waits-told}
 use Rattle.theory.specs.Sweeps.{Leads}
 use Rattle.seeding.specs.Seeds.{Begun, Marked, Seeded, SeededAll, WaitsBelow}

@@ -3,7 +3,7 @@ use mathlib.Core.Logic.{_⊎_}
 use mathlib.Core.List.{List, List·Memᴰ}
 use Prim.Native.Nat.{ℕ}
 use lib.ListN.{getD}
-use Rattle.definitions.specs.Links.{Edge, Graph}
+use Rattle.definitions.specs.Links.{Graph}
 use Rattle.edges.specs.Words.{graph}
 use Rattle.relaxation.specs.Columns.{WaitsFor}
 

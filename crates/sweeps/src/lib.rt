@@ -2,7 +2,7 @@
 use edges::wait_word;
 use relaxation::push_word;
 ghost use mathlib.Core.Path.{_≡_};
-ghost use Prim.Native.Nat.{ℕ, _<_, _≤_};
+ghost use Prim.Native.Nat.{_<_, _≤_};
 ghost use lib.ListN.{length};
 ghost use Rattle.adjacency.specs.Lists.{Lists};
 ghost use Rattle.definitions.specs.Links.{members};

@@ -1,7 +1,6 @@
 -- `relaxation::extended` meets its contract.
 use native.Mathlib.Omega.{arith}
 use borrow.Author.Needs.{needs}
-use mathlib.Core.Path.{sym, _∙_}
 use Rattle.relaxation.proofs.Raising.{extend-none, extend-some}
 use Rattle.relaxation.proofs.extended.Statement.{statement}
 use Rattle.relaxation.proofs.extended.Tie as tie

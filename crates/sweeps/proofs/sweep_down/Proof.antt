@@ -1,8 +1,8 @@
 -- `sweeps::sweep_down` meets its contract.
 use borrow.Author.Needs.{needs}
 use native.Mathlib.Omega.{arith}
-use mathlib.Core.Logic.{inl, inr}
-use Prim.Native.Nat.{ℕ, _-_, _≤_, _<_}
+use mathlib.Core.Logic.{inl}
+use Prim.Native.Nat.{_≤_, _<_}
 use Rattle.relaxation.specs.Columns.{SweptAll}
 use Rattle.sweeps.specs.Graphs.{Both}
 use Rattle.sweeps.proofs.Sweeping.{swept-none, swept-then, swept-down}

@@ -1,11 +1,10 @@
 -- `sweeps::sweep_order` meets its contract.
 use borrow.Author.Needs.{needs}
-use native.Mathlib.Omega.{arith}
-use mathlib.Core.Logic.{inl, inr}
-use Prim.Native.Nat.{ℕ, _-_, _≤_, _<_}
+use mathlib.Core.Logic.{inl}
+use Prim.Native.Nat.{_-_}
 use Rattle.relaxation.specs.Columns.{SweptAll}
 use Rattle.sweeps.specs.Graphs.{Both}
-use Rattle.sweeps.proofs.Sweeping.{swept-none, swept-then, swept-down}
+use Rattle.sweeps.proofs.Sweeping.{swept-none, swept-then}
 use Rattle.sweeps.proofs.sweep_order.Statement.{statement}
 use Rattle.sweeps.proofs.sweep_order.Tie as tie
 use Rattle.sweeps.proofs.sweep_order.Reads as reads
