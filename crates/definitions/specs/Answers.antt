@@ -1,10 +1,10 @@
 -- "From the input" from 8 on: what each call answers, with every refusal in its order.
-use mathlib.Core.Bool.{Bool, true, false, cond, not, _&&_, _||_}
-use mathlib.Core.List.{List, [], _∷_, _++_}
+use mathlib.Core.Bool.{Bool, true, cond, not, _&&_, _||_}
+use mathlib.Core.List.{List, _++_}
 use Prim.Native.Nat.{ℕ, _*_}
 use lib.Dec.{ltb, leb}
 use lib.ListN.{length, drop, replicate}
-use Rattle.definitions.specs.Basics.{any, any-below, all-below, Outcome, given, refused, refuse-if, when-given}
+use Rattle.definitions.specs.Basics.{any, any-below, Outcome, given, refused, refuse-if, when-given}
 use Rattle.definitions.specs.Bytes.{Records, read}
 use Rattle.definitions.specs.Links.{Edge, constraints, edges, forwards, usable}
 use Rattle.definitions.specs.Rounds.{rounds, stable, source-row, reaches, after-reaches}

@@ -1,5 +1,5 @@
 -- What the definitions are written with: tests over lists and over the numbers below n, and answers that may be refusals. No term of document 01 stands here.
-use mathlib.Core.Bool.{Bool, true, false, cond, not, _&&_, _||_}
+use mathlib.Core.Bool.{Bool, true, false, cond, _&&_, _||_}
 use mathlib.Core.List.{List, [], _∷_, _++_}
 use Prim.Native.Nat.{ℕ, zero, suc, _+_, _/_, _%_, _^_, max}
 use lib.Dec.{eqb}

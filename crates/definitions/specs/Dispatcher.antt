@@ -1,11 +1,11 @@
 -- "The runner", and "From the state": the dispatcher.
 use mathlib.Core.Path.{_≡_}
-use mathlib.Core.Bool.{Bool, true, false, cond, not, _&&_, _||_}
+use mathlib.Core.Bool.{Bool, cond, not, _&&_, _||_}
 use mathlib.Core.List.{List}
 use Prim.Native.Nat.{ℕ, zero, suc, _+_, _*_, _^_}
-use lib.Dec.{eqb, leb, ltb}
+use lib.Dec.{eqb, leb}
 use lib.Bits.{bitOr}
-use lib.ListN.{length, getD, set, replicate}
+use lib.ListN.{getD, set, replicate}
 use Rattle.definitions.specs.Basics.{any-below, all-below, test-bit, bits-below, Outcome, given, refused, refuse-if}
 use Rattle.definitions.specs.Plan.{undecided}
 use Rattle.definitions.specs.Answers.{bad-count, too-short}

@@ -1,6 +1,6 @@
 -- Heaviest walks by rounds over a list of edges, the executable twin of walks. A row has a cell for each step: 0 where no walk comes there, w + 1 for the weight w.
 -- No walk that is sought weighs less than 0, so a sum stops there. What the cells are is proved in the crate theory.
-use mathlib.Core.Bool.{Bool, true, false, cond, not, _&&_}
+use mathlib.Core.Bool.{Bool, cond, not, _&&_}
 use mathlib.Core.List.{List, [], _∷_}
 use Prim.Native.Nat.{ℕ, zero, suc, _+_, _-_, max}
 use lib.Dec.{eqb, leb, ltb}

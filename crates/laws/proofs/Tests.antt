@@ -1,19 +1,15 @@
 -- The laws of the general tests: some or every element, some or every number below n, tables, selections, the largest value, maps of bits.
 use mathlib.Core.Path.{_≡_, refl, sym, ap, subst, _∙_}
-use mathlib.Core.Bool.{Bool, true, false, cond, not, _&&_, _||_, true≢false, false≢true}
-use mathlib.Core.Logic.{_⊎_, inl, inr, _≢_}
+use mathlib.Core.Bool.{Bool, true, false, cond, _&&_, _||_, true≢false, false≢true}
+use mathlib.Core.Logic.{_⊎_, inl, inr}
 use mathlib.Core.List.{List, [], _∷_, _++_, List·Memᴰ, List·Memᴰ·head, List·Memᴰ·tail, List·Memᴰ·not-nil, List·Memᴰ·cases-cons, List·Memᴰ·append-cases, List·Memᴰ·eq-of-singleton, Memᴰ·append-left, Memᴰ·append-right, flatMap}
-use Prim.Native.Nat.{ℕ, zero, suc, _+_, _-_, _*_, _/_, _%_, _^_, _≤_, _<_, max}
+use Prim.Native.Nat.{ℕ, zero, suc, _≤_, _<_, max}
 use native.Mathlib.Omega.{arith}
 use native.Mathlib.Decide.{decLe, decLt}
-use native.Mathlib.Nat.{add-mul-div-right, add-mul-mod-self-right, div-eq-of-lt, mul-assoc, pow-suc}
-use lib.Dec.{eqb, ltb}
 use lib.ListN.{length, getD, length-append, List·getD-append, List·getD-eq-default}
-use lib.Pow.{pow-pos, pow-mono, pow-add, high}
 use lib.Seq.{getD-append-add}
-use borrow.Author.Tests.{lt-ltb, le-ltb}
-use Rattle.definitions.specs.Basics.{any, all, any-below, all-below, tabulate, select-below, largest, test-bit, bits-below}
-use Rattle.laws.proofs.Bools.{bool-cases, same-or-not, both-ways, and-split, and-join, or-split, or-left, or-right, not-passing, cond-true, cond-false}
+use Rattle.definitions.specs.Basics.{any, all, any-below, all-below, tabulate, select-below, largest}
+use Rattle.laws.proofs.Bools.{bool-cases, both-ways, and-split, and-join, or-split, or-left, or-right, not-passing, cond-true, cond-false}
 
 -- Some element passes. Induction on the list.
 module _ {A : Type 0} (test : A → Bool) where

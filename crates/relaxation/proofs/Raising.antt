@@ -29,7 +29,7 @@ square-set d v row S b h = record { rows = length-set d v row ∙ S .rows; cells
 module _ (v a c : ℕ) (d : List (List ℕ)) (S : Square d) where
   pub raised-stored : v < 64 → a < 64 → entry d v a < c → Raised v a c d (set d v (set (getD d v []) a c)) true
   raised-stored h k l =
-      record { square = square-set d v row′ S h (length-set (getD d v []) a c ∙ S .cells v h); here = stored ∙ grown; other = λ w b. elsewhere w b (same-or-not w v); kept = λ q. absurd (true≢false q) }
+      record { square = square-set d v row′ S h (length-set (getD d v []) a c ∙ S .cells v h); here = stored ∙ grown; other = λ w b. elsewhere w b (same-or-not w v); grew = sym (lt-ltb (entry d v a) c l) }
     where
       row′ : List ℕ
       row′ = set (getD d v []) a c

@@ -5,6 +5,7 @@ use mathlib.Core.Bool.{Bool, true, false}
 use mathlib.Core.Logic.{_≢_, _⊎_}
 use mathlib.Core.List.{List, []}
 use Prim.Native.Nat.{ℕ, _≤_, _<_, max, min}
+use lib.Dec.{ltb}
 use lib.ListN.{length, getD}
 use Rattle.definitions.specs.Basics.{test-bit}
 use Rattle.definitions.specs.Links.{Edge, Graph}
@@ -31,7 +32,7 @@ pub record Raised (v a c : ℕ) (d d′ : List (List ℕ)) (raised : Bool) : Typ
   pub square : Square d′
   pub here : entry d′ v a ≡ max (entry d v a) c
   pub other : (w b : ℕ) → (w ≢ v) ⊎ (b ≢ a) → entry d′ w b ≡ entry d w b
-  pub kept : raised ≡ false → entry d′ v a ≡ entry d v a
+  pub grew : raised ≡ ltb (entry d v a) c
 
 -- What an edge hands on, cut at the largest number of a cell.
 abbrev pub cut-hand : (ℕ → ℕ) → Edge → ℕ

@@ -1,18 +1,16 @@
 -- Sweeps in any order find the offsets. k of them cover every walk of k edges, so n cover every walk; and a column that is never raised above a settled one stays below the offsets.
 use mathlib.Core.Path.{_∙_, _≡_, ap, refl, sym}
 use mathlib.Core.List.{List}
-use Prim.Native.Nat.{_+_, _-_, _<_, _≤_, suc, zero, ℕ}
+use Prim.Native.Nat.{_+_, _<_, _≤_, suc, zero, ℕ}
 use native.Mathlib.Omega.{arith}
-use native.Mathlib.Decide.{decLt}
-use lib.ListN.{length}
-use Rattle.definitions.specs.Anchors.{InAnchorSet, WellPosed, WellPosedFor}
+use Rattle.definitions.specs.Anchors.{WellPosed, WellPosedFor}
 use Rattle.definitions.specs.Links.{Edge, Graph, Walk, members, step, stop, usable}
 use Rattle.definitions.specs.Plan.{Span, after, first-row, offset, offset-row, source}
 use Rattle.definitions.specs.Rounds.{cell, rounds}
 use Rattle.theory.specs.Graphs.{Gains, NonPositive, Rooted, Shape, Well}
-use Rattle.theory.specs.Sweeps.{Leads, Seeds, Settles, Sweep, Sweeps, hand, more, none}
+use Rattle.theory.specs.Sweeps.{Seeds, Settles, Sweeps, more, none}
 use Rattle.theory.proofs.Offsets.{first-start, offset-limit, offset-row-iff, usable-by}
-use Rattle.theory.proofs.Pigeonhole.{Short, shorten}
+use Rattle.theory.proofs.Pigeonhole.{shorten}
 use Rattle.theory.proofs.Relaxation.{Covers, Grounded, Start, covers-eq, covers-hand, covers-up, fixpoint-stable, fits-rounds, grounded, rounds-fixed, rounds-rise, rounds-under}
 
 -- Sweeps never lower a cell; and once every edge has handed on, any number of sweeps changes nothing.
