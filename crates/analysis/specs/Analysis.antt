@@ -28,8 +28,9 @@ pub record Serial (n : ℕ) (g : List Edge) (r : Analysis) : Type 0 where
   pub maps : r .maps ≡ wait-maps n g
   pub count : r .count ≡ wait-count n g
 
--- No waits are listed. What reaches what is then free; of the order of the steps nothing is said in any case.
+-- Nothing is listed. Of the order of the steps nothing is said in any case.
 pub record Blank (r : Analysis) : Type 0 where
+  pub reach : r .reach ≡ replicate 64 0
   pub maps : r .maps ≡ replicate 64 0
   pub count : r .count ≡ 0
 

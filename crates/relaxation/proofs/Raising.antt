@@ -8,7 +8,7 @@ use native.Mathlib.Omega.{arith}
 use lib.Dec.{eqb}
 use lib.ListN.{length, getD, set, length-set}
 use lib.Seq.{getD-set-same, getD-set-other}
-use borrow.Author.Tests.{eq-eqb, ne-eqb}
+use borrow.Author.Tests.{eq-eqb, le-ltb, lt-ltb, ltb-false, ne-eqb}
 use Rattle.definitions.specs.Basics.{test-bit}
 use Rattle.definitions.specs.Links.{Edge}
 use Rattle.definitions.specs.Rounds.{extend}
@@ -51,7 +51,11 @@ module _ (v a c : ℕ) (d : List (List ℕ)) (S : Square d) where
       elsewhere w b (inr e) o = ap (λ (row : List ℕ). getD row b 0) (getD-set-other d v w row′ [] e)
 
   pub raised-kept : c ≤ entry d v a → Raised v a c d d false
-  raised-kept l = record { square = S; here = omega arith; other = λ w b o. refl; kept = λ q. refl }
+  raised-kept l = record { square = S; here = omega arith; other = λ w b o. refl; grew = sym (le-ltb (entry d v a) c l) }
+
+-- A cell that was not raised is as it was.
+raised-still : {v a c : ℕ} {d d′ : List (List ℕ)} {raised : Bool} → Raised v a c d d′ raised → raised ≡ false → entry d′ v a ≡ entry d v a
+raised-still {v} {a} {c} {d} R q = omega (arith, R .here, ltb-false (entry d v a) c (sym (R .grew) ∙ q))
 
 -- An extended walk, by cases of the code.
 pub extend-none : (c g l : ℕ) → c ≡ 0 → 0 ≡ min (extend c g l) 4294967295
@@ -147,7 +151,7 @@ module _ (e : Edge) (m : ℕ) (d₀ : List (List ℕ)) where
         (test-bit moved′ a)
         (raised .here ∙ ap (λ (x : ℕ). max x c) (same (e .to)) ∙ ap (max (entry d₀ (e .to) a)) (value ∙ ap (λ (x : ℕ). min (extend x (e .gain) (e .loss)) 4294967295) (same (e .from))))
         (λ v h. raised .other v a (inl h) ∙ same v)
-        (λ q. raised .kept (grew-by (test-bit moved a) grew (eq-eqb a a refl) (sym (moves a) ∙ q)) ∙ same (e .to))
+        (λ q. raised-still raised (grew-by (test-bit moved a) grew (eq-eqb a a refl) (sym (moves a) ∙ q)) ∙ same (e .to))
 
     other-done : (b : ℕ) → b ≢ a → Relaxed e (test-bit m b) (column d₀ b) (column d b) (test-bit moved b) → Relaxed e (test-bit m b) (column d₀ b) (column d′ b) (test-bit moved′ b)
     other-done b h D =
