@@ -17,7 +17,7 @@ verdict-code-requires c κs = search needs
 returns : tie.Need-returns
 returns c =
     let s = c .before .before .before in
-    coded (λ (b : Bool). judged (now (s .args .sheet)) b) (c .before .judge .ensures) refl (c .verdict-code .ensures)
+    coded (λ (b : Bool). judged (now (s .args .sheet)) b) (s .args .allow) (c .before .judge .ensures) refl (c .verdict-code .ensures)
 
 pub standplan-judge-spec : {M : Type 1} → statement M
 standplan-judge-spec = tie.close (tie.spec judge-requires verdict-code-requires returns)

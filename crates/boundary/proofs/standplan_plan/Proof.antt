@@ -20,7 +20,7 @@ same-length c = search needs
 returns : tie.Need-returns
 returns c =
     let s = c .before .before .before .before .before .before .before in
-    written (λ (b : Bool). planned (now (s .args .sheet)) b (now (s .args .table))) (c .before .before .before .plan .ensures) refl (c .verdict-code .ensures)
+    written (λ (b : Bool). planned (now (s .args .sheet)) b (now (s .args .table))) (s .args .allow) (c .before .before .before .plan .ensures) refl (c .verdict-code .ensures)
 
 pub standplan-plan-spec : {M : Type 1} → statement M
 standplan-plan-spec = tie.close (tie.spec plan-requires verdict-code-requires same-length returns)

@@ -20,7 +20,7 @@ same-length c = search needs
 returns : tie.Need-returns
 returns c =
     let s = c .before .before .before .before .before .before .before .before in
-    written (λ (b : Bool). starts-answer (now (s .args .sheet)) b (now (s .args .list)) (now (s .args .out))) (c .before .before .before .starts .ensures) refl (c .verdict-code .ensures)
+    written (λ (b : Bool). starts-answer (now (s .args .sheet)) b (now (s .args .list)) (now (s .args .out))) (s .args .allow) (c .before .before .before .starts .ensures) refl (c .verdict-code .ensures)
 
 pub standplan-starts-spec : {M : Type 1} → statement M
 standplan-starts-spec =
