@@ -3,6 +3,7 @@ use denote.Ref.{now}
 use Rattle.definitions.specs.Dispatcher.{finish}
 use Rattle.definitions.specs.declared.State.{State}
 use Rattle.storage.proofs.Calls.{leaves}
+use Rattle.storage.specs.Memory.{state-in}
 use borrow.Author.Needs.{needs}
 use Rattle.boundary.proofs.standplan_finish.Statement.{statement}
 use Rattle.boundary.proofs.standplan_finish.Tie as tie
@@ -19,7 +20,7 @@ store-requires c κs = search needs
 returns : tie.Need-returns
 returns c =
     let s = c .before .before .before .before .before .before .before .before .before .before .before .before .before in
-    leaves (c .store .ensures) (λ (st : State). finish st (s .args .s) (now (s .args .table))) (c .before .before .before .before .before .before .before .state-in .ensures) (c .before .before .before .before .before .before .finish .ensures)
+    leaves (c .store .ensures) (λ (st : State). finish st (s .args .s) (now (s .args .table))) {lent = state-in (now (s .args .words)) (now (s .args .tick)) (now (s .args .start)) (now (s .args .finish))} (c .before .before .before .before .before .before .before .state-in .ensures) (c .before .before .before .before .before .before .finish .ensures)
 
 pub standplan-finish-spec : {M : Type 1} → statement M
 standplan-finish-spec =

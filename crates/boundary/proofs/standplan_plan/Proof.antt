@@ -1,7 +1,10 @@
 -- `boundary::standplan_plan` meets its contract: the planner's answer, as a number.
-use mathlib.Core.Path.{ap, _∙_}
-use Rattle.numbers.specs.Codes.{code}
+use mathlib.Core.Path.{refl}
+use mathlib.Core.Bool.{Bool}
+use denote.Ref.{now}
+use Rattle.definitions.specs.Answers.{planned}
 use borrow.Author.Needs.{needs}
+use Rattle.boundary.proofs.Codes.{written}
 use Rattle.boundary.proofs.standplan_plan.Statement.{statement}
 use Rattle.boundary.proofs.standplan_plan.Tie as tie
 
@@ -15,7 +18,9 @@ same-length : tie.Need-same-length
 same-length c = search needs
 
 returns : tie.Need-returns
-returns c = (c .verdict-code .ensures ∙ ap code (c .before .before .before .plan .ensures .0), search needs)
+returns c =
+    let s = c .before .before .before .before .before .before .before in
+    written (λ (b : Bool). planned (now (s .args .sheet)) b (now (s .args .table))) (s .args .allow) (c .before .before .before .plan .ensures) refl (c .verdict-code .ensures)
 
 pub standplan-plan-spec : {M : Type 1} → statement M
 standplan-plan-spec = tie.close (tie.spec plan-requires verdict-code-requires same-length returns)

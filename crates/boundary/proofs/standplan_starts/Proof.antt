@@ -1,7 +1,10 @@
 -- `boundary::standplan_starts` meets its contract: the planner's answer, as a number.
-use mathlib.Core.Path.{ap, _∙_}
-use Rattle.numbers.specs.Codes.{code}
+use mathlib.Core.Path.{refl}
+use mathlib.Core.Bool.{Bool}
+use denote.Ref.{now}
+use Rattle.definitions.specs.Answers.{starts-answer}
 use borrow.Author.Needs.{needs}
+use Rattle.boundary.proofs.Codes.{written}
 use Rattle.boundary.proofs.standplan_starts.Statement.{statement}
 use Rattle.boundary.proofs.standplan_starts.Tie as tie
 
@@ -15,7 +18,9 @@ same-length : tie.Need-same-length
 same-length c = search needs
 
 returns : tie.Need-returns
-returns c = (c .verdict-code .ensures ∙ ap code (c .before .before .before .starts .ensures .0), search needs)
+returns c =
+    let s = c .before .before .before .before .before .before .before .before in
+    written (λ (b : Bool). starts-answer (now (s .args .sheet)) b (now (s .args .list)) (now (s .args .out))) (s .args .allow) (c .before .before .before .starts .ensures) refl (c .verdict-code .ensures)
 
 pub standplan-starts-spec : {M : Type 1} → statement M
 standplan-starts-spec =
