@@ -1,6 +1,9 @@
 -- The word, the number, the end of the line. Assumes nothing.
+use native.Mathlib.Omega.{arith}
 use borrow.Author.Needs.{needs}
-use Rattle.lines.proofs.Parts.{heading-word-room, heading-field-fits, heading-end-fits, heading-put}
+use Rattle.definitions.specs.Output.{field, newline}
+use Rattle.lines.proofs.Parts.{heading-parts, heading-all-room, heading-field-room, heading-word-room}
+use Rattle.lines.proofs.Writing.{put-as, put-then, put-room}
 use Rattle.lines.proofs.put_heading.Statement.{statement}
 use Rattle.lines.proofs.put_heading.Tie as tie
 
@@ -12,12 +15,13 @@ put-word-requires c κs =
 put-field-requires : tie.Need-put-field-requires
 put-field-requires c κs =
     let s = c .before .before .before .before .before .before .before in
-    heading-field-fits (s .args .word .now) (s .args .x) (s .pre) (c .before .before .before .put-word .ensures)
+    put-room (c .before .before .before .put-word .ensures) (field (s .args .x)) (heading-field-room (s .args .word .now) (s .args .x) (s .args .at) _ (s .pre))
 
 put-newline-requires : tie.Need-put-newline-requires
 put-newline-requires c κs =
     let s = c .before .before .before .before .before .before .before .before .before .before .before in
-    heading-end-fits (s .args .word .now) (s .args .x) (s .pre) (c .before .before .before .before .before .before .before .put-word .ensures) (c .before .before .before .put-field .ensures)
+    let room = put-room (put-then (c .before .before .before .before .before .before .before .put-word .ensures) (c .before .before .before .put-field .ensures) (omega arith)) newline (heading-all-room (s .args .word .now) (s .args .x) (s .args .at) _ (s .pre)) in
+    omega arith
 
 same-length : tie.Need-same-length
 same-length c = search needs
@@ -25,7 +29,9 @@ same-length c = search needs
 returns : tie.Need-returns
 returns c =
     let s = c .before .before .before .before .before .before .before .before .before .before .before .before .before .before in
-    heading-put (s .args .word .now) (s .args .x) (s .pre) (c .before .before .before .before .before .before .before .before .before .before .put-word .ensures) (c .before .before .before .before .before .before .put-field .ensures) (c .before .before .put-newline .ensures)
+    put-as
+    (heading-parts (s .args .word .now) (s .args .x))
+    (put-then (put-then (c .before .before .before .before .before .before .before .before .before .before .put-word .ensures) (c .before .before .before .before .before .before .put-field .ensures) (omega arith)) (c .before .before .put-newline .ensures) (omega arith))
 
 pub put-heading-spec : {M : Type 1} → statement M
 put-heading-spec =

@@ -1,6 +1,9 @@
 -- The word, the three numbers, the end of the line. Assumes nothing.
+use native.Mathlib.Omega.{arith}
 use borrow.Author.Needs.{needs}
-use Rattle.lines.proofs.Parts.{start-word-room, start-step-fits, start-decider-fits, start-ticks-fits, start-end-fits, start-put}
+use Rattle.definitions.specs.Output.{field, newline}
+use Rattle.lines.proofs.Parts.{start-parts, start-all-room, start-ticks-room, start-decider-room, start-step-room, start-word-room}
+use Rattle.lines.proofs.Writing.{put-as, put-then, put-room}
 use Rattle.lines.proofs.put_start.Statement.{statement}
 use Rattle.lines.proofs.put_start.Tie as tie
 
@@ -15,22 +18,36 @@ put-word-requires c κs =
 put-field-requires : tie.Need-put-field-requires
 put-field-requires c κs =
     let s = c .before .before .before .before .before .before .before in
-    start-step-fits (s .args .v) (s .args .a) (s .args .ticks) (s .pre) (c .before .before .before .put-word .ensures)
+    put-room (c .before .before .before .put-word .ensures) (field (s .args .v)) (start-step-room (s .args .v) (s .args .a) (s .args .ticks) (s .args .at) _ (s .pre))
 
 put-field-requires-2 : tie.Need-put-field-requires-2
 put-field-requires-2 c κs =
     let s = c .before .before .before .before .before .before .before .before .before .before .before in
-    start-decider-fits (s .args .v) (s .args .a) (s .args .ticks) (s .pre) (c .before .before .before .before .before .before .before .put-word .ensures) (c .before .before .before .put-field .ensures)
+    put-room
+    (put-then (c .before .before .before .before .before .before .before .put-word .ensures) (c .before .before .before .put-field .ensures) (omega arith))
+    (field (s .args .a))
+    (start-decider-room (s .args .v) (s .args .a) (s .args .ticks) (s .args .at) _ (s .pre))
 
 put-field-requires-3 : tie.Need-put-field-requires-3
 put-field-requires-3 c κs =
     let s = c .before .before .before .before .before .before .before .before .before .before .before .before .before .before .before in
-    start-ticks-fits (s .args .v) (s .args .a) (s .args .ticks) (s .pre) (c .before .before .before .before .before .before .before .before .before .before .before .put-word .ensures) (c .before .before .before .before .before .before .before .put-field .ensures) (c .before .before .before .put-field2 .ensures)
+    put-room
+    (put-then (put-then (c .before .before .before .before .before .before .before .before .before .before .before .put-word .ensures) (c .before .before .before .before .before .before .before .put-field .ensures) (omega arith)) (c .before .before .before .put-field2 .ensures) (omega arith))
+    (field (s .args .ticks))
+    (start-ticks-room (s .args .v) (s .args .a) (s .args .ticks) (s .args .at) _ (s .pre))
 
 put-newline-requires : tie.Need-put-newline-requires
 put-newline-requires c κs =
     let s = c .before .before .before .before .before .before .before .before .before .before .before .before .before .before .before .before .before .before .before in
-    start-end-fits (s .args .v) (s .args .a) (s .args .ticks) (s .pre) (c .before .before .before .before .before .before .before .before .before .before .before .before .before .before .before .put-word .ensures) (c .before .before .before .before .before .before .before .before .before .before .before .put-field .ensures) (c .before .before .before .before .before .before .before .put-field2 .ensures) (c .before .before .before .put-field3 .ensures)
+    let room =
+    put-room
+    (put-then
+    (put-then (put-then (c .before .before .before .before .before .before .before .before .before .before .before .before .before .before .before .put-word .ensures) (c .before .before .before .before .before .before .before .before .before .before .before .put-field .ensures) (omega arith)) (c .before .before .before .before .before .before .before .put-field2 .ensures) (omega arith))
+    (c .before .before .before .put-field3 .ensures)
+    (omega arith))
+    newline
+    (start-all-room (s .args .v) (s .args .a) (s .args .ticks) (s .args .at) _ (s .pre)) in
+    omega arith
 
 same-length : tie.Need-same-length
 same-length c = search needs
@@ -38,7 +55,15 @@ same-length c = search needs
 returns : tie.Need-returns
 returns c =
     let s = c .before .before .before .before .before .before .before .before .before .before .before .before .before .before .before .before .before .before .before .before .before .before in
-    start-put (s .args .v) (s .args .a) (s .args .ticks) (s .pre) (c .before .before .before .before .before .before .before .before .before .before .before .before .before .before .before .before .before .before .put-word .ensures) (c .before .before .before .before .before .before .before .before .before .before .before .before .before .before .put-field .ensures) (c .before .before .before .before .before .before .before .before .before .before .put-field2 .ensures) (c .before .before .before .before .before .before .put-field3 .ensures) (c .before .before .put-newline .ensures)
+    put-as
+    (start-parts (s .args .v) (s .args .a) (s .args .ticks))
+    (put-then
+    (put-then
+    (put-then (put-then (c .before .before .before .before .before .before .before .before .before .before .before .before .before .before .before .before .before .before .put-word .ensures) (c .before .before .before .before .before .before .before .before .before .before .before .before .before .before .put-field .ensures) (omega arith)) (c .before .before .before .before .before .before .before .before .before .before .put-field2 .ensures) (omega arith))
+    (c .before .before .before .before .before .before .put-field3 .ensures)
+    (omega arith))
+    (c .before .before .put-newline .ensures)
+    (omega arith))
 
 pub put-start-spec : {M : Type 1} → statement M
 put-start-spec =

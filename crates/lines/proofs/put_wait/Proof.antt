@@ -1,6 +1,9 @@
 -- The word, the two numbers, the end of the line. Assumes nothing.
+use native.Mathlib.Omega.{arith}
 use borrow.Author.Needs.{needs}
-use Rattle.lines.proofs.Parts.{wait-word-room, wait-anchor-fits, wait-target-fits, wait-end-fits, wait-put}
+use Rattle.definitions.specs.Output.{field, newline}
+use Rattle.lines.proofs.Parts.{wait-parts, wait-all-room, wait-target-room, wait-anchor-room, wait-word-room}
+use Rattle.lines.proofs.Writing.{put-as, put-then, put-room}
 use Rattle.lines.proofs.put_wait.Statement.{statement}
 use Rattle.lines.proofs.put_wait.Tie as tie
 
@@ -15,17 +18,18 @@ put-word-requires c κs =
 put-field-requires : tie.Need-put-field-requires
 put-field-requires c κs =
     let s = c .before .before .before .before .before .before .before in
-    wait-anchor-fits (s .args .a) (s .args .i) (s .pre) (c .before .before .before .put-word .ensures)
+    put-room (c .before .before .before .put-word .ensures) (field (s .args .a)) (wait-anchor-room (s .args .a) (s .args .i) (s .args .at) _ (s .pre))
 
 put-field-requires-2 : tie.Need-put-field-requires-2
 put-field-requires-2 c κs =
     let s = c .before .before .before .before .before .before .before .before .before .before .before in
-    wait-target-fits (s .args .a) (s .args .i) (s .pre) (c .before .before .before .before .before .before .before .put-word .ensures) (c .before .before .before .put-field .ensures)
+    put-room (put-then (c .before .before .before .before .before .before .before .put-word .ensures) (c .before .before .before .put-field .ensures) (omega arith)) (field (s .args .i)) (wait-target-room (s .args .a) (s .args .i) (s .args .at) _ (s .pre))
 
 put-newline-requires : tie.Need-put-newline-requires
 put-newline-requires c κs =
     let s = c .before .before .before .before .before .before .before .before .before .before .before .before .before .before .before in
-    wait-end-fits (s .args .a) (s .args .i) (s .pre) (c .before .before .before .before .before .before .before .before .before .before .before .put-word .ensures) (c .before .before .before .before .before .before .before .put-field .ensures) (c .before .before .before .put-field2 .ensures)
+    let room = put-room (put-then (put-then (c .before .before .before .before .before .before .before .before .before .before .before .put-word .ensures) (c .before .before .before .before .before .before .before .put-field .ensures) (omega arith)) (c .before .before .before .put-field2 .ensures) (omega arith)) newline (wait-all-room (s .args .a) (s .args .i) (s .args .at) _ (s .pre)) in
+    omega arith
 
 same-length : tie.Need-same-length
 same-length c = search needs
@@ -33,7 +37,12 @@ same-length c = search needs
 returns : tie.Need-returns
 returns c =
     let s = c .before .before .before .before .before .before .before .before .before .before .before .before .before .before .before .before .before .before in
-    wait-put (s .args .a) (s .args .i) (s .pre) (c .before .before .before .before .before .before .before .before .before .before .before .before .before .before .put-word .ensures) (c .before .before .before .before .before .before .before .before .before .before .put-field .ensures) (c .before .before .before .before .before .before .put-field2 .ensures) (c .before .before .put-newline .ensures)
+    put-as
+    (wait-parts (s .args .a) (s .args .i))
+    (put-then
+    (put-then (put-then (c .before .before .before .before .before .before .before .before .before .before .before .before .before .before .put-word .ensures) (c .before .before .before .before .before .before .before .before .before .before .put-field .ensures) (omega arith)) (c .before .before .before .before .before .before .put-field2 .ensures) (omega arith))
+    (c .before .before .put-newline .ensures)
+    (omega arith))
 
 pub put-wait-spec : {M : Type 1} → statement M
 put-wait-spec =
