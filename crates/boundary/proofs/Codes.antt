@@ -18,6 +18,6 @@ pub written : {r : ℕ} {v : Outcome ℕ} {after : List ℕ} {asked : Bool} (ans
 written answer allow e same c =
     (c ∙ ap code (e .0 ∙ ap (λ (b : Bool). answer b .verdict) same), e .1 ∙ ap (λ (b : Bool). answer b .numbers) same)
 
--- The number of the verdict that was returned, and not of another.
-pub verdict-coded : {r : ℕ} {asked : Verdict} {v : Outcome ℕ} (returned : Verdict) → r ≡ code (verdict-of asked) → asked ≡ returned → verdict-of returned ≡ v → r ≡ code v
-verdict-coded returned c same e = c ∙ ap code (ap verdict-of same ∙ e)
+-- The number of the verdict that was returned, which is named first.
+pub verdict-coded : {r : ℕ} {v : Outcome ℕ} (returned : Verdict) → r ≡ code (verdict-of returned) → verdict-of returned ≡ v → r ≡ code v
+verdict-coded returned c e = c ∙ ap code e

@@ -1,5 +1,4 @@
 -- `boundary::standplan_waits` meets its contract: the planner's answer, as a number.
-use mathlib.Core.Path.{refl}
 use borrow.Author.Needs.{needs}
 use Rattle.boundary.proofs.Codes.{verdict-coded}
 use Rattle.boundary.proofs.standplan_waits.Statement.{statement}
@@ -14,7 +13,7 @@ verdict-code-requires c κs = search needs
 returns : tie.Need-returns
 returns c =
     let w = c .before .before .waits in
-    (verdict-coded (w .result .verdict) (c .verdict-code .ensures) refl (w .ensures .verdict), w .ensures .maps, w .ensures .count)
+    (verdict-coded (w .result .verdict) (c .verdict-code .ensures) (w .ensures .verdict), w .ensures .maps, w .ensures .count)
 
 pub standplan-waits-spec : {M : Type 1} → statement M
 standplan-waits-spec = tie.close (tie.spec waits-requires verdict-code-requires returns)
