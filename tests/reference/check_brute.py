@@ -1,9 +1,10 @@
 """Brute-force self-check of planner.py on small random sheets.
 
-    python3 check_brute.py SECONDS [SEED]
+    python3 check_brute.py SECONDS [SEED] [finish]
 
 Everything here is worked out a second time, straight from document 01's
-sentences, with no function of planner.py beyond those under test.
+sentences, with no function of planner.py beyond those under test. With
+finish, the sheets have limits from the end of a step (request L11).
 """
 from __future__ import annotations
 
@@ -17,20 +18,48 @@ import generate
 import planner as p
 
 BIG = p.LONGEST
+MOST_LISTS = 400               # for which the least rival without foresight is sought
 Pair = tuple[int, int]
 # A sheet here: steps (None open, else duration) and links (kind, i, j, number), i and j
-# as in the record; the number of an after link is 0 and not used.
+# as in the record; the number of an after link is 0 and not used. Kinds: after, least, most,
+# end (at most, from the end of i).
 LinkT = tuple[str, int, int, int]
 
 
-def random_parts(rng: random.Random) -> tuple[list, list[LinkT]]:
+def late_parts(rng: random.Random) -> tuple[list, list[LinkT]]:
+    """Steps and links of a sheet that is 28 without a circle, or nearly: 2 waits for 1 because of q,
+    and 3 comes so and so long after 2, but at most `end` after the end of 1."""
+    steps = [None, None, rng.choice([None, 0, 1]), rng.choice([None, 0, 2]), 0]
+    q = rng.choice([3, 4])
+    end = rng.randint(0, 2)
+    links = [("after", 0, 1, 0), ("after", 0, 2, 0), ("after", 1, 3, 0), ("end", 1, 3, end),
+             ("least", 2, 3, end + rng.randint(0, 2)), ("after", 1, 4, 0)]
+    limit = rng.randint(0, 4)
+    links += [("most", 2, q, limit)] if rng.random() < 0.6 else [("after", 2, q, 0), ("end", 2, q, limit)]
+    return steps, sorted(set(links))
+
+
+def clash_parts(rng: random.Random) -> tuple[list, list[LinkT]]:
+    """Steps and links of a sheet that is 28 by a circle, or nearly: 3 and 4 after 1 and 2, with limits
+    from the ends of these."""
+    steps = [None, None, None, rng.choice([None, 0, 1]), rng.choice([None, 0, 2])]
+    links = [("after", 0, 1, 0), ("after", 0, 2, 0), ("after", 1, 3, 0), ("after", 2, 4, 0)]
+    links += rng.sample([("after", 1, 4, 0), ("after", 2, 3, 0), ("least", 3, 4, 1), ("most", 3, 4, 2), ("most", 4, 3, 1),
+                         ("after", 3, 4, 0), ("least", 1, 2, 2)], rng.randint(1, 3))
+    links += [("end", i, j, rng.randint(0, 3)) for kind, i, j, _ in links if kind == "after" and i and rng.random() < 0.6]
+    return steps, sorted(links)
+
+
+def random_parts(rng: random.Random, finish: bool) -> tuple[list, list[LinkT]]:
     """Steps and links of a small random sheet, mostly well-formed, of every verdict."""
+    if finish and rng.random() < 0.2:
+        return rng.choice([late_parts, clash_parts])(rng)
     n = rng.choice([1, 2, 3, 3, 4, 4, 4, 5, 5, 5, 5])
     wide = rng.random() < 0.6        # mostly straight after step 0: more waits
     if wide:
         n = rng.choice([4, 5, 5])
     top = rng.choice([1, 2, 4])
-    share = rng.choice([0.3, 0.6, 0.9])
+    share = rng.choice([0.4, 0.7, 0.9] if finish else [0.3, 0.6, 0.9])
     steps = [None] + [None if rng.random() < share else rng.randint(0, top) for _ in range(n - 1)]
     order = [0] + rng.sample(range(1, n), n - 1)
     pairs: set[tuple[str, int, int]] = set()
@@ -49,7 +78,7 @@ def random_parts(rng: random.Random) -> tuple[list, list[LinkT]]:
                 a, b = b, a
             forward_pair(order[a], order[b])
         sets = start_sets(steps, [(kind, i, j, 0) for kind, i, j in sorted(pairs)])
-        for _ in range(rng.choice([0, 1, 1, 2, 2, 3, 4])):
+        for _ in range(rng.choice([0, 0, 0, 1, 1, 2] if finish else [0, 1, 1, 2, 2, 3, 4])):
             i, j = rng.sample(range(n), 2)
             for _ in range(30 if wide else 0):     # look for a pair that needs a wait
                 if i != 0 and sets[j] - sets[i] - {i} and i not in sets[j]:
@@ -57,6 +86,10 @@ def random_parts(rng: random.Random) -> tuple[list, list[LinkT]]:
                 i, j = rng.sample(range(n), 2)
             pairs.add(("most", i, j))
             sets[i] |= sets[j]                     # so that returns follow each other
+        if finish:
+            share = rng.choice([0.3, 0.6, 0.9])
+            pairs |= {("end", i, j) for kind, i, j in sorted(pairs)
+                      if kind == "after" and rng.random() < (share if i else 0.1)}
     return steps, [(kind, i, j, 0 if kind == "after" else rng.randint(0, top * rng.choice([1, 3, 5])))
                    for kind, i, j in sorted(pairs)]
 
@@ -70,8 +103,9 @@ def encode(steps: list, links: list[LinkT]) -> bytes:
     for step in steps:
         out += b"\x01" if step is None else b"\x00" if step == 0 else bytes([2, step, 0])
     for (i, j), fields in sorted(records.items()):
-        out += bytes([("after" in fields) + 2 * ("least" in fields) + 4 * ("most" in fields), i, j])
-        for kind in ("least", "most"):
+        out += bytes([("after" in fields) + 2 * ("least" in fields) + 4 * ("most" in fields)
+                      + 16 * ("end" in fields), i, j])
+        for kind in ("least", "most", "end"):
             if kind in fields:
                 out += fields[kind].to_bytes(2, "little")
     return out
@@ -91,6 +125,8 @@ def keeps(steps: list, links: list[LinkT], durations: list[int], start: list[int
             return False
         if kind == "most" and not start[j] <= start[i] + number:
             return False
+        if kind == "end" and not start[j] <= start[i] + duration(steps, durations, i) + number:
+            return False
     return start[0] == 0
 
 
@@ -103,6 +139,8 @@ def solve(steps: list, links: list[LinkT], durations: list[int]) -> list[int] | 
         for kind, i, j, number in links:
             if kind == "most":
                 low, at = start[j] - number, i
+            elif kind == "end":
+                low, at = start[j] - number - duration(steps, durations, i), i
             else:
                 low = start[i] + (number if kind == "least" else duration(steps, durations, i))
                 at = j
@@ -123,14 +161,33 @@ def solve_by_trying(steps: list, links: list[LinkT], durations: list[int], top: 
 
 
 def moves(steps: list, links: list[LinkT]) -> list[tuple[int, int, int, str]]:
-    """Every link as a walk follows it: from, to, weight with open durations 0, kind."""
+    """Every link as a walk follows it: from, to, weight with open durations 0, kind (end only of an
+    open step, else most)."""
     out = []
     for kind, i, j, number in links:
         if kind == "most":
             out.append((j, i, -number, kind))
+        elif kind == "end":
+            out.append((j, i, -number - (steps[i] or 0), kind if open_end(steps, kind, i) else "most"))
         else:
             out.append((i, j, number if kind == "least" else (steps[i] or 0), kind))
     return out
+
+
+def open_end(steps: list, kind: str, i: int) -> bool:
+    """Whether a link of this kind on (i, j) is a limit from the end of an open step other than 0."""
+    return kind == "end" and i != 0 and steps[i] is None
+
+
+def from_end_of(a: int, every: list) -> list:
+    """The links that a walk may take that counts from the end of a."""
+    return [m for m in every if not (m[3] == "end" and m[1] == a)]
+
+
+def sound_links(steps: list, links: list[LinkT], sets: list[set[int]]) -> bool:
+    """Whether start sets meet the rule for sound, with i added for a limit from the end of an open i."""
+    return all(sets[j] <= sets[i] | ({i} if open_end(steps, kind, i) else set())
+               for kind, i, j, _ in links if kind in ("most", "end"))
 
 
 def walks(allowed: list, first: list, length: int) -> set[Pair]:
@@ -145,7 +202,7 @@ def walks(allowed: list, first: list, length: int) -> set[Pair]:
 
 def start_sets(steps: list, links: list[LinkT]) -> list[set[int]]:
     """Start sets by trying every chain of up to N forward links."""
-    ahead = [m for m in moves(steps, links) if m[3] != "most"]
+    ahead = [m for m in moves(steps, links) if m[3] in ("after", "least")]
     sets = [{0} for _ in steps]
     for a in range(1, len(steps)):
         if steps[a] is None:
@@ -171,13 +228,19 @@ def lists(rng: random.Random, steps: list) -> list[list[int]]:
     return out
 
 
+def closes_circle(steps: list, links: list[LinkT]) -> bool:
+    """Whether the forward links close a circle, by trying every chain of up to N of them."""
+    ahead = [m for m in moves(steps, links) if m[3] in ("after", "least")]
+    return any(end == v for v in range(len(steps))
+               for end, _ in walks(ahead, [m for m in ahead if m[0] == v], len(steps)))
+
+
 def expected_refusal(steps: list, links: list[LinkT], many: list[list[int]]) -> int:
     """0 or 8 to 11, by trying chains, walks and lists of durations."""
     n = len(steps)
-    ahead = [m for m in moves(steps, links) if m[3] != "most"]
-    for v in range(n):
-        if any(end == v for end, _ in walks(ahead, [m for m in ahead if m[0] == v], n)):
-            return 8
+    ahead = [m for m in moves(steps, links) if m[3] in ("after", "least")]
+    if closes_circle(steps, links):
+        return 8
     chained = {end for end, _ in walks(ahead, [m for m in ahead if m[0] == 0], n)} | {0}
     if len(chained) < n:
         return 9
@@ -189,18 +252,21 @@ def expected_refusal(steps: list, links: list[LinkT], many: list[list[int]]) -> 
 
 
 def check_starts(steps, links, waits, sheet, many, offsets) -> None:
-    """Starts keep all links and waits, are the least such, and follow the start rule."""
+    """Starts keep all links and waits, are the least such, and follow the start rule. (With a limit
+    from the end of an open step, one who knows the list could start steps earlier.)"""
     n = len(steps)
+    ends = any(open_end(steps, kind, i) for kind, i, _, _ in links)
     whole = links + [("after", a, i, 0) for a, i in waits]
     for one in many:
         verdict, start = p.starts(sheet, True, one, [77] * (n + 1))
         assert verdict == ("ok", 1 if waits else 0) and start[n:] == [77]
         start = start[:n]
         assert keeps(steps, whole, one, start)
-        assert start == solve(steps, whole, one)
+        least = solve(steps, whole, one)
+        assert start == least or (ends and all(x >= y for x, y in zip(start, least)))
         for v in range(1, n):
             assert start[v] == max(start[a] + one[a] + offsets[v][a] for a in offsets[v])
-    if n <= 4:
+    if n <= 4 and not ends:
         one = [min(d, 2) for d in many[-1]]
         _, start = p.starts(sheet, True, one, [0] * n)
         top = max(start) + 1
@@ -271,7 +337,7 @@ def check_rivals(rng, steps, links, sheet, many) -> bool:
             for _ in range(rng.randint(1, 4))]
     rival = links + more
     sets = start_sets(steps, rival)
-    if not all(sets[j] <= sets[i] for kind, i, j, _ in rival if kind == "most"):
+    if not sound_links(steps, rival, sets):
         return False
     for one in many:
         theirs = solve(steps, rival, one)
@@ -281,21 +347,112 @@ def check_rivals(rng, steps, links, sheet, many) -> bool:
     return True
 
 
-def check(rng: random.Random, tally: Counter) -> None:
+def least_without_foresight(steps: list, links: list[LinkT], longest: int) -> dict | None:
+    """The least start times for every list of durations up to `longest` by a rival that does not know
+    the future, or None if there is no such rival.
+
+    From 0 on, raise what some link demands, and a start that comes while two lists, apart in the
+    duration of one step c, cannot be told apart (c has ended under neither), but under the other list
+    comes later. Whoever keeps every link and starts the same steps then starts no earlier: if all its
+    starts are at least those reached so far, its c ends no earlier and it cannot tell the lists apart
+    either. What is left when nothing has to be raised is itself such a rival's. Where it has no end,
+    starts pass three times the longest way forward.
+    """
+    n = len(steps)
+    opens = [v for v in range(1, n) if steps[v] is None]
+    way = sum(number for kind, _, _, number in links if kind == "least") + sum(d or 0 for d in steps)
+    way += longest * len(opens)
+    start = {}
+    for choice in itertools.product(range(longest + 1), repeat=len(opens)):
+        start[choice] = [0] * n
+    durations = {choice: [dict(zip(opens, choice)).get(v, 0) for v in range(n)] for choice in start}
+    moved = True
+    while moved:
+        moved = False
+        for choice, times in start.items():
+            raised = True
+            while raised:
+                raised = False
+                for kind, i, j, number in links:
+                    if kind in ("most", "end"):
+                        end = duration(steps, durations[choice], i) if kind == "end" else 0
+                        low, at = times[j] - number - end, i
+                    else:
+                        low = times[i] + (number if kind == "least" else duration(steps, durations[choice], i))
+                        at = j
+                    if times[at] < low:
+                        times[at] = low
+                        raised = moved = True
+                if times[0] > 0 or max(times) > 3 * way:
+                    return None
+        for choice, times in start.items():
+            for at, c in enumerate(opens):
+                for d in range(longest + 1):
+                    if d != choice[at]:
+                        other = start[choice[:at] + (d,) + choice[at + 1:]]
+                        until = min(times[c] + choice[at], other[c] + d)
+                        for v in range(n):
+                            if times[v] < until and times[v] < other[v]:
+                                times[v] = min(other[v], until)
+                                moved = True
+    return {tuple(durations[choice]): times for choice, times in start.items()}
+
+
+def check_foresight(steps, links, sheet, accepted: bool) -> bool:
+    """Our starts are those of the least rival without foresight; a sheet that is 28 has no rival.
+
+    With durations up to `longest` only, a rival may know that a step which has run for long ends soon;
+    of use is that only where the end is no further off than all limits taken together. Says whether
+    the lists were few enough.
+    """
+    limits = sum(number + (steps[i] or 0 if kind == "end" else 0)
+                 for kind, i, _, number in links if kind in ("most", "end"))
+    longest = limits + 2
+    opens = [v for v in range(1, len(steps)) if steps[v] is None]
+    if (longest + 1) ** len(opens) > MOST_LISTS:
+        return False
+    rival = least_without_foresight(steps, links, longest)
+    assert (rival is not None) == accepted
+    if rival:
+        for one, theirs in rival.items():
+            if max(one) <= longest - limits:
+                assert p.starts(sheet, True, list(one), [0] * len(steps))[1] == theirs
+    return True
+
+
+def check_knows_nothing(steps, sheet) -> None:
+    """Under two lists our starts are the same up to the first end of a step whose durations differ."""
+    opens = [v for v in range(1, len(steps)) if steps[v] is None]
+    runs = []
+    for choice in itertools.product([0, 1, 3], repeat=len(opens)):
+        one = [dict(zip(opens, choice)).get(v, 0) for v in range(len(steps))]
+        runs.append((one, p.starts(sheet, True, one, [0] * len(steps))[1]))
+    for (one, times), (other, theirs) in itertools.combinations(runs, 2):
+        until = min(min(times[c] + one[c], theirs[c] + other[c]) for c in opens if one[c] != other[c])
+        assert all(x == y or min(x, y) >= until for x, y in zip(times, theirs))
+
+
+def refused_so(sheet: bytes, number: int) -> None:
+    """Every call that judges, lists waits, plans or works out starts gives this refusal."""
+    no = ("refused", number)
+    for allow in (False, True):
+        assert p.judge(sheet, allow) == no
+        assert p.plan(sheet, allow, [4] * 3) == (no, [4] * 3)
+        assert p.starts(sheet, allow, [9], [4]) == (no, [4])
+    assert p.waits(sheet) == ([0] * 64, 0, no)
+    assert p.standplan_text(sheet) == f"refused {number}\n"
+
+
+def check(rng: random.Random, tally: Counter, finish: bool) -> None:
     """One random sheet, all checks."""
-    steps, links = random_parts(rng)
+    steps, links = random_parts(rng, finish)
     n = len(steps)
     sheet = encode(steps, links)
     many = lists(rng, steps)
     expected = expected_refusal(steps, links, many)
     if expected:
         tally[f"refused {expected}"] += 1
-        for allow in (False, True):
-            assert p.judge(sheet, allow) == ("refused", expected)
-            assert p.plan(sheet, allow, [4] * 3) == (("refused", expected), [4] * 3)
-            assert p.starts(sheet, allow, [9], [4]) == (("refused", expected), [4])
-        assert p.waits(sheet) == ([0] * 64, 0, ("refused", expected))
-        assert p.standplan_text(sheet) == f"refused {expected}\n"
+        refused_so(sheet, expected)
         if expected == 10 and n <= 3:
             assert not solve_by_trying(steps, links, [0] * n, 12)
         return
@@ -304,28 +461,38 @@ def check(rng: random.Random, tally: Counter) -> None:
     every = moves(steps, links)
     sets = start_sets(steps, links)
     waits = sorted({(a, i) for a in range(1, n) if steps[a] is None
-                    for end, _ in walks(every, [m for m in every if m[0] == a and m[3] == "after"],
-                                        2 * n)
-                    for kind, i, j, _ in links if kind == "most" and j == end and a not in sets[i]})
-    sound = all(sets[j] <= sets[i] for kind, i, j, _ in links if kind == "most")
+                    for end, _ in walks(from_end_of(a, every),
+                                        [m for m in every if m[0] == a and m[3] == "after"], 2 * n)
+                    for kind, i, j, _ in links if kind in ("most", "end") and j == end
+                    and a not in sets[i] and not (open_end(steps, kind, i) and a == i)})
+    sound = sound_links(steps, links, sets)
     assert sound == (not waits)
+    whole = links + [("after", a, i, 0) for a, i in waits]
+    ends = any(open_end(steps, kind, i) for kind, i, _, _ in links)
+    circle = closes_circle(steps, whole)
+    if circle or solve(steps, whole, [0] * n) is None:
+        tally["refused 28, by a circle" if circle else "refused 28, without a circle"] += 1
+        assert ends                                # never without a limit from the end of an open step
+        refused_so(sheet, 28)
+        tally["28, no rival"] += check_foresight(steps, links, sheet, False)
+        return
     maps = [sum(1 << a for a, i in waits if i == v) for v in range(64)]
     assert p.waits(sheet) == (maps, len(waits), ("ok", 0 if sound else 1))
     assert p.judge(sheet, True) == ("ok", 0 if sound else 1)
     assert p.judge(sheet, False) == (("ok", 0) if sound else ("refused", 12))
-    tally["sound" if sound else "sound with waits"] += 1
+    tally[("sound" if sound else "sound with waits") + (", from an open end" if ends else "")] += 1
     if len({i for _, i in waits}) > 1:
         tally["waits on several steps"] += 1
 
     # Start sets and offsets with the waits in, by every walk of up to 2N links.
-    whole = links + [("after", a, i, 0) for a, i in waits]
     every = moves(steps, whole)
     sets = start_sets(steps, whole)
-    assert all(sets[j] <= sets[i] for kind, i, j, _ in links if kind == "most")
+    assert sound_links(steps, links, sets)
     offsets: list[dict[int, int]] = [{} for _ in steps]
     for a in range(n):
         first = [m for m in every if m[0] == a and (a == 0 or m[3] == "after")]
-        found = walks(every, first, 2 * n) | ({(0, 0)} if a == 0 else set())
+        found = walks(from_end_of(a, every), first, 2 * n) | ({(0, 0)} if a == 0 else set())
+        assert a == 0 or steps[a] is not None or all(end != a for end, _ in found)     # still not 11
         for v in range(n):
             if a in sets[v]:
                 offsets[v][a] = max(weight for end, weight in found if end == v)
@@ -337,7 +504,11 @@ def check(rng: random.Random, tally: Counter) -> None:
     check_starts(steps, links, waits, sheet, many, offsets)
     check_deciding(steps, sheet, many, offsets, table)
     check_run(rng, steps, sheet, table, many)
-    if waits and n > 1:
+    if finish:
+        check_knows_nothing(steps, sheet)
+        kind = ("sound" if sound else "sound with waits") + (", from an open end" if ends else "")
+        tally[f"{kind}, least rival"] += check_foresight(steps, links, sheet, True)
+    if waits and not ends:
         tally["rivals"] += sum(check_rivals(rng, steps, links, sheet, many[::5]) for _ in range(6))
     text = f"verdict {0 if sound else 1}\nwaits {len(waits)}\n"
     text += "".join(f"wait {a} {i}\n" for a, i in waits)
@@ -349,12 +520,35 @@ def check(rng: random.Random, tally: Counter) -> None:
     tally["members kept"] += sum(x != p.UNDECIDED for x in table[:n * n])
 
 
-def check_large(rng: random.Random, tally: Counter) -> None:
-    """One sheet of any size from generate.py: 10 and 11 by the solver, starts and table."""
-    sheet = generate.random_sheet(rng)
+def waits_and_circle(steps: list, links: list[LinkT]) -> tuple[list[Pair], bool]:
+    """The waits of a sheet of any size, and whether they close a circle of forward links."""
+    def reach(allowed: list, a: int, first: list) -> set[int]:
+        found = {m[1] for m in first}
+        while True:
+            more = {m[1] for m in allowed if m[0] in found} - found
+            if not more:
+                return found
+            found |= more
+
+    every = moves(steps, links)
+    found = []
+    for a in range(1, len(steps)):
+        if steps[a] is None:
+            first = [m for m in every if m[0] == a and m[3] == "after"]
+            there = reach(from_end_of(a, every), a, first)
+            chained = reach([m for m in every if m[3] in ("after", "least")], a, first)
+            found += sorted({(a, i) for kind, i, j, _ in links if kind in ("most", "end")
+                             and j in there and i not in chained and i != a})
+    ahead = [m for m in every if m[3] in ("after", "least")] + [(a, i, 0, "after") for a, i in found]
+    return found, any(v in reach(ahead, v, [m for m in ahead if m[0] == v]) for v in range(len(steps)))
+
+
+def check_large(rng: random.Random, tally: Counter, finish: bool) -> None:
+    """One sheet of any size from generate.py: 10, 11 and 28 by the solver, starts and table."""
+    sheet = generate.random_sheet(rng, finish)
     verdict = p.judge(sheet, True)
     tally[f"large {verdict[0]} {verdict[1]}"] += 1
-    if verdict[0] == "refused" and verdict[1] not in (10, 11):
+    if verdict[0] == "refused" and verdict[1] not in (10, 11, 28):
         return
     steps, records = p.read(sheet)[1]
     n = len(steps)
@@ -363,20 +557,31 @@ def check_large(rng: random.Random, tally: Counter) -> None:
         links += [("after", r.i, r.j, 0)] if r.after else []
         links += [("least", r.i, r.j, r.at_least)] if r.at_least is not None else []
         links += [("most", r.i, r.j, r.at_most)] if r.at_most is not None else []
+        links += [("end", r.i, r.j, r.from_end)] if r.from_end is not None else []
     longest = [BIG if v and steps[v] is None else 0 for v in range(n)]
     possible = solve(steps, links, [0] * n) is not None
-    always = solve(steps, links, longest) is not None
-    assert verdict[0] == "ok" if always else verdict[1] == (11 if possible else 10)
-    if verdict[0] == "refused":
+    # One step alone is the worst: a longer step makes room only from its own end.
+    always = all(solve(steps, links, one) is not None for one in [longest] + [
+        [d if v == a else 0 for v in range(n)] for a, d in enumerate(longest) if d and finish])
+    if not possible or not always:
+        assert verdict == ("refused", 11 if possible else 10)
         return
+    waits, circle = waits_and_circle(steps, links)
+    whole = links + [("after", a, i, 0) for a, i in waits]
+    if circle or solve(steps, whole, [0] * n) is None:
+        assert verdict == ("refused", 28)
+        return
+    assert verdict == ("ok", 1 if waits else 0)
     maps, _, _ = p.waits(sheet)
-    whole = links + [("after", a, i, 0) for i in range(n) for a in range(n) if maps[i] >> a & 1]
+    assert waits == [(a, i) for a in range(n) for i in range(n) if maps[i] >> a & 1]
+    ends = any(open_end(steps, kind, i) for kind, i, _, _ in links)
     _, table = p.plan(sheet, True, [0] * (n * n))
     assert max(x for x in table if x != p.UNDECIDED) <= 4_128_705
     for one in [[0] * n, longest] + [[rng.choice([0, rng.randint(0, 70_000), rng.randint(0, d)])
                                       if d else 0 for d in longest] for _ in range(4)]:
         _, start = p.starts(sheet, True, one, [0] * n)
-        assert start == solve(steps, whole, one) and max(start) <= 4_294_967_295
+        assert keeps(steps, whole, one, start) and max(start) <= 4_294_967_295
+        assert ends or start == solve(steps, whole, one)
         for v in range(1, n):
             assert start[v] == max(start[a] + one[a] + table[v * n + a] for a in range(n)
                                    if table[v * n + a] != p.UNDECIDED)
@@ -386,12 +591,13 @@ def main() -> None:
     """Check random sheets for so many seconds and print the tally."""
     end = time.time() + float(sys.argv[1])
     seed = int(sys.argv[2]) if len(sys.argv) > 2 else 1
+    finish = "finish" in sys.argv[3:]
     tally: Counter = Counter()
     while time.time() < end:
         try:
-            check(random.Random(seed), tally)
+            check(random.Random(seed), tally, finish)
             if seed % 10 == 0:
-                check_large(random.Random(seed), tally)
+                check_large(random.Random(seed), tally, finish)
         except AssertionError:
             print("FAILED at seed", seed)
             raise

@@ -1,14 +1,17 @@
 """The input of the program compare, and what it has to print, from the reference planner.
 
-    python3 container.py SEED COUNT STDIN STDOUT [--largest]
+    python3 container.py SEED COUNT STDIN STDOUT [--largest] [--finish] [--and-finish COUNT]
 
 STDIN holds, for each sheet, two bytes of length and the sheet; two bytes, the length of the table lent for its plan;
 a byte, the number of lists; and for each list a byte (1: waits allowed), two bytes, the number of its entries, two bytes,
 the length of the list lent for the start times, and the entries, four bytes each. Numbers have the low byte first.
 With --largest, sheets of N = 64 and R = 512 and one of each fault of the limits stand in front of the random ones.
+With --finish, the sheets have limits from the end of a step (bit 4). With --and-finish, COUNT such sheets, and the largest
+ones of this kind if --largest is given, follow behind those that the other words ask for, which stay as they are.
 """
 from __future__ import annotations
 
+import argparse
 import random
 import sys
 from collections import Counter
@@ -18,6 +21,7 @@ import planner as p
 
 LENT = 4_294_967_294           # what lent numbers hold before a call; no answer holds it
 MOST = 128                     # entries of a list that the program takes
+LONGEST_SHEET = 4801           # 3 + 64 * 3 - 2 + 512 * 9
 
 
 def two(x: int) -> bytes:
@@ -115,24 +119,88 @@ def largest_sheets(rng: random.Random) -> list[bytes]:
     return sheets
 
 
-def make(seed: int, count: int, largest: bool) -> tuple[bytes, str, Counter]:
+def longest_sheet(rng: random.Random) -> bytes:
+    """An accepted sheet of 4,801 bytes: all steps but 0 fixed, every field in every record."""
+    draft = g.Draft(rng, smallest=64, finish=True)
+    draft.n, draft.top, draft.flat = 64, 300, False
+    draft.steps = [p.OPEN] + [rng.randint(1, 300) for _ in range(63)]
+    draft.order = [0] + rng.sample(range(1, 64), 63)
+    pairs = [(0, k) for k in range(1, 64)]
+    pairs += rng.sample([(a, b) for a in range(1, 64) for b in range(a + 1, 64)], 512 - 63)
+    draft.fields = {(draft.order[a], draft.order[b]): {"after": 1, "at_least": draft.number()} for a, b in pairs}
+    start = draft.base()
+    for (i, j), fields in draft.fields.items():
+        fields["at_most"] = start[j] - start[i] + draft.number()
+        fields["from_end"] = start[j] - start[i] - (draft.steps[i] or 0) + draft.number()
+    steps, records = draft.pieces()
+    return bytes([64]) + two(512) + b"".join(steps) + b"".join(records)
+
+
+def largest_finish_sheets(rng: random.Random) -> list[bytes]:
+    """Sheets at the limits, with limits from the end: the longest, a byte too long and too short, and N 64 and R 512 with
+    open steps: without waits, with waits, and with waits that leave no times."""
+    sheets = [longest_sheet(rng)]
+    sheets += [sheets[0] + b"\x00", sheets[0][:-1]]
+    for wanted in (("ok", 0), ("refused", 12), ("refused", 28)):
+        while True:
+            draft = g.Draft(rng, smallest=64, finish=True)
+            draft.n, draft.top, draft.flat = 64, rng.choice([20, 65535]), False
+            draft.steps = [p.OPEN] + [p.OPEN if rng.random() < 0.3 else draft.number() for _ in range(63)]
+            draft.order = [0] + rng.sample(range(1, 64), 63)
+            draft.fields = {}
+            draft.forward_part(12)
+            while len(draft.fields) < 480:
+                a, b = sorted(rng.sample(range(64), 2))
+                draft.put(draft.order[a], draft.order[b], **draft.some_forward())
+            draft.return_part(0 if wanted == ("ok", 0) else 12)
+            while len(draft.fields) < 512:         # an after link from 0 changes nothing
+                draft.put(0, rng.randrange(1, 64), after=1)
+                if all((0, v) in draft.fields for v in range(1, 64)):
+                    break
+            steps, records = draft.pieces()
+            sheet = bytes([64]) + two(len(records)) + b"".join(steps) + b"".join(records)
+            verdict = p.judge(sheet, False)
+            if len(records) == 512 and verdict == wanted and "from the end of an open step" in g.finish_facts(sheet, verdict):
+                sheets.append(sheet)
+                break
+    return sheets
+
+
+def make(seed: int, count: int, largest: bool, finish: bool = False) -> tuple[bytes, str, Counter]:
     """The input, what has to be printed, and how often each verdict is given."""
     rng = random.Random(seed)
-    sheets = (largest_sheets(rng) if largest else []) + g.generate(seed, count)
+    sheets = ((largest_finish_sheets if finish else largest_sheets)(rng) if largest else []) + g.generate(seed, count, finish)
     verdicts: Counter = Counter()
     data, lines = [], []
     for sheet in sheets:
-        if len(sheet) < 4096:
+        if len(sheet) < (LONGEST_SHEET + 2 if finish else 4096):
             more, text = record(rng, sheet, verdicts)
             data.append(more)
             lines += text
     return b"".join(data), "\n".join(lines) + "\n", verdicts
 
 
-if __name__ == "__main__":
-    stdin, stdout, given = make(int(sys.argv[1]), int(sys.argv[2]), "--largest" in sys.argv[5:])
-    with open(sys.argv[3], "wb") as file:
+def main() -> None:
+    """Write both files, and say how often each verdict is given."""
+    words = argparse.ArgumentParser()
+    words.add_argument("seed", type=int)
+    words.add_argument("count", type=int)
+    words.add_argument("stdin")
+    words.add_argument("stdout")
+    words.add_argument("--largest", action="store_true")
+    words.add_argument("--finish", action="store_true")
+    words.add_argument("--and-finish", type=int, default=0, metavar="COUNT")
+    asked = words.parse_args()
+    stdin, stdout, given = make(asked.seed, asked.count, asked.largest, asked.finish)
+    if asked.and_finish:
+        more, lines, verdicts = make(asked.seed, asked.and_finish, asked.largest, True)
+        stdin, stdout, given = stdin + more, stdout + lines, given + verdicts
+    with open(asked.stdin, "wb") as file:
         file.write(stdin)
-    with open(sys.argv[4], "w", encoding="ascii") as file:
+    with open(asked.stdout, "w", encoding="ascii") as file:
         file.write(stdout)
     print(" ".join(f"{kind} {k}: {given[kind, k]};" for kind, k in sorted(given)), file=sys.stderr)
+
+
+if __name__ == "__main__":
+    main()

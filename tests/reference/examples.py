@@ -1,4 +1,4 @@
-"""The marked and unmarked examples of document 01 as tests, and its order of refusals."""
+"""The marked and unmarked examples of document 01 as tests, its order of refusals, and worked sheets of request L11."""
 from __future__ import annotations
 
 import planner as p
@@ -19,15 +19,15 @@ start 4 2 2
 
 
 def encode(steps: list[p.Step], records: dict[tuple[int, int], dict]) -> bytes:
-    """A sheet in bytes; records: pair -> any of after=True, at_least=m, at_most=u."""
+    """A sheet in bytes; records: pair -> any of after=True, at_least=m, at_most=u, from_end=u."""
     out = bytes([len(steps)]) + len(records).to_bytes(2, "little")
     for step in steps:
         out += b"\x01" if step is p.OPEN else b"\x02" + step.to_bytes(2, "little")
     for (i, j), fields in sorted(records.items()):
         bits = (1 if fields.get("after") else 0) | (2 if "at_least" in fields else 0) \
-            | (4 if "at_most" in fields else 0)
+            | (4 if "at_most" in fields else 0) | (16 if "from_end" in fields else 0)
         out += bytes([bits, i, j])
-        for name in ("at_least", "at_most"):
+        for name in ("at_least", "at_most", "from_end"):
             if name in fields:
                 out += fields[name].to_bytes(2, "little")
     return out
@@ -145,10 +145,11 @@ def test_order() -> None:
         assert p.read(bytes([1, 0, 0, bits]))[0] == ("ok" if bits == 1 else "refused")
         assert p.read(bytes([2, 0, 0, 1, bits, 0, 0]))[1] == (
             {0: 7, 1: 7}.get(bits, 4) if bits != 2 else ([None, 0], []))
-        expected = 1 if 1 <= bits <= 7 else 4
+        expected = 1 if bits in (1, 2, 3, 4, 5, 6, 7, 0x11, 0x13, 0x15, 0x17) else \
+            26 if bits in (0x10, 0x12, 0x14, 0x16) else 4
         assert p.read(bytes([2, 1, 0, 1, 0, bits])) == ("refused", expected)
         assert p.read(bytes([2, 1, 0, 1, 0, bits, 9])) == ("refused", expected)
-        assert p.read(bytes([2, 1, 0, 1, 0, bits, 9, 0])) == ("refused", 4 if expected == 4 else 5)
+        assert p.read(bytes([2, 1, 0, 1, 0, bits, 9, 0])) == ("refused", 5 if expected == 1 else expected)
     two = [2, 2, 0, 1, 0, 1, 1, 0]
     assert p.read(bytes(two + [2, 1, 1])) == ("refused", 5)      # 5 before 6
     assert p.read(bytes(two + [2, 0, 1])) == ("refused", 6)      # 6 before its fields
@@ -177,6 +178,128 @@ def test_wrong_readings() -> None:
     sums = encode([None, None, None, 10, 0],
                   {(0, 1): A, (1, 2): A, (1, 3): A, (2, 4): A, (3, 4): A})
     assert start_lines(sums, 4) == {1: 10, 2: 0}
+
+
+# Request L11. Exposure, step 2, at most five ticks after the hand, step 1, is done.
+EXPOSURE = bytes.fromhex("03 02 00 01 01 00  01 00 01  11 01 02 05 00")
+# Two hands, 3 after both; 3 at most 4 after the end of hand 1: hand 1 has to wait for hand 2.
+HAND_WAITS = encode([None, None, None, 0], {(0, 1): A, (0, 2): A, (1, 3): A | {"from_end": 4}, (2, 3): A})
+# The same, and 3 at most 4 after the end of hand 2 too: each has to wait for the other.
+CLASH = encode([None, None, None, 0],
+               {(0, 1): A, (0, 2): A, (1, 3): A | {"from_end": 4}, (2, 3): A | {"from_end": 4}})
+
+
+def late(least: int) -> bytes:
+    """4 after hand 1, at most 7 on (2, 4): 2 waits for hand 1, and 3 comes `least` after 2, so after the
+    end of the hand; but at most 5 after it."""
+    return encode([None, None, 0, 0, 0], {(0, 1): A, (0, 2): A, (1, 3): A | {"from_end": 5}, (1, 4): A,
+                                          (2, 3): {"at_least": least}, (2, 4): {"at_most": 7}})
+
+
+def refused_everywhere(sheet: bytes, number: int) -> bool:
+    """Whether each call that judges, lists waits, plans or works out starts refuses the sheet so."""
+    no = ("refused", number)
+    return (p.judge(sheet, False) == p.judge(sheet, True) == no and p.waits(sheet) == ([0] * 64, 0, no)
+            and all(p.plan(sheet, allow, [3]) == (no, [3]) and p.starts(sheet, allow, [9], [3]) == (no, [3])
+                    for allow in (False, True))
+            and p.standplan_text(sheet) == f"refused {number}\n")
+
+
+def test_finish_accepted() -> None:
+    """Limits from the end of an open step, without waits and with them."""
+    assert p.read(EXPOSURE) == p.read(encode([None, None, 0], {(0, 1): A, (1, 2): A | {"from_end": 5}}))
+    assert p.standplan_text(EXPOSURE) == "verdict 0\nwaits 0\nstart 0 0 0\nstart 1 0 0\nstart 2 1 0\n"
+    assert p.judge(EXPOSURE, False) == ("ok", 0)
+    assert p.starts(EXPOSURE, False, [0, 7, 0], [1] * 4) == (("ok", 0), [0, 0, 7, 1])
+    # Exposure not before tick 10: the hand, which may last no time, starts at 5, whatever it lasts.
+    not_before = encode([None, None, 0], {(0, 1): A, (0, 2): {"at_least": 10}, (1, 2): A | {"from_end": 5}})
+    assert start_lines(not_before, 1) == {0: 5} and start_lines(not_before, 2) == {0: 10, 1: 0}
+    assert p.starts(not_before, False, [0, 2, 0], [1] * 3) == (("ok", 0), [0, 5, 10])
+    assert p.starts(not_before, False, [0, 9, 0], [1] * 3) == (("ok", 0), [0, 5, 14])
+    assert p.standplan_text(HAND_WAITS) == ("verdict 1\nwaits 1\nwait 2 1\n"
+                                            "start 0 0 0\nstart 1 2 0\nstart 2 0 0\nstart 3 1 0\n")
+    assert p.waits(HAND_WAITS) == ([0, 4] + [0] * 62, 1, ("ok", 1))
+    assert p.judge(HAND_WAITS, False) == ("refused", 12)
+    assert p.starts(HAND_WAITS, True, [0, 5, 3, 0], [0] * 4) == (("ok", 1), [0, 3, 0, 8])
+    # A walk from the end of hand 1 takes the return to hand 2: 3 comes 5 after hand 1, so 2 starts 4 after it.
+    other = encode([None, None, None, 0, 0], {(0, 1): A, (0, 2): A, (1, 4): A, (2, 3): A | {"from_end": 1},
+                                              (4, 3): {"at_least": 5}})
+    assert p.waits(other) == ([0, 0, 2] + [0] * 61, 1, ("ok", 1))
+    assert start_lines(other, 2) == {1: 4} and start_lines(other, 3) == {1: 5, 2: 0}
+    # It does not take the return to hand 1: 3 at least 9 after the start of the hand, not 9 - 1 after its end.
+    own = encode([None, None, 0, 0], {(0, 1): A, (1, 2): A | {"from_end": 1}, (1, 3): {"at_least": 9}, (2, 3): A})
+    assert p.judge(own, False) == ("ok", 0) and start_lines(own, 3) == {0: 9, 1: 0}
+    # With at least and at most on the same pair: the start counts for these, the end for the other.
+    assert start_lines(encode([None, None, 0], {(0, 1): A, (1, 2): A | {"at_least": 5, "from_end": 5}}), 2) == {0: 5, 1: 0}
+
+
+def test_finish_impossible() -> None:
+    """10 and 11 by limits from the end of an open step."""
+    # A hand that lasts no time ends 6 before exposure.
+    assert refused_everywhere(encode([None, None, 0], {(0, 1): A, (1, 2): A | {"at_least": 6, "from_end": 5}}), 10)
+    # A second hand between the first and exposure.
+    assert refused_everywhere(encode([None, None, None, 0], {(0, 1): A, (1, 2): A, (1, 3): A | {"from_end": 9},
+                                                             (2, 3): A}), 11)
+    # At most 9 from the start, too.
+    assert refused_everywhere(encode([None, None, 0], {(0, 1): A, (1, 2): A | {"at_most": 9, "from_end": 9}}), 11)
+
+
+def test_finish_28() -> None:
+    """Waits that close a circle, and waits that leave no times without one; both though waits are not allowed."""
+    assert refused_everywhere(CLASH, 28)
+    assert refused_everywhere(late(10), 28) and refused_everywhere(late(6), 28)
+    # At 5 it just goes; 2 and 3 count from the end of the hand.
+    assert p.waits(late(5)) == ([0, 0, 2] + [0] * 61, 1, ("ok", 1))
+    assert start_lines(late(5), 2) == {1: 0} and start_lines(late(5), 3) == {1: 5}
+    # Four steps are enough: 3 at least 6 and at most 8 after 2, at most 5 after the end of 1.
+    assert refused_everywhere(encode([None, None, 0, 0], {(0, 1): A, (0, 2): A, (1, 3): A | {"from_end": 5},
+                                                          (2, 3): {"at_least": 6, "at_most": 8}}), 28)
+    # 10 and 11 come before 28.
+    assert refused_everywhere(encode([None, None, None, 0], {
+        (0, 1): A, (0, 2): A, (1, 3): A | {"at_least": 5, "from_end": 4}, (2, 3): A | {"from_end": 4}}), 10)
+    assert refused_everywhere(encode([None, None, None, 0], {
+        (0, 1): A, (0, 2): A, (0, 3): A | {"from_end": 9}, (1, 3): A | {"from_end": 4},
+        (2, 3): A | {"from_end": 4}}), 11)
+
+
+def test_finish_known() -> None:
+    """From the end of a fixed step a plain at most of duration plus u, from that of step 0 one of u."""
+    for least, lines in ((5, {0: 5}), (6, None)):
+        sheet = encode([None, 3, 0], {(0, 1): A, (1, 2): A | {"at_least": least, "from_end": 2}})
+        assert start_lines(sheet, 2) == lines if lines else refused_everywhere(sheet, 10)
+    # 65,535 + 65,535 is not cut off.
+    for last, verdict in ((0, ("ok", 0)), (1, ("refused", 10))):
+        assert p.judge(encode([None, 65535, 65535, last, 0], {
+            (0, 1): A, (1, 2): A, (1, 4): A | {"from_end": 65535}, (2, 3): A, (3, 4): A}), True) == verdict
+    # Two hands, 3 after hand 1, 4 after hand 2, at most 5 after the end of 3, which lasts 2; 4 after 3.
+    hands = encode([None, None, None, 2, 0], {(0, 1): A, (0, 2): A, (1, 3): A, (2, 4): A, (3, 4): A | {"from_end": 5}})
+    assert p.waits(hands) == ([0, 0, 0, 4] + [0] * 60, 1, ("ok", 1))
+    assert p.judge(encode([None, 0], {(0, 1): A | {"from_end": 0}}), False) == ("ok", 0)
+    assert refused_everywhere(encode([None, 0], {(0, 1): A | {"at_least": 3, "from_end": 2}}), 10)
+    assert start_lines(encode([None, 0], {(0, 1): A | {"at_least": 3, "from_end": 3}}), 1) == {0: 3}
+    assert refused_everywhere(encode([None, None, 0], {(0, 1): A, (0, 2): A | {"from_end": 9}, (1, 2): A}), 11)
+
+
+def test_finish_bytes() -> None:
+    """The map of a link record, and its fields; 26 comes before i and j are looked at."""
+    for bits, number in ((0x10, 26), (0x12, 26), (0x14, 26), (0x16, 26), (0x18, 4), (0x19, 4), (0x30, 4), (0x31, 4)):
+        for rest in (b"", b"\x00", b"\x09\x09", b"\x00\x01" + b"\x00" * 6):
+            assert p.read(bytes([2, 1, 0, 1, 0, bits]) + rest) == ("refused", number)
+    head = [2, 1, 0, 1, 0]
+    for bits, fields, record in ((0x11, [4, 1], (None, None, 260)), (0x13, [2, 0, 4, 0], (2, None, 4)),
+                                 (0x15, [3, 0, 4, 0], (None, 3, 4)), (0x17, [2, 0, 3, 0, 4, 0], (2, 3, 4))):
+        whole = bytes(head + [bits, 0, 1] + fields)
+        assert p.read(whole) == ("ok", ([None, 0], [p.Record(0, 1, True, *record)]))
+        for size in range(len(whole)):
+            assert p.read(whole[:size]) == ("refused", 1)
+        assert p.read(whole + b"\x00") == ("refused", 7)
+        assert p.read(bytes(head + [bits, 0, 2])) == ("refused", 5)
+    assert p.read(bytes([2, 2, 0, 1, 0, 1, 0, 1, 0x11, 0, 1])) == ("refused", 6)
+    assert p.read(bytes([2, 2, 0, 1, 0, 1, 0, 1, 0x10, 0, 1])) == ("refused", 26)
+    # The longest sheet.
+    pairs = [(i, j) for i in range(64) for j in range(i + 1, 64)][:512]
+    longest = encode([None] + [1] * 63, {pair: A | {"at_least": 1, "at_most": 65535, "from_end": 65535} for pair in pairs})
+    assert len(longest) == 4801 and p.judge(longest, False) == ("ok", 0)
 
 
 if __name__ == "__main__":

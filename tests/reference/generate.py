@@ -1,8 +1,10 @@
 """Random sheets of all sizes and verdicts.
 
-    python3 generate.py SEED COUNT FILE [--stats]
+    python3 generate.py SEED COUNT FILE [--finish] [--stats]
 
 FILE holds, for each sheet, two bytes of length, low byte first, then its bytes.
+With --finish, sheets have limits from the end of a step (bit 4, request L11);
+without it, a seed draws the same sheets as before there were any.
 The planner is used only to aim (which pairs to link, how tight a limit is).
 """
 from __future__ import annotations
@@ -15,20 +17,51 @@ import planner as p
 
 # What a sheet aims at: 0 sound, 12 waits, -1 anything, otherwise that refusal.
 AIMS = [0, 0, 0, 12, 12, 12, 12, 1, 2, 3, 4, 5, 6, 7, 8, 9, 10, 10, 11, 11, -1, -1]
+# The same for sheets with bit 4; 28: the waits close a circle, -28: they leave no times without one.
+FINISH_AIMS = [0] * 6 + [12] * 6 + [28] * 2 + [-28] * 3 + [1, 4, 4, 5, 6, 7, 8, 9, 10, 10, 10, 11, 11, 11, 26, 26, -1, -1]
+
+
+def heaviest_walks(n: int, links: list[p.Link]) -> list[list[int | None]]:
+    """Weight of the heaviest walk from u to v, the empty one counted; None: no walk.
+
+    If some circle weighs more than 0, some number on the diagonal is above 0
+    (and the numbers mean nothing else).
+    """
+    best: list[list[int | None]] = [[None] * n for _ in range(n)]
+    for v in range(n):
+        best[v][v] = 0
+    for link in links:
+        old = best[link.source][link.target]
+        if old is None or link.weight > old:
+            best[link.source][link.target] = link.weight
+    for k in range(n):
+        for u in range(n):
+            first = best[u][k]
+            if first is None:
+                continue
+            for v in range(n):
+                second = best[k][v]
+                if second is not None:
+                    old = best[u][v]
+                    if old is None or first + second > old:
+                        best[u][v] = first + second
+    return best
 
 
 class Draft:
-    """A sheet being made: steps, and fields by pair (a subset of after, at_least, at_most)."""
+    """A sheet being made: steps, and fields by pair (a subset of after, at_least, at_most, from_end)."""
 
-    def __init__(self, rng: random.Random, smallest: int) -> None:
+    def __init__(self, rng: random.Random, smallest: int, finish: bool = False) -> None:
         self.rng = rng
+        self.finish = finish                       # with limits from the end of a step
         self.n = rng.choice([rng.randint(1, 5), rng.randint(2, 8), rng.randint(4, 12),
                              rng.randint(4, 12), rng.randint(9, 24), rng.randint(25, 64),
                              rng.choice([60, 61, 62, 63, 64, 64])])
         self.n = max(self.n, smallest)
         self.top = rng.choice([1, 3, 3, 20, 1000, 65535])
         self.flat = rng.random() < 0.1             # every number at the top
-        share = rng.choice([0.1, 0.4, 0.4, 0.7, 1.0] if smallest < 4 else [0.1, 0.4, 0.7, 0.7])
+        share = rng.choice([0.1, 0.4, 0.4, 0.7, 1.0] if smallest < 4 else
+                           [0.3, 0.4, 0.7, 0.7] if finish else [0.1, 0.4, 0.7, 0.7])
         self.steps: list[p.Step] = [p.OPEN] + [
             p.OPEN if rng.random() < share else self.number() for _ in range(self.n - 1)]
         self.order = [0] + rng.sample(range(1, self.n), self.n - 1)
@@ -53,7 +86,7 @@ class Draft:
     def links(self) -> list[p.Link]:
         """The links as walks follow them."""
         return p.links_of(self.steps, [
-            p.Record(i, j, "after" in f, f.get("at_least"), f.get("at_most"))
+            p.Record(i, j, "after" in f, f.get("at_least"), f.get("at_most"), f.get("from_end"))
             for (i, j), f in sorted(self.fields.items())])
 
     def forward_part(self, aim: int) -> None:
@@ -87,7 +120,7 @@ class Draft:
         sets = [0] * self.n
         links = self.links()
         for a in p.open_steps(self.steps):
-            for v in p.reached(links, p.after_targets(links, a)):
+            for v in p.reached(p.from_the_end(links, a), p.after_targets(links, a)):
                 sets[v] |= 1 << a
         return sets
 
@@ -98,8 +131,9 @@ class Draft:
         start = self.base()
         sets = self.walk_sets()
         targets: list[set[int]] = [set() for _ in range(self.n)]
+        ends: list[set[int]] = [set() for _ in range(self.n)]      # returns from the end of an open step
         for link in self.links():
-            targets[link.source].add(link.target)
+            (ends if link.kind == "from end" else targets)[link.source].add(link.target)
         wanted = self.rng.choice([1, 2, 3, self.n // 2, self.n, 3 * self.n])
         if self.rng.random() < 0.05:
             wanted = 512
@@ -107,15 +141,20 @@ class Draft:
         for _ in range(100 + 3 * wanted if aim == 12 else 3 * wanted):
             i, j = self.rng.choice(known) if self.rng.random() < 0.4 else \
                 self.rng.sample(range(self.n), 2)
+            name, own = "at_most", 0
             least = max(0, start[j] - start[i])
+            if self.finish and self.rng.random() < 0.7:
+                i, j = self.after_pair(sets, aim)
+                name, own = "from_end", 1 << i if i and self.steps[i] is p.OPEN else 0
+                least = max(0, start[j] - start[i] - (self.steps[i] or 0)) if (i, j) != (0, 0) else 65536
             limit = least + self.rng.choice([0, 0, self.rng.randint(0, self.top)])
-            makes_wait = sets[j] & ~sets[i] != 0
+            makes_wait = sets[j] & ~sets[i] & ~own != 0
             if limit > 65535 or (aim == 0 and makes_wait):
                 continue
             if aim == 12 and not makes_wait and self.rng.random() < 0.9:
                 continue
             grown = list(sets)                     # the walk sets with this return in
-            grown[i] |= grown[j]
+            grown[i] |= grown[j] & ~own
             todo = [i]
             while todo:
                 u = todo.pop()
@@ -123,15 +162,90 @@ class Draft:
                     if grown[u] & ~grown[v]:
                         grown[v] |= grown[u]
                         todo.append(v)
+                for v in ends[u]:
+                    if grown[u] & ~grown[v] & ~(1 << v):
+                        grown[v] |= grown[u] & ~(1 << v)
+                        todo.append(v)
             if any(grown[a] >> a & 1 for a in p.open_steps(self.steps)):
                 continue                           # would be 11
             if (i, j) in self.fields or len(self.fields) < 512:
-                self.put(i, j, at_most=limit)
-                targets[j].add(i)
+                self.put(i, j, **{name: limit})
+                (ends if own else targets)[j].add(i)
                 sets = grown
                 wanted -= 1
                 if wanted == 0:
                     break
+
+    def after_pair(self, sets: list[int], aim: int) -> tuple[int, int]:
+        """A pair with an after link, for a limit from its end: mostly of an open step, without a
+        wait for aim 0 and with one for 12, if that is soon found; (0, 0) if there is none."""
+        pairs = [pair for pair in self.fields if "after" in self.fields[pair]]
+        found = (0, 0)
+        for _ in range(12 if pairs else 0):
+            i, j = found = self.rng.choice(pairs)
+            is_open = i != 0 and self.steps[i] is p.OPEN
+            makes_wait = sets[j] & ~sets[i] & ~(1 << i) != 0
+            if (is_open or self.rng.random() < 0.1) and aim in ((0, -1), (12, -1))[makes_wait]:
+                break
+        return found
+
+    def apart(self) -> tuple[int, int, list[int]] | None:
+        """Two steps next to each other in the order that no chain links, the first open, and those behind."""
+        places = [k for k in range(1, self.n - 2) if p.OPEN in (self.steps[self.order[k]], self.steps[self.order[k + 1]])]
+        if self.n < 4:
+            return None
+        k = self.rng.choice(places or range(1, self.n - 2))
+        first, second = self.order[k], self.order[k + 1]
+        if not places:
+            self.steps[first] = p.OPEN
+        self.fields.pop((first, second), None)
+        self.put(0, second, after=1)
+        if self.steps[first] is not p.OPEN or (self.steps[second] is p.OPEN and self.rng.random() < 0.5):
+            first, second = second, first
+        return first, second, self.order[k + 2:]
+
+    def clash(self) -> None:
+        """Aim at 28 by a circle: limits from the ends of two open steps, each reached from the other one."""
+        found = self.apart()
+        if found:
+            a, b, behind = found
+            self.steps[b] = p.OPEN
+            x = self.rng.choice(behind)
+            y = self.rng.choice([x, x, self.rng.choice(behind)])
+            for i, j in ((a, x), (b, x), (a, y), (b, y)):
+                self.put(i, j, after=1)
+            best = heaviest_walks(self.n, self.links())
+            for i, j in ((a, x), (b, y)):
+                if "after" in self.fields.get((i, j), {}):
+                    self.put(i, j, from_end=min(65535, best[i][j] + self.rng.choice([0, self.rng.randint(0, self.top)])))
+
+    def late(self) -> None:
+        """Aim at 28 without a circle: i has to wait for a, but j comes too long after i for its limit from the end of a.
+
+        The limit on (i, q) that makes the wait, from the start or the end of i, leaves the sheet possible.
+        """
+        found = self.apart()
+        if found:
+            a, i, behind = found
+            j = self.rng.choice(behind)
+            q = self.rng.choice([j, self.rng.choice(behind)])
+            self.put(a, j, after=1)
+            self.put(a, q, after=1)
+            best = heaviest_walks(self.n, self.links())
+            if "after" not in self.fields.get((a, j), {}):         # no room for more records
+                return
+            limit = best[a][j] + self.rng.choice([0, self.rng.randint(0, self.top)])
+            more = limit + self.rng.choice([1, self.rng.randint(1, self.top)])
+            if max(limit, more) <= 65535:
+                self.put(i, j, at_least=max(more, self.fields.get((i, j), {}).get("at_least", 0)))
+                self.put(a, j, from_end=limit)
+                from_end = self.steps[i] is p.OPEN and self.rng.random() < 0.5
+                if from_end:
+                    self.put(i, q, after=1)
+                    from_end = "after" in self.fields.get((i, q), {})
+                best = heaviest_walks(self.n, self.links())
+                limit = max(0, best[i][q] or 0) + self.rng.choice([0, self.rng.randint(0, self.top)])
+                self.put(i, q, **{"from_end" if from_end else "at_most": min(limit, 65535)})
 
     def circle(self) -> None:
         """Aim at 8: a forward link back along the order."""
@@ -155,12 +269,18 @@ class Draft:
 
     def too_tight(self) -> None:
         """Aim at 10: an at most just below the heaviest walk (at times just at it)."""
-        best = p.heaviest_walks(self.n, self.links())
+        best = heaviest_walks(self.n, self.links())
         pairs = [(i, j) for i in range(self.n) for j in range(self.n)
                  if i != j and best[i][j] is not None and 1 <= best[i][j] <= 65536]
         if pairs:
             i, j = self.rng.choice(pairs)
             limit = best[i][j] - self.rng.choice([0, 1, 1, 1, best[i][j]])
+            if self.finish and self.rng.random() < 0.8:
+                if self.rng.random() < 0.7:        # of an open step, if there is one
+                    i, j = self.rng.choice([(u, v) for u, v in pairs if u and self.steps[u] is p.OPEN] or pairs)
+                limit = best[i][j] - (self.steps[i] or 0) - self.rng.choice([0, 1, 1, 1])
+                self.put(i, j, after=1, from_end=min(max(limit, 0), 65535))    # both or none
+                return
             self.put(i, j, at_most=min(limit, 65535))
 
     def stretch(self) -> None:
@@ -174,6 +294,9 @@ class Draft:
             i = self.rng.choice([v for v in range(self.n) if a in p.reached(links, {v})])
             if i != j:
                 limit = max(0, start[j] - start[i]) + self.rng.randint(0, self.top)
+                if self.finish and self.rng.random() < 0.7:
+                    self.put(i, j, after=1, from_end=min(limit, 65535))
+                    return
                 self.put(i, j, at_most=min(limit, 65535))
 
     def anything(self) -> None:
@@ -186,6 +309,8 @@ class Draft:
                 fields = self.some_forward()
                 if self.rng.random() < 0.15:
                     fields = {"at_most": self.number()}
+                if self.finish and "after" in fields and self.rng.random() < 0.15:
+                    fields["from_end"] = self.number()
                 self.put(i, j, **fields)
 
     def pieces(self) -> tuple[list[bytes], list[bytes]]:
@@ -199,17 +324,17 @@ class Draft:
             else:
                 steps.append(b"\x02" + step.to_bytes(2, "little"))
         for (i, j), fields in sorted(self.fields.items()):
-            bits = sum(bit for bit, name in ((1, "after"), (2, "at_least"), (4, "at_most"))
+            bits = sum(bit for bit, name in ((1, "after"), (2, "at_least"), (4, "at_most"), (16, "from_end"))
                        if name in fields)
             records.append(bytes([bits, i, j]) + b"".join(
-                fields[name].to_bytes(2, "little") for name in ("at_least", "at_most")
+                fields[name].to_bytes(2, "little") for name in ("at_least", "at_most", "from_end")
                 if name in fields))
         return steps, records
 
 
 def spoil(rng: random.Random, fault: int, n: int, r: int,
-          steps: list[bytes], records: list[bytes]) -> tuple[int, int]:
-    """Work a fault 2 to 6 into the pieces of a sheet; N and R as they are then written."""
+          steps: list[bytes], records: list[bytes], finish: bool = False) -> tuple[int, int]:
+    """Work a fault 2 to 6 or 26 into the pieces of a sheet; N and R as they are then written."""
     at = rng.randrange(len(records)) if records else 0
     if fault == 2:
         n = rng.choice([0, 65, 255, rng.randint(65, 255)])
@@ -221,6 +346,13 @@ def spoil(rng: random.Random, fault: int, n: int, r: int,
         steps[v] = bytes([rng.choice([0, 2, bad]) if v == 0 else bad]) + steps[v][1:]
     elif fault == 4:
         records[at] = bytes([rng.choice([0, 8, 9, 255, rng.randint(8, 255)])]) + records[at][1:]
+        if finish and rng.random() < 0.5:
+            records[at] = bytes([rng.choice([0x18, 0x19, 0x1f, 0x30, 0x31, 0x90])]) + records[at][1:]
+    elif fault == 26:
+        if not records:
+            records.append(bytes([1, 0, 0]))
+            r = 1
+        records[at] = bytes([rng.choice([0x10, 0x10, 0x12, 0x14, 0x16])]) + records[at][1:]
     elif fault == 5:
         if not records:
             records.append(bytes([1, 0, 0]))
@@ -238,27 +370,39 @@ def spoil(rng: random.Random, fault: int, n: int, r: int,
     return n, r
 
 
-def random_sheet(rng: random.Random) -> bytes:
+def random_sheet(rng: random.Random, finish: bool = False) -> bytes:
     """One random sheet in bytes."""
-    aim = rng.choice(AIMS)
-    draft = Draft(rng, smallest=4 if aim == 12 else 1)
+    aim = rng.choice(FINISH_AIMS if finish else AIMS)
+    sheet = aimed_sheet(rng, aim, finish)
+    for _ in range(3 if finish and aim == 12 else 0):      # waits are often 28 here: try again
+        if p.judge(sheet, False) == ("refused", 12):
+            break
+        sheet = aimed_sheet(rng, aim, finish)
+    return sheet
+
+
+def aimed_sheet(rng: random.Random, aim: int, finish: bool) -> bytes:
+    """One random sheet in bytes that aims at this."""
+    draft = Draft(rng, smallest=4 if aim in (12, 28, -28) else 1, finish=finish)
     if aim == -1:
         draft.anything()
     else:
         draft.forward_part(aim)
-        if aim == 12 or rng.random() < 0.9:
-            draft.return_part(aim if aim in (0, 12) else rng.choice([0, 12, -1, -1]))
+        if aim == 12 or rng.random() < (0.3 if aim in (28, -28) else 0.9):
+            draft.return_part(aim if aim in (0, 12) else 0 if aim in (28, -28) else rng.choice([0, 12, -1, -1]))
+        if aim in (28, -28) or (finish and aim in (10, 11) and rng.random() < 0.2):
+            (draft.clash if aim == 28 else draft.late)()
         # A later fault under an earlier one, at times.
         later = [k for k in (8, 9, 10, 11) if k > aim and 0 < aim < 11 and rng.random() < 0.15]
         for k in ([aim] if aim in (8, 9, 10, 11) else []) + later:
             {8: draft.circle, 9: draft.cut_off, 10: draft.too_tight, 11: draft.stretch}[k]()
     steps, records = draft.pieces()
     n, r = draft.n, len(records)
-    faults = [aim] if 2 <= aim <= 6 else []
-    if 1 <= aim <= 7 and rng.random() < 0.3:
+    faults = [aim] if 2 <= aim <= 6 or aim == 26 else []
+    if (1 <= aim <= 7 or aim == 26) and rng.random() < 0.3:
         faults.append(rng.randint(2, 6))           # two faults: the first met is given
     for fault in faults:
-        n, r = spoil(rng, fault, n, r, steps, records)
+        n, r = spoil(rng, fault, n, r, steps, records, finish)
     if aim in (1, 7) and not faults and rng.random() < 0.2:
         r = max(0, min(512, r + (1 if aim == 1 else -1)))
     data = bytes([n]) + r.to_bytes(2, "little") + b"".join(steps) + b"".join(records)
@@ -272,10 +416,10 @@ def random_sheet(rng: random.Random) -> bytes:
     return data
 
 
-def generate(seed: int, count: int) -> list[bytes]:
-    """`count` random sheets for a seed."""
+def generate(seed: int, count: int, finish: bool = False) -> list[bytes]:
+    """`count` random sheets for a seed, with limits from the end of a step or as before these."""
     rng = random.Random(seed)
-    return [random_sheet(rng) for _ in range(count)]
+    return [random_sheet(rng, finish) for _ in range(count)]
 
 
 def container(sheets: list[bytes]) -> bytes:
@@ -293,10 +437,27 @@ def contents(data: bytes) -> list[bytes]:
     return sheets
 
 
+def finish_facts(sheet: bytes, verdict: p.Verdict) -> set[str]:
+    """What is to be counted of a sheet that is read, about limits from the end of a step."""
+    steps, records = p.read(sheet)[1]
+    facts = set()
+    for record in records:
+        if record.from_end is not None:
+            facts.add("from the end of 0" if record.i == 0 else
+                      "from the end of a fixed step" if steps[record.i] is not p.OPEN else "from the end of an open step")
+            facts.add(f"map {1 + 2 * (record.at_least is not None) + 4 * (record.at_most is not None) + 16:x}h")
+    if verdict == ("refused", 28):
+        links = p.links_of(steps, records)
+        ahead = p.forward(links) + [p.Link(a, i, 0, "after") for a, i in p.waits_of(steps, links)]
+        facts.add("by a circle" if p.circle(len(steps), ahead) else "without a circle")
+    return facts
+
+
 def statistics(sheets: list[bytes]) -> str:
     """How many sheets each verdict (waits not allowed) and each size has."""
     verdicts: Counter = Counter()
     sizes: Counter = Counter()
+    told: Counter = Counter()
     for sheet in sheets:
         verdict = p.judge(sheet, False)
         verdicts[verdict] += 1
@@ -305,13 +466,16 @@ def statistics(sheets: list[bytes]) -> str:
             sizes[f"N {'1' if n == 1 else '2-8' if n < 9 else '9-32' if n < 33 else '33-64'}",
                   f"R {'0-16' if r < 17 else '17-128' if r < 129 else '129-511' if r < 512 else '512'}",
                   "waits" if verdict[1] == 12 else "sound"] += 1
+        if p.read(sheet)[0] == "ok":
+            told.update(f"{verdict[0]} {verdict[1]}, {about}" for about in finish_facts(sheet, verdict))
     lines = [f"{kind} {k}: {verdicts[kind, k]}" for kind, k in sorted(verdicts)]
+    lines += [f"{about}: {told[about]}" for about in sorted(told)]
     lines += [f"accepted, {', '.join(key)}: {sizes[key]}" for key in sorted(sizes)]
     return "\n".join(lines)
 
 
 if __name__ == "__main__":
-    made = generate(int(sys.argv[1]), int(sys.argv[2]))
+    made = generate(int(sys.argv[1]), int(sys.argv[2]), "--finish" in sys.argv[4:])
     with open(sys.argv[3], "wb") as file:
         file.write(container(made))
     if "--stats" in sys.argv[4:]:

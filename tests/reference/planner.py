@@ -1,4 +1,4 @@
-"""Reference stand planner, written from document 01 (01-scope.md) alone.
+"""Reference stand planner, written from document 01 (01-scope.md) and request L11 of document 02 alone.
 
 Verdicts are ("ok", x) or ("refused", k).  Lent lists are never changed in
 place: each call returns them as they are afterwards.
@@ -33,16 +33,17 @@ class Record:
     after: bool
     at_least: int | None
     at_most: int | None
+    from_end: int | None = None    # L11: at most, from the end of i
 
 
 @dataclass(frozen=True)
 class Link:
-    """One link as a walk follows it: an at most link on (i, j) goes from j to i."""
+    """One link as a walk follows it: an at most link on (i, j) goes from j to i, from the end too."""
 
     source: int
     target: int
     weight: int                # open durations taken as 0
-    kind: str                  # "after", "at least" or "at most"
+    kind: str                  # "after", "at least", "at most" or "from end" (of an open i, not 0)
 
 
 # ---------------------------------------------------------------- the bytes
@@ -64,7 +65,7 @@ class _Bytes:
 
 
 def _read(sheet: bytes) -> tuple[list[Step], list[Record]]:
-    """Steps and link records of a sheet in bytes; raises refusals 1 to 7."""
+    """Steps and link records of a sheet in bytes; raises refusals 1 to 7 and 26."""
     source = _Bytes(sheet)
     n = source.number(1)
     if n == 0 or n > 64:
@@ -88,8 +89,10 @@ def _read(sheet: bytes) -> tuple[list[Step], list[Record]]:
     records: list[Record] = []
     for _ in range(r):
         bits = source.number(1)
-        if not 1 <= bits <= 7:
+        if bits == 0 or bits & ~0b10111:
             raise Refusal(4)
+        if bits & 16 and not bits & 1:
+            raise Refusal(26)
         i = source.number(1)
         j = source.number(1)
         if i >= n or j >= n or i == j:
@@ -98,7 +101,8 @@ def _read(sheet: bytes) -> tuple[list[Step], list[Record]]:
             raise Refusal(6)
         at_least = source.number(2) if bits & 2 else None
         at_most = source.number(2) if bits & 4 else None
-        records.append(Record(i, j, bool(bits & 1), at_least, at_most))
+        from_end = source.number(2) if bits & 16 else None
+        records.append(Record(i, j, bool(bits & 1), at_least, at_most, from_end))
 
     if source.at < len(sheet):
         raise Refusal(7)
@@ -106,7 +110,7 @@ def _read(sheet: bytes) -> tuple[list[Step], list[Record]]:
 
 
 def read(sheet: bytes):
-    """A sheet in bytes: ("ok", (steps, link records)) or ("refused", 1 to 7)."""
+    """A sheet in bytes: ("ok", (steps, link records)) or ("refused", 1 to 7 or 26)."""
     try:
         return "ok", _read(sheet)
     except Refusal as refusal:
@@ -126,12 +130,27 @@ def links_of(steps: list[Step], records: list[Record]) -> list[Link]:
             links.append(Link(record.i, record.j, record.at_least, "at least"))
         if record.at_most is not None:
             links.append(Link(record.j, record.i, -record.at_most, "at most"))
+        if record.from_end is not None:
+            duration = 0 if record.i == 0 else steps[record.i]
+            if duration is OPEN:
+                links.append(Link(record.j, record.i, -record.from_end, "from end"))
+            else:              # the end of i is known: a plain at most
+                links.append(Link(record.j, record.i, -(duration + record.from_end), "at most"))
     return links
 
 
 def forward(links: list[Link]) -> list[Link]:
     """The forward links: after and at least."""
-    return [link for link in links if link.kind != "at most"]
+    return [link for link in links if link.kind in ("after", "at least")]
+
+
+def from_the_end(links: list[Link], a: int) -> list[Link]:
+    """The links that a walk counting from the end of a may take: no return to a that is from its end.
+
+    Such a return says that a is to end late enough; with the end of a given it says nothing of
+    any start. So 11, waits and offsets leave it out for a alone; 10 and 28 take every link.
+    """
+    return [link for link in links if not (link.kind == "from end" and link.target == a)]
 
 
 def open_steps(steps: list[Step]) -> list[int]:
@@ -174,56 +193,38 @@ def waits_of(steps: list[Step], links: list[Link]) -> list[tuple[int, int]]:
     sets = start_sets(steps, links)
     found = set()
     for a in open_steps(steps):
-        there = reached(links, after_targets(links, a))
+        there = reached(from_the_end(links, a), after_targets(links, a))
         for link in links:
-            if link.kind == "at most":
+            if link.kind in ("at most", "from end"):
                 j, i = link.source, link.target
-                if j in there and a not in sets[i]:
+                if j in there and a not in sets[i] and a != i:     # a = i at an at most is 11
                     found.add((a, i))
     return sorted(found)
 
 
-def heaviest_walks(n: int, links: list[Link]) -> list[list[int | None]]:
-    """Weight of the heaviest walk from u to v, the empty one counted; None: no walk.
-
-    If some circle weighs more than 0, some number on the diagonal is above 0
-    (and the numbers mean nothing else).
-    """
-    best: list[list[int | None]] = [[None] * n for _ in range(n)]
-    for v in range(n):
-        best[v][v] = 0
-    for link in links:
-        old = best[link.source][link.target]
-        if old is None or link.weight > old:
-            best[link.source][link.target] = link.weight
-    for k in range(n):
-        for u in range(n):
-            first = best[u][k]
-            if first is None:
-                continue
-            for v in range(n):
-                second = best[k][v]
-                if second is not None:
-                    old = best[u][v]
-                    if old is None or first + second > old:
-                        best[u][v] = first + second
-    return best
+def heaviest_from(n: int, links: list[Link], begin: set[int]) -> list[int | None] | None:
+    """Weight of the heaviest walk from `begin` to each step, the empty one counted; in its place
+    None: no walk. None alone: there is no heaviest, some circle on the way weighs more than 0."""
+    best: list[int | None] = [0 if v in begin else None for v in range(n)]
+    for _ in range(n + 1):
+        moved = False
+        for link in links:
+            first, old = best[link.source], best[link.target]
+            if first is not None and (old is None or first + link.weight > old):
+                best[link.target] = first + link.weight
+                moved = True
+        if not moved:
+            return best
+    return None
 
 
 def offsets_of(steps: list[Step], links: list[Link]) -> list[dict[int, int]]:
     """For each step v, the offset of v for each a in its start set."""
-    best = heaviest_walks(len(steps), links)
-    begins = {a: after_targets(links, a) for a in open_steps(steps)}
-    offsets = []
-    for v, members in enumerate(start_sets(steps, links)):
-        row = {}
-        for a in sorted(members):
-            if a == 0:
-                row[a] = best[0][v]
-            else:              # a is open: its after link weighs 0
-                row[a] = max(best[x][v] for x in begins[a] if best[x][v] is not None)
-        offsets.append(row)
-    return offsets
+    best = {0: heaviest_from(len(steps), links, {0})}
+    for a in open_steps(steps):    # its after link weighs 0
+        best[a] = heaviest_from(len(steps), from_the_end(links, a), after_targets(links, a))
+    return [{a: best[a][v] for a in sorted(members)}
+            for v, members in enumerate(start_sets(steps, links))]
 
 
 def deciding_sets(offsets: list[dict[int, int]]) -> list[dict[int, int]]:
@@ -252,30 +253,41 @@ class Accepted:
         return "ok", 1 if self.waits else 0
 
 
+def circle(n: int, links: list[Link]) -> bool:
+    """Whether these links close a circle."""
+    return any(v in reached(links, {link.target for link in links if link.source == v}) for v in range(n))
+
+
+def no_times(n: int, links: list[Link]) -> bool:
+    """Whether no start times keep these links with all open durations 0: a circle weighs more."""
+    return heaviest_from(n, links, set(range(n))) is None
+
+
 def accept(sheet: bytes, allow_waits: bool) -> Accepted:
-    """The accepted sheet; raises refusals 1 to 12."""
+    """The accepted sheet; raises refusals 1 to 12, 26 and 28."""
     steps, records = _read(sheet)
     n = len(steps)
     links = links_of(steps, records)
     ahead = forward(links)
-    if any(v in reached(ahead, {link.target for link in ahead if link.source == v})
-           for v in range(n)):
+    if circle(n, ahead):
         raise Refusal(8)
     if len(reached(ahead, {0})) < n:
         raise Refusal(9)
-    best = heaviest_walks(n, links)
-    if any(best[v][v] > 0 for v in range(n)):
+    if no_times(n, links):
         raise Refusal(10)
-    if any(a in reached(links, after_targets(links, a)) for a in open_steps(steps)):
+    if any(a in reached(from_the_end(links, a), after_targets(links, a)) for a in open_steps(steps)):
         raise Refusal(11)
     waits = waits_of(steps, links)
+    whole = links + [Link(a, i, 0, "after") for a, i in waits]
+    if waits and (circle(n, forward(whole)) or no_times(n, whole)):
+        raise Refusal(28)
     if waits and not allow_waits:
         raise Refusal(12)
-    return Accepted(steps, waits, links + [Link(a, i, 0, "after") for a, i in waits])
+    return Accepted(steps, waits, whole)
 
 
 def judge(sheet: bytes, allow_waits: bool) -> Verdict:
-    """Judge a sheet: ("ok", 0) sound, ("ok", 1) sound with waits, or ("refused", 1 to 12)."""
+    """Judge a sheet: ("ok", 0) sound, ("ok", 1) sound with waits, or ("refused", 1 to 12, 26 or 28)."""
     try:
         return accept(sheet, allow_waits).verdict
     except Refusal as refusal:

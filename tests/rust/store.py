@@ -14,6 +14,7 @@ import generate  # noqa: E402
 import planner as p  # noqa: E402
 
 EACH = 4                       # sheets for each verdict
+EACH_FINISH = 2                # the same with limits from the end of a step
 
 
 def words(numbers):
@@ -41,6 +42,21 @@ def chosen():
     return sheets
 
 
+def chosen_finish():
+    """Sheets with limits from the end of a step: the worked ones, then random ones, a few for each verdict."""
+    sheets = [examples.EXPOSURE, examples.HAND_WAITS, examples.CLASH, examples.late(5), examples.late(6)]
+    counts = {}
+    for sheet in generate.generate(2026, 1000, finish=True):
+        verdict = p.judge(sheet, False)
+        if p.read(sheet)[0] == "ok":
+            verdict = verdict, "from the end of an open step" in generate.finish_facts(sheet, verdict)
+        n = sheet[0] if sheet else 0
+        if counts.get(verdict, 0) < EACH_FINISH and n <= 12 and len(sheet) < 400:
+            counts[verdict] = counts.get(verdict, 0) + 1
+            sheets.append(sheet)
+    return sheets
+
+
 def durations(rng, sheet, size):
     """A random list: 0 for fixed steps; at times one number is wrong."""
     read = p.read(sheet)
@@ -59,7 +75,7 @@ def words_of(verdict):
 def answers():
     """The lines of data/answers.txt."""
     rng = random.Random(1)
-    for sheet in chosen():
+    for sheet in chosen() + chosen_finish():
         # A refused sheet is lent little: no size makes a difference.
         n = (sheet[0] if p.judge(sheet, True)[0] == "ok" else 3) if sheet else 0
         yield f"sheet {sheet.hex()}"
@@ -134,18 +150,23 @@ def calls(rng, state, n, open_, table, count):
         yield f"{line}; {words_of(verdict)}; {state_words(state)}"
 
 
+def sheet_runs(rng, sheets):
+    """Random runs of those of the sheets that are accepted and not too large."""
+    for sheet in sheets:
+        if p.judge(sheet, True)[0] == "ok" and sheet[0] <= 12:
+            n = sheet[0]
+            steps = p.read(sheet)[1][0]
+            open_ = sum(1 << v for v, step in enumerate(steps) if step is p.OPEN)
+            table = p.plan(sheet, True, [0] * (n * n))[1]
+            yield from calls(rng, p.State(), n, open_, table, 60)
+
+
 def runs():
-    """The lines of data/runs.txt: the paper's run, runs of accepted sheets, then runs from any state on any table."""
+    """The lines of data/runs.txt: the paper's run, runs of accepted sheets, then runs from any state on any table, then
+    runs of accepted sheets with limits from the end of a step."""
     yield from paper_run()
     rng = random.Random(2)
-    accepted = [s for s in chosen() if p.judge(s, True)[0] == "ok"]
-    for sheet in accepted:
-        n = sheet[0]
-        steps = p.read(sheet)[1][0]
-        open_ = sum(1 << v for v, step in enumerate(steps) if step is p.OPEN)
-        table = p.plan(sheet, True, [0] * (n * n))[1]
-        if n <= 12:
-            yield from calls(rng, p.State(), n, open_, table, 60)
+    yield from sheet_runs(rng, chosen())
     for j in range(12):
         n = rng.randint(1, 6)
         table = [rng.choice([p.UNDECIDED, 0, 1, 2, p.UNDECIDED - 1]) for _ in range(n * n + rng.randint(0, 2))]
@@ -153,6 +174,7 @@ def runs():
                         rng.getrandbits(64) | 1, rng.getrandbits(64),
                         tuple(rng.getrandbits(32) for _ in range(64)), tuple(rng.choice([0, 3, rng.getrandbits(32)]) for _ in range(64)))
         yield from calls(rng, state, n, state.open, table, 12)
+    yield from sheet_runs(rng, chosen_finish())
 
 
 def main():

@@ -2,22 +2,22 @@
 use mathlib.Core.Path.{_≡_, refl, sym, ap, _∙_}
 use mathlib.Core.Bool.{Bool, true, false, cond, not, _&&_}
 use mathlib.Core.List.{List}
-use Prim.Native.Nat.{ℕ, _<_}
+use mathlib.Core.Logic.{_≢_}
+use Prim.Native.Nat.{ℕ, _<_, _≤_}
 use borrow.Author.Tests.{lt-ltb}
-use Rattle.definitions.specs.Answers.{closes-circle, unreached, infeasible, inconsistent, judge-edges}
+use Rattle.definitions.specs.Answers.{closes-circle, unreached, infeasible, inconsistent, unserializable, judge-edges}
 use Rattle.definitions.specs.Basics.{Outcome, given, refused, refuse-if, when-given}
 use Rattle.definitions.specs.Links.{Edge, members}
-use Rattle.definitions.specs.Rounds.{after-reaches, rounds, stable, source-row}
+use Rattle.definitions.specs.Rounds.{rounds, stable, source-row}
 use Rattle.definitions.specs.Numbers.{verdict-of, number}
 use Rattle.definitions.specs.Waits.{needs-waits, wait-count}
 use Rattle.definitions.specs.declared.Refusal.{Refusal}
-use Rattle.definitions.specs.declared.Refusal.the-variants.{Inconsistent}
+use Rattle.definitions.specs.declared.Refusal.the-variants.{Inconsistent, Unserializable}
 use Rattle.definitions.specs.declared.Verdict.the-variants as Verdicts
-use Rattle.laws.proofs.Bools.{both-ways}
+use Rattle.demands.proofs.Sheets.{not-8, not-9, not-10-11}
 use Rattle.laws.proofs.Outcomes.{given-not-refused}
 use Rattle.reach.specs.Pushes.{Reached}
-use Rattle.theory.specs.Graphs.{Shape}
-use Rattle.theory.proofs.WaitLists.{usable-all}
+use Rattle.theory.specs.Graphs.{ForwardAcyclic, Shape, Well}
 use Rattle.waits.specs.Reaching.{Reaches}
 use Rattle.analysis.specs.declared.Analysis.{Analysis}
 use Rattle.analysis.specs.Analysis.{judge-first, judge-waits, judge-rest, Serial, Blank, Serialized, Analysed}
@@ -32,8 +32,7 @@ split false false false i j k rest = refl
 
 -- What reaches what, as the kernel gives it.
 pub reached-reaches : {n : ℕ} {g : List Edge} {rows : List ℕ} → Shape n (members g) → Reached n g rows → Reaches n g rows
-reached-reaches {n} {g} shape reached =
-    record { bits = λ a v below. reached .reaches shape a v ∙ ap (λ (l : List Edge). after-reaches n l a v) (sym (usable-all g a)) }
+reached-reaches shape reached = record { bits = λ a v below. reached .reaches shape a v }
 
 module _ (n : ℕ) (g : List Edge) where
   pub judge-split : (allow : Bool) → judge-edges n g allow ≡ when-given (judge-first n g) (λ u. judge-rest n g allow)
@@ -70,44 +69,61 @@ module _ (n : ℕ) (g : List Edge) where
   unfolding judge-waits needs-waits refuse-if
   waits-refused h = rw (lt-ltb 0 (wait-count n g) h)
 
+  -- What passes 8 to 10 and 11 can be scheduled.
+  passed-by : (a b c : Bool) → refuse-if {A = Unit {0}} a 8 (refuse-if b 9 (refuse-if c 10 (given tt))) ≡ given tt → (a ≡ false) × (b ≡ false) × (c ≡ false)
+  unfolding refuse-if
+  passed-by true b c h = absurd (given-not-refused (sym h))
+  passed-by false true c h = absurd (given-not-refused (sym h))
+  passed-by false false true h = absurd (given-not-refused (sym h))
+  passed-by false false false h = (refl, refl, refl)
+
+  first-passed : judge-first n g ≡ given tt → (closes-circle n g ≡ false) × (unreached n g ≡ false) × (infeasible n g ≡ false)
+  unfolding judge-first
+  first-passed h = passed-by (closes-circle n g) (unreached n g) (infeasible n g) h
+
+  pub passed-well : 1 ≤ n → Shape n (members g) → judge-first n g ≡ given tt → inconsistent n g ≡ false → Well n (members g)
+  passed-well some shape h k = let r = first-passed h in not-10-11 some shape (not-9 some shape (r .1)) (r .2) k
+
+  pub passed-acyclic : 1 ≤ n → Shape n (members g) → judge-first n g ≡ given tt → ForwardAcyclic (members g)
+  passed-acyclic some shape h = not-8 some shape (first-passed h .0)
+
   -- From 11 on.
   pub rest-11 : inconsistent n g ≡ true → (allow : Bool) → judge-rest n g allow ≡ refused 11
   unfolding judge-rest refuse-if
   rest-11 h allow = rw h
 
-  pub rest-waits : inconsistent n g ≡ false → (allow : Bool) → judge-rest n g allow ≡ judge-waits n g allow
+  pub rest-28 : inconsistent n g ≡ false → unserializable n g ≡ true → (allow : Bool) → judge-rest n g allow ≡ refused 28
   unfolding judge-rest refuse-if
-  rest-waits h allow = rw h
+  rest-28 h k allow = rw (h, k)
+
+  pub rest-waits : inconsistent n g ≡ false → unserializable n g ≡ false → (allow : Bool) → judge-rest n g allow ≡ judge-waits n g allow
+  unfolding judge-rest refuse-if
+  rest-waits h k allow = rw (h, k)
+
+  -- Where waits are allowed, 12 is not given.
+  allowed : (k : ℕ) → judge-waits n g true ≢ refused k
+  unfolding judge-waits refuse-if
+  allowed k = go (needs-waits n g)
+    where
+      go : (need : Bool) → refuse-if {A = ℕ} (need && not true) 12 (given (cond need 1 0)) ≢ refused k
+      go true h = absurd (given-not-refused h)
+      go false h = absurd (given-not-refused h)
 
   -- The analysis from 11 on.
   module _ (allow : Bool) (r : Analysis) where
+    refused-by : (k : Refusal) → ((b : Bool) → judge-rest n g b ≡ refused (number k)) → r .verdict ≡ Verdicts.Refused k → Blank r → Serialized n g allow r
+    refused-by k h e blank =
+        record { judges = ap verdict-of e ∙ sym (h allow); found = λ v f. absurd (given-not-refused (sym f ∙ h true)); blank = λ l f. blank }
+
     pub serialized-refused : inconsistent n g ≡ true → r .verdict ≡ Verdicts.Refused Inconsistent → Blank r → Serialized n g allow r
-    serialized-refused h e blank =
-        record { judges = ap verdict-of e ∙ sym (rest-11 h allow); found = λ k. absurd (both-ways h k); blank = λ k. blank }
+    serialized-refused h = refused-by Inconsistent (rest-11 h)
 
-    pub serialized-found : inconsistent n g ≡ false → verdict-of (r .verdict) ≡ judge-waits n g allow → Serial n g r → Serialized n g allow r
-    serialized-found h e serial =
-        record { judges = e ∙ sym (rest-waits h allow); found = λ k. serial; blank = λ k. absurd (both-ways k h) }
+    pub serialized-clash : inconsistent n g ≡ false → unserializable n g ≡ true → r .verdict ≡ Verdicts.Refused Unserializable → Blank r → Serialized n g allow r
+    serialized-clash h k = refused-by Unserializable (rest-28 h k)
 
-  -- Where waits are allowed, 11 alone refuses.
-  allowed-given : (need bad : Bool) (k : ℕ) → refuse-if {A = ℕ} bad 11 (refuse-if (need && not true) 12 (given (cond need 1 0))) ≡ refused k → bad ≡ true
-  unfolding refuse-if
-  allowed-given need true k h = refl
-  allowed-given true false k h = absurd (given-not-refused h)
-  allowed-given false false k h = absurd (given-not-refused h)
-
-  allowed-passed : (rest : Outcome ℕ) (bad : Bool) (v : ℕ) → refuse-if bad 11 rest ≡ given v → bad ≡ false
-  unfolding refuse-if
-  allowed-passed rest true v h = absurd (given-not-refused (sym h))
-  allowed-passed rest false v h = refl
-
-  rest-refused : (k : ℕ) → judge-rest n g true ≡ refused k → inconsistent n g ≡ true
-  unfolding judge-rest judge-waits
-  rest-refused k h = allowed-given (needs-waits n g) (inconsistent n g) k h
-
-  rest-passed : (v : ℕ) → judge-rest n g true ≡ given v → inconsistent n g ≡ false
-  unfolding judge-rest
-  rest-passed v h = allowed-passed (judge-waits n g true) (inconsistent n g) v h
+    pub serialized-found : inconsistent n g ≡ false → unserializable n g ≡ false → verdict-of (r .verdict) ≡ judge-waits n g allow → Serial n g r → Serialized n g allow r
+    serialized-found h k e serial =
+        record { judges = e ∙ sym (rest-waits h k allow); found = λ v f. serial; blank = λ l f. absurd (allowed l (sym (rest-waits h k true) ∙ f)) }
 
   -- The analysis is refused by the first part, or goes on with the rest.
   module _ (allow : Bool) (r : Analysis) where
@@ -121,4 +137,4 @@ module _ (n : ℕ) (g : List Edge) where
     unfolding when-given
     analysed-rest e s =
         let whole : (b : Bool) → judge-edges n g b ≡ judge-rest n g b = λ b. judge-split b ∙ ap (λ (o : Outcome (Unit {0})). when-given o (λ u. judge-rest n g b)) e in
-        record { judges = s .judges ∙ sym (whole allow); found = λ v h. s .found (rest-passed v (sym (whole true) ∙ h)); blank = λ k h. s .blank (rest-refused k (sym (whole true) ∙ h)) }
+        record { judges = s .judges ∙ sym (whole allow); found = λ v h. s .found v (sym (whole true) ∙ h); blank = λ k h. s .blank k (sym (whole true) ∙ h) }

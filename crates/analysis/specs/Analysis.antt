@@ -1,10 +1,10 @@
 -- What the analysis of a sheet's edges finds: the verdict, what reaches what, and the waits.
 use mathlib.Core.Path.{_≡_}
-use mathlib.Core.Bool.{Bool, true, false, cond, not, _&&_}
+use mathlib.Core.Bool.{Bool, true, cond, not, _&&_}
 use mathlib.Core.List.{List}
 use Prim.Native.Nat.{ℕ}
 use lib.ListN.{replicate}
-use Rattle.definitions.specs.Answers.{closes-circle, unreached, infeasible, inconsistent, judge-edges}
+use Rattle.definitions.specs.Answers.{closes-circle, unreached, infeasible, inconsistent, unserializable, judge-edges}
 use Rattle.definitions.specs.Basics.{Outcome, given, refused, refuse-if}
 use Rattle.definitions.specs.Links.{Edge}
 use Rattle.definitions.specs.Numbers.{verdict-of}
@@ -20,7 +20,7 @@ unfoldable pub judge-waits : ℕ → List Edge → Bool → Outcome ℕ
 judge-waits n g allow = refuse-if (needs-waits n g && not allow) 12 (given (cond (needs-waits n g) 1 0))
 
 unfoldable pub judge-rest : ℕ → List Edge → Bool → Outcome ℕ
-judge-rest n g allow = refuse-if (inconsistent n g) 11 (judge-waits n g allow)
+judge-rest n g allow = refuse-if (inconsistent n g) 11 (refuse-if (unserializable n g) 28 (judge-waits n g allow))
 
 -- What reaches what, the waits, and their count.
 pub record Serial (n : ℕ) (g : List Edge) (r : Analysis) : Type 0 where
@@ -37,8 +37,8 @@ pub record Blank (r : Analysis) : Type 0 where
 -- The analysis from 11 on, and the whole: where waits are allowed and the edges are refused all the same, none are listed.
 pub record Serialized (n : ℕ) (g : List Edge) (allow : Bool) (r : Analysis) : Type 0 where
   pub judges : verdict-of (r .verdict) ≡ judge-rest n g allow
-  pub found : inconsistent n g ≡ false → Serial n g r
-  pub blank : inconsistent n g ≡ true → Blank r
+  pub found : (v : ℕ) → judge-rest n g true ≡ given v → Serial n g r
+  pub blank : (k : ℕ) → judge-rest n g true ≡ refused k → Blank r
 
 pub record Analysed (n : ℕ) (g : List Edge) (allow : Bool) (r : Analysis) : Type 0 where
   pub judges : verdict-of (r .verdict) ≡ judge-edges n g allow

@@ -7,12 +7,14 @@ ghost use mathlib.Core.List.{List};
 ghost use Prim.Native.Nat.{ℕ, _≤_};
 ghost use lib.ListN.{length};
 ghost use Rattle.precedence.specs.Chains.{Closed};
+ghost use Rattle.definitions.specs.Answers.{unserializable};
+ghost use Rattle.definitions.specs.Basics.{given};
 ghost use Rattle.definitions.specs.Links.{Edge, members};
 ghost use Rattle.definitions.specs.Numbers.{status-of, verdict-of};
 ghost use Rattle.definitions.specs.Waits.{wait-count, wait-maps};
 ghost use Rattle.definitions.specs.declared.Verdict.the-variants.{Refused};
 ghost use Rattle.edges.specs.Words.{graph};
-ghost use Rattle.theory.specs.Graphs.{Shape};
+ghost use Rattle.theory.specs.Graphs.{ForwardAcyclic, Gains, Shape, Well};
 ghost use Rattle.waits.specs.Reaching.{Reaches};
 ghost use Rattle.analysis.specs.Analysis.{Analysed, Blank, Serialized, judge-first, judge-waits};
 
@@ -78,10 +80,21 @@ fn waits_from(es: &[u64], closed: &[u64; 64], reach: &[u64; 64], n: usize) -> [u
     waits::wait_maps(es, reach, &sets)
 }
 
+// Refusal 28: waits are needed and cannot be put in.
+fn waits_clash(es: &[u64], maps: &[u64; 64], count: u32, order: &[u8; 64], n: usize) -> bool
+    requires { ⌜ (1 ≤ n) × (n ≤ 64) × (length (now es) ≤ 2048) ⌝ }
+    ensures { λ r. ⌜ (Well n (members (graph (now (es .entry)))) → ForwardAcyclic (members (graph (now (es .entry)))) → Gains (members (graph (now (es .entry)))) 65535 → now (maps .entry) ≡ wait-maps n (graph (now (es .entry))) → count ≡ wait-count n (graph (now (es .entry))) → r ≡ unserializable n (graph (now (es .entry)))) ⌝ }
+{
+    if count == 0 {
+        return false;
+    }
+    !serializing::can_serialize(es, maps, order, n)
+}
+
 // The analysis from refusal 11 on.
 fn serialize(es: &[u64], closed: &[u64; 64], order: [u8; 64], n: usize, allow: bool) -> Analysis
-    requires { ⌜ n ≤ 64 ⌝ }
-    ensures { λ r. ⌜ (Closed n (graph (now (es .entry))) (now (closed .entry)) → Serialized n (graph (now (es .entry))) allow r) ⌝ }
+    requires { ⌜ (1 ≤ n) × (n ≤ 64) × (length (now es) ≤ 2048) ⌝ }
+    ensures { λ r. ⌜ (Closed n (graph (now (es .entry))) (now (closed .entry)) → Gains (members (graph (now (es .entry)))) 65535 → judge-first n (graph (now (es .entry))) ≡ given tt → Serialized n (graph (now (es .entry))) allow r) ⌝ }
 {
     let reach = reach::reach(es, n);
     if waits::is_inconsistent(&reach, n) {
@@ -89,6 +102,9 @@ fn serialize(es: &[u64], closed: &[u64; 64], order: [u8; 64], n: usize, allow: b
     }
     let maps = waits_from(es, closed, &reach, n);
     let count = waits::count_waits(&maps, n);
+    if waits_clash(es, &maps, count, &order, n) {
+        return refused_analysis(Refusal::Unserializable);
+    }
     let verdict = waits_verdict(count, allow);
     Analysis {
         verdict: verdict,
@@ -102,7 +118,7 @@ fn serialize(es: &[u64], closed: &[u64; 64], order: [u8; 64], n: usize, allow: b
 // The analysis of the edges of a sheet of n steps.
 pub fn analyse(es: &[u64], n: usize, allow: bool) -> Analysis
     requires { ⌜ (1 ≤ n) × (n ≤ 64) × (length (now es) ≤ 2048) ⌝ }
-    ensures { λ r. ⌜ (Shape n (members (graph (now (es .entry)))) → Analysed n (graph (now (es .entry))) allow r) ⌝ }
+    ensures { λ r. ⌜ (Shape n (members (graph (now (es .entry)))) → Gains (members (graph (now (es .entry)))) 65535 → Analysed n (graph (now (es .entry))) allow r) ⌝ }
 {
     let closed = precedence::forward(es, n);
     let order = order::order(&closed, n);

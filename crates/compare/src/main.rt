@@ -269,7 +269,7 @@ fn put_sheet_in(bytes: &mut [u8], size: usize, out: &mut [u8], at: usize) -> usi
 }
 
 fn put_sheet(size: usize, out: &mut [u8], at: usize) -> usize {
-    let mut bytes = io::buffer();
+    let mut bytes = [0u8; 8192];
     put_sheet_in(&mut bytes, size, out, at)
 }
 
@@ -278,7 +278,7 @@ fn run(out: &mut [u8]) {
     let mut at = 0;
     let mut turns = u64::MAX;
     let mut size = read_number();
-    while 0 < turns && size < 4096 {
+    while 0 < turns && size <= 8192 {
         at = put_sheet(size, out, at);
         size = read_number();
         turns -= 1;

@@ -1,4 +1,4 @@
--- "From the input" from 8 on: what each call answers, with every refusal in its order.
+-- "From the input" from 8 on, with 28 of request L11: what each call answers, with every refusal in its order.
 use mathlib.Core.Bool.{Bool, true, cond, not, _&&_, _||_}
 use mathlib.Core.List.{List, _++_}
 use Prim.Native.Nat.{ℕ, _*_}
@@ -27,15 +27,20 @@ infeasible n es = not (stable es (rounds es n (source-row n 0)))
 unfoldable pub inconsistent : ℕ → List Edge → Bool
 inconsistent n es = any-below (λ a. after-reaches n (usable es a) a a) n
 
--- 8 to 12: verdict 0 is sound, 1 sound with waits.
+-- 28: the waits close a circle of forward links, or leave no start times with all open durations 0.
+unfoldable pub unserializable : ℕ → List Edge → Bool
+unserializable n es = closes-circle n (serialized n es) || infeasible n (serialized n es)
+
+-- 8 to 11, 28, 12: verdict 0 is sound, 1 sound with waits.
 unfoldable pub judge-edges : ℕ → List Edge → Bool → Outcome ℕ
 judge-edges n es allow =
     refuse-if (closes-circle n es) 8
     (refuse-if (unreached n es) 9
     (refuse-if (infeasible n es) 10
     (refuse-if (inconsistent n es) 11
+    (refuse-if (unserializable n es) 28
     (refuse-if (needs-waits n es && not allow) 12
-    (given (cond (needs-waits n es) 1 0))))))
+    (given (cond (needs-waits n es) 1 0)))))))
 
 -- A sheet's step count and edges, as sent and with its waits in.
 abbrev pub count-of : Records → ℕ
@@ -87,7 +92,7 @@ pub record Written : Type 0 where
 unfoldable pub too-short : List ℕ → ℕ → Bool
 too-short lent size = ltb (length lent) size
 
--- Planning: 1 to 12, then 14.
+-- Planning: the refusals of judging, then 14.
 unfoldable pub plan-verdict : Records → Bool → List ℕ → Outcome ℕ
 plan-verdict q allow table = when-given (judge-records q allow) (λ v. refuse-if (too-short table (count-of q * count-of q)) 14 (given v))
 
@@ -98,7 +103,7 @@ plan-read (refused k) allow table = record { verdict = refused k; numbers = tabl
 unfoldable pub planned : List ℕ → Bool → List ℕ → Written
 planned s allow table = plan-read (read s) allow table
 
--- Working out starts: 1 to 12, then 13, then 14. Our starts are these N numbers.
+-- Working out starts: the refusals of judging, then 13, then 14. Our starts are these N numbers.
 unfoldable pub starts-verdict : Records → Bool → List ℕ → List ℕ → Outcome ℕ
 starts-verdict q allow list out =
     when-given (judge-records q allow)

@@ -1,4 +1,4 @@
--- "A sheet in bytes", and the refusals 1 to 7 of "From the input".
+-- "A sheet in bytes", and the refusals 1 to 7 of "From the input", with 26 of request L11.
 use mathlib.Core.Bool.{Bool, true, false, not, _&&_, _||_}
 use mathlib.Core.List.{List, [], _∷_, _++_}
 use Prim.Native.Nat.{ℕ, zero, suc, _+_, _-_, _*_}
@@ -71,9 +71,13 @@ operation first = do
   ticks ← ticks-if (test-bit m 1)
   give (record { delay = delay-from (test-bit m 0) ticks })
 
--- A link record: a bit map, i and j, then the fields whose bit stands. Bit 0: after; bit 1: at least; bit 2: at most. An empty map is not allowed, nor is an unknown bit.
+-- A link record: a bit map, i and j, then the fields whose bit stands. Bit 0: after; bit 1: at least; bit 2: at most; bit 4: at most, from the finish. An empty map is not allowed, nor is an unknown bit: 3, and 5 to 7.
 unfoldable pub link-map : ℕ → Bool
-link-map m = leb 1 m && leb m 7
+link-map m = leb 1 m && leb m 7 || leb 16 m && leb m 23
+
+-- 26: bit 4 without bit 0.
+unfoldable pub sequenced : ℕ → Bool
+sequenced m = test-bit m 0 || not (test-bit m 4)
 
 unfoldable pub endpoints : ℕ → ℕ → ℕ → Bool
 endpoints n i j = ltb i n && ltb j n && not (eqb i j)
@@ -87,18 +91,20 @@ unfoldable pub bound-from : Bool → ℕ → Bound
 bound-from true ticks = Ticks ticks
 bound-from false ticks = Absent
 
--- The map is judged first, then 5, then 6, then the fields.
+-- The map is judged first, 4 and then 26; then 5, then 6, then the fields.
 unfoldable pub link : ℕ → Previous → Parser Link
 link n previous = do
   m ← byte
   demand (link-map m) 4
+  demand (sequenced m) 26
   i ← byte
   j ← byte
   demand (endpoints n i j) 5
   demand (rises previous i j) 6
   least ← ticks-if (test-bit m 1)
   most ← ticks-if (test-bit m 2)
-  give (record { from = i; to = j; sequencing = test-bit m 0; minimum = bound-from (test-bit m 1) least; maximum = bound-from (test-bit m 2) most })
+  latest ← ticks-if (test-bit m 4)
+  give (record { from = i; to = j; sequencing = test-bit m 0; minimum = bound-from (test-bit m 1) least; maximum = bound-from (test-bit m 2) most; latest = bound-from (test-bit m 4) latest })
 
 -- k records in a row, each read in the state that the one before it leaves.
 unfoldable pub records : {A S : Type 0} → (S → Parser A) → (A → S) → ℕ → S → Parser (List A)
@@ -147,7 +153,7 @@ abbrev pub blank-operation : Operation
 blank-operation = record { delay = Fixed 0 }
 
 abbrev pub blank-link : Link
-blank-link = record { from = 0; to = 0; sequencing = false; minimum = Absent; maximum = Absent }
+blank-link = record { from = 0; to = 0; sequencing = false; minimum = Absent; maximum = Absent; latest = Absent }
 
 unfoldable pub padded : {A : Type 0} → ℕ → A → List A → List A
 padded size x xs = xs ++ replicate (size - length xs) x

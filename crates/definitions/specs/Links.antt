@@ -1,6 +1,6 @@
 -- "What links mean": links, the start times that keep them, the edges that they are, and walks.
 use mathlib.Core.Path.{_≡_}
-use mathlib.Core.Bool.{Bool, true, false, cond, not}
+use mathlib.Core.Bool.{Bool, true, false, cond, not, _&&_}
 use mathlib.Core.Logic.{_≢_}
 use mathlib.Core.List.{List, [], _∷_, _++_, List·Memᴰ, map, flatMap}
 use Prim.Native.Nat.{ℕ, zero, suc, _+_, _≤_}
@@ -14,13 +14,14 @@ use Rattle.definitions.specs.declared.Bound.{Bound}
 use Rattle.definitions.specs.declared.Bound.the-variants.{Absent, Ticks}
 use Rattle.definitions.specs.declared.Link.{Link}
 
--- A link: after, at least m, at most u, on a pair (i, j).
+-- A link on a pair (i, j): after, at least m, at most u, and at most u from the finish (request L11).
 pub data Constraint : Type 0 where
   sequencing : ℕ → ℕ → Constraint
   minimum : ℕ → ℕ → ℕ → Constraint
   maximum : ℕ → ℕ → ℕ → Constraint
+  finish-maximum : ℕ → ℕ → ℕ → Constraint
 
--- A link record holds up to three links on its pair; a sheet holds those of its records. A list of any length stands for a sheet past the limits, as the rival's may be.
+-- A link record holds up to four links on its pair; a sheet holds those of its records. A list of any length stands for a sheet past the limits, as the rival's may be.
 unfoldable pub sequencing-of : ℕ → ℕ → Bool → List Constraint
 sequencing-of i j true = sequencing i j ∷ []
 sequencing-of i j false = []
@@ -33,8 +34,12 @@ unfoldable pub maximum-of : ℕ → ℕ → Bound → List Constraint
 maximum-of i j (Ticks u) = maximum i j u ∷ []
 maximum-of i j Absent = []
 
+unfoldable pub finish-maximum-of : ℕ → ℕ → Bound → List Constraint
+finish-maximum-of i j (Ticks u) = finish-maximum i j u ∷ []
+finish-maximum-of i j Absent = []
+
 unfoldable pub link-constraints : Link → List Constraint
-link-constraints l = sequencing-of (l .from) (l .to) (l .sequencing) ++ minimum-of (l .from) (l .to) (l .minimum) ++ maximum-of (l .from) (l .to) (l .maximum)
+link-constraints l = sequencing-of (l .from) (l .to) (l .sequencing) ++ minimum-of (l .from) (l .to) (l .minimum) ++ maximum-of (l .from) (l .to) (l .maximum) ++ finish-maximum-of (l .from) (l .to) (l .latest)
 
 unfoldable pub constraints : List Link → List Constraint
 constraints ls = flatMap link-constraints ls
@@ -51,19 +56,20 @@ duration-with d (suc i) Open = d (suc i)
 unfoldable pub duration : List Operation → (ℕ → ℕ) → ℕ → ℕ
 duration os d i = duration-with d i (delay-at os i)
 
--- Start times keep a link: the three lines of document 01. Times have no largest one either.
+-- Start times keep a link: the three lines of document 01, and start(j) at most the end of i plus u. Times have no largest one either.
 abbrev pub Keeps : List Operation → (ℕ → ℕ) → (ℕ → ℕ) → Constraint → Type 0
 Keeps os d t (sequencing i j) = t i + duration os d i ≤ t j
 Keeps os d t (minimum i j m) = t i + m ≤ t j
 Keeps os d t (maximum i j u) = t j ≤ t i + u
+Keeps os d t (finish-maximum i j u) = t j ≤ t i + duration os d i + u
 
 -- Start times that keep every link. Time counts from the end of step 0.
 pub record KeepsAll (os : List Operation) (cs : List Constraint) (d t : ℕ → ℕ) : Type 0 where
   pub starts : t 0 ≡ 0
   pub keeps : (c : Constraint) → List·Memᴰ c cs → Keeps os d t c
 
--- An edge of the constraint graph. It asks that start times t under delays d have t from + gain ≤ t to + loss, with the delay of `from` on the left where the edge is counted.
--- `back` marks a return.
+-- An edge of the constraint graph. It asks that start times t under delays d have t from + gain ≤ t to + loss, with the delay of `from` on the left where the edge is counted, and the delay of
+-- `to` on the right where it is late. `back` marks a return.
 pub record Edge : Type 0 where
   pub from : ℕ
   pub to : ℕ
@@ -71,16 +77,23 @@ pub record Edge : Type 0 where
   pub loss : ℕ
   pub counted : Bool
   pub back : Bool
+  pub late : Bool
 
--- After and at-least links are forward edges from i to j; an at-most link is a return from j to i that weighs −u. An after link is counted where i is open and not step 0.
+-- After and at-least links are forward edges from i to j; an at-most link is a return from j to i that weighs −u. An after link is counted where i is open and not step 0. There a return from the
+-- finish is late; where i is fixed it is one of its duration plus u, and step 0 ends at tick 0.
 unfoldable pub sequencing-edge : Delay → ℕ → ℕ → Edge
-sequencing-edge (Fixed ticks) i j = record { from = i; to = j; gain = ticks; loss = 0; counted = false; back = false }
-sequencing-edge Open i j = record { from = i; to = j; gain = 0; loss = 0; counted = not (eqb i 0); back = false }
+sequencing-edge (Fixed ticks) i j = record { from = i; to = j; gain = ticks; loss = 0; counted = false; back = false; late = false }
+sequencing-edge Open i j = record { from = i; to = j; gain = 0; loss = 0; counted = not (eqb i 0); back = false; late = false }
+
+unfoldable pub finish-edge : Delay → ℕ → ℕ → ℕ → Edge
+finish-edge (Fixed ticks) i j u = record { from = j; to = i; gain = 0; loss = ticks + u; counted = false; back = true; late = false }
+finish-edge Open i j u = record { from = j; to = i; gain = 0; loss = u; counted = false; back = true; late = not (eqb i 0) }
 
 unfoldable pub edge-of : List Operation → Constraint → Edge
 edge-of os (sequencing i j) = sequencing-edge (delay-at os i) i j
-edge-of os (minimum i j m) = record { from = i; to = j; gain = m; loss = 0; counted = false; back = false }
-edge-of os (maximum i j u) = record { from = j; to = i; gain = 0; loss = u; counted = false; back = true }
+edge-of os (minimum i j m) = record { from = i; to = j; gain = m; loss = 0; counted = false; back = false; late = false }
+edge-of os (maximum i j u) = record { from = j; to = i; gain = 0; loss = u; counted = false; back = true; late = false }
+edge-of os (finish-maximum i j u) = finish-edge (delay-at os i) i j u
 
 -- The one definition that turns a sheet into its edges.
 unfoldable pub edges : List Operation → List Constraint → List Edge
@@ -135,6 +148,16 @@ pub record After (E : Graph) (a y : ℕ) : Type 0 where
   pub q : ℕ
   pub walk : AfterWalk E a y p q
 
--- The edges that a walk counted from the end of a may take. All of them: request L11 leaves some out, for each anchor its own.
+-- A late return into a. A walk that counts from the end of a, for a wait or an offset, never takes it; every other edge it may use.
+abbrev pub LateInto : Edge → ℕ → Type 0
+LateInto e a = (e .late ≡ true) × (e .to ≡ a)
+
+abbrev pub UsableFrom : Graph → ℕ → Graph
+UsableFrom E a e = E e × ¬ LateInto e a
+
+unfoldable pub late-into : ℕ → Edge → Bool
+late-into a e = e .late && eqb (e .to) a
+
 unfoldable pub usable : List Edge → ℕ → List Edge
-usable es a = es
+usable [] a = []
+usable (e ∷ es) a = cond (late-into a e) [] (e ∷ []) ++ usable es a

@@ -13,7 +13,7 @@ use Rattle.definitions.specs.declared.Delay.{Delay}
 use Rattle.definitions.specs.declared.Delay.the-variants.{Open, Fixed}
 use Rattle.definitions.specs.declared.Operation.{Operation}
 
--- The walks that an offset for a is the heaviest of: those that begin with an after link out of a; for a = 0 all walks from 0, the empty one among them.
+-- The walks that an offset for a is the heaviest of: those that begin with an after link out of a; for a = 0 all walks from 0, the empty one among them. They are taken in `UsableFrom E a`.
 pub data Span (E : Graph) (a y p q : ℕ) : Type 0 where
   source : {k : ℕ} → a ≡ 0 → Walk E a y k p q → Span E a y p q
   after : AfterWalk E a y p q → Span E a y p q

@@ -55,7 +55,7 @@ after-row n es a = seeds a es (replicate n 0)
 
 -- Whether a walk goes from x to v: rounds over the edges with their weights taken away.
 abbrev pub bare : Edge → Edge
-bare e = record { from = e .from; to = e .to; gain = 0; loss = 0; counted = e .counted; back = e .back }
+bare e = record { from = e .from; to = e .to; gain = 0; loss = 0; counted = e .counted; back = e .back; late = e .late }
 
 unfoldable pub bares : List Edge → List Edge
 bares [] = []

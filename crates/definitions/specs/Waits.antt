@@ -6,21 +6,22 @@ use Prim.Native.Nat.{ℕ}
 use lib.Dec.{eqb, ltb}
 use lib.ListN.{length}
 use Rattle.definitions.specs.Basics.{any, tabulate, select-below, bits-below}
-use Rattle.definitions.specs.Links.{Edge, Graph, After, usable}
+use Rattle.definitions.specs.Links.{Edge, Graph, After, UsableFrom, usable}
 use Rattle.definitions.specs.Rounds.{after-reaches}
 use Rattle.definitions.specs.Anchors.{InAnchorSet, in-anchor-set}
 
--- i waits for a: some at-most link stands on (i, j), a walk that begins with an after link out of open a ≠ 0 reaches j, and a is not in the start set of i on the sheet as sent.
+-- i waits for a: some at-most link stands on (i, j), a walk that begins with an after link out of open a ≠ 0 reaches j, and a is not in the start set of i on the sheet as sent. The link may count
+-- from the finish of i: it then calls for no wait of i for itself.
 pub record Wait (E : Graph) (a i : ℕ) : Type 0 where
   pub edge : Edge
-  pub mem : E edge
+  pub mem : UsableFrom E a edge
   pub returns : edge .back ≡ true
   pub enters : edge .to ≡ i
-  pub reaches : After E a (edge .from)
+  pub reaches : After (UsableFrom E a) a (edge .from)
   pub absent : ¬ InAnchorSet E a i
 
 unfoldable pub waits-for : ℕ → List Edge → ℕ → ℕ → Bool
-waits-for n es a i = any (λ e. e .back && eqb (e .to) i && after-reaches n (usable es a) a (e .from)) es && not (in-anchor-set n es a i)
+waits-for n es a i = any (λ e. e .back && eqb (e .to) i && after-reaches n (usable es a) a (e .from)) (usable es a) && not (in-anchor-set n es a i)
 
 -- Listed by a, then by i.
 pub record WaitPair : Type 0 where
@@ -48,7 +49,7 @@ needs-waits n es = ltb 0 (wait-count n es)
 
 -- A wait is an added after link from a to i.
 abbrev pub wait-edge : WaitPair → Edge
-wait-edge w = record { from = w .anchor; to = w .target; gain = 0; loss = 0; counted = true; back = false }
+wait-edge w = record { from = w .anchor; to = w .target; gain = 0; loss = 0; counted = true; back = false; late = false }
 
 -- The sheet with its waits in. Start sets and walks are then taken on it.
 unfoldable pub serialized : ℕ → List Edge → List Edge

@@ -1,4 +1,4 @@
--- "Marked and unmarked sheets": the sheets marked ★ in document 01, and sheets of ours for readings that those do not tell apart. One table, proved against the definitions in one go.
+-- "Marked and unmarked sheets": the sheets marked ★ in document 01, and sheets of ours for readings that those do not tell apart and for request L11. One table, proved against the definitions in one go.
 use mathlib.Core.Path.{_≡_, refl}
 use mathlib.Core.Bool.{Bool, true, false}
 use mathlib.Core.Logic.{_⊎_, inl, inr}
@@ -6,20 +6,20 @@ use mathlib.Core.List.{List, [], _∷_, map, flatMap, List·Memᴰ, List·Memᴰ
 use Prim.Native.Nat.{ℕ}
 use lib.ListN.{replicate}
 use Rattle.definitions.specs.Basics.{any, all, any-below, all-below, tabulate, select-below, largest, test-bit, bits-below, Outcome, given, refused, refuse-if, when-given}
-use Rattle.definitions.specs.Bytes.{demand, byte, two-bytes, ticks-if, operation-map, delay-from, operation, link-map, endpoints, rises, bound-from, link, records, operations, pair-of, links, at-end, sheet, read}
-use Rattle.definitions.specs.Links.{sequencing-of, minimum-of, maximum-of, link-constraints, constraints, delay-at, sequencing-edge, edge-of, edges, forwards, usable}
+use Rattle.definitions.specs.Bytes.{demand, byte, two-bytes, ticks-if, operation-map, delay-from, operation, link-map, sequenced, endpoints, rises, bound-from, link, records, operations, pair-of, links, at-end, sheet, read}
+use Rattle.definitions.specs.Links.{sequencing-of, minimum-of, maximum-of, finish-maximum-of, link-constraints, constraints, delay-at, sequencing-edge, finish-edge, edge-of, edges, forwards, late-into, usable}
 use Rattle.definitions.specs.Rounds.{extend, raise, round, rounds, stable, source-row, seed, seeds, after-row, bares, reaches, after-reaches}
 use Rattle.definitions.specs.Anchors.{in-anchor-set}
 use Rattle.definitions.specs.Waits.{WaitPair, waits-for, waits-of, wait-list, wait-count, needs-waits, serialized}
 use Rattle.definitions.specs.Plan.{first-row, offset-row, offset, start-from, start-turns, start-times, overrides, decides, plan-entry, plan-row, plan-rows, plan-table, delay-limit, delay-wrong, delays-wrong}
-use Rattle.definitions.specs.Answers.{closes-circle, unreached, infeasible, inconsistent, judge-edges, edges-of, serialized-of, judge-records, Written, written, too-short, starts-verdict, starts-read, starts-answer, plan-verdict, plan-read, planned, bad-count}
+use Rattle.definitions.specs.Answers.{closes-circle, unreached, infeasible, inconsistent, unserializable, judge-edges, edges-of, serialized-of, judge-records, Written, written, too-short, starts-verdict, starts-read, starts-answer, plan-verdict, plan-read, planned, bad-count}
 use Rattle.definitions.specs.Dispatcher.{entry, names, due, ready, starting, start-ticks, Progress, sweep, begun, not-running, fresh, with-source, begin, ticked, tick, cannot-finish, ended, finish, state-after, Call, beginning, ticking, finishing, called}
 use Rattle.definitions.specs.declared.State.{State}
 use Rattle.definitions.specs.Output.{StartLine, Listing, lines-of, start-lines, list-records, listed, digits, decimal, field, wait-text, start-text, listing-text, standplan}
 
 -- To unfold this is to unfold every executable definition, so that a sheet is worked out by computing.
 unfoldable pub every-definition : Unit {0}
-unfolding any all any-below all-below tabulate select-below largest test-bit bits-below refuse-if when-given demand byte two-bytes ticks-if operation-map delay-from operation link-map endpoints rises bound-from link records operations pair-of links at-end sheet read sequencing-of minimum-of maximum-of link-constraints constraints delay-at sequencing-edge edge-of edges forwards usable extend raise round rounds stable source-row seed seeds after-row bares reaches after-reaches in-anchor-set waits-for waits-of wait-list wait-count needs-waits serialized first-row offset-row offset start-from start-turns start-times overrides decides delay-limit delay-wrong delays-wrong closes-circle unreached infeasible inconsistent judge-edges edges-of serialized-of judge-records written too-short starts-verdict starts-read starts-answer lines-of start-lines list-records listed flatMap digits decimal field wait-text start-text listing-text standplan plan-entry plan-row plan-rows plan-table plan-verdict plan-read planned entry names due ready starting start-ticks sweep begun not-running fresh with-source begin ticked tick cannot-finish ended finish state-after bad-count
+unfolding any all any-below all-below tabulate select-below largest test-bit bits-below refuse-if when-given demand byte two-bytes ticks-if operation-map delay-from operation link-map sequenced endpoints rises bound-from link records operations pair-of links at-end sheet read sequencing-of minimum-of maximum-of finish-maximum-of link-constraints constraints delay-at sequencing-edge finish-edge edge-of edges forwards late-into usable extend raise round rounds stable source-row seed seeds after-row bares reaches after-reaches in-anchor-set waits-for waits-of wait-list wait-count needs-waits serialized first-row offset-row offset start-from start-turns start-times overrides decides delay-limit delay-wrong delays-wrong closes-circle unreached infeasible inconsistent unserializable judge-edges edges-of serialized-of judge-records written too-short starts-verdict starts-read starts-answer lines-of start-lines list-records listed flatMap digits decimal field wait-text start-text listing-text standplan plan-entry plan-row plan-rows plan-table plan-verdict plan-read planned entry names due ready starting start-ticks sweep begun not-running fresh with-source begin ticked tick cannot-finish ended finish state-after bad-count
 every-definition = tt
 
 -- What is asked of a sheet: its listing, waits allowed or not, or its starts for a list of durations.
@@ -95,7 +95,39 @@ circle = 0x03 ∷ 0x03 ∷ 0x00 ∷ 0x01 ∷ 0x00 ∷ 0x00 ∷ 0x01 ∷ 0x00 ∷
 abbrev pub two-returns : List ℕ
 two-returns = 0x05 ∷ 0x06 ∷ 0x00 ∷ 0x01 ∷ 0x01 ∷ 0x00 ∷ 0x00 ∷ 0x00 ∷ 0x01 ∷ 0x00 ∷ 0x01 ∷ 0x01 ∷ 0x00 ∷ 0x03 ∷ 0x01 ∷ 0x00 ∷ 0x04 ∷ 0x01 ∷ 0x01 ∷ 0x02 ∷ 0x04 ∷ 0x03 ∷ 0x02 ∷ 0x05 ∷ 0x00 ∷ 0x04 ∷ 0x04 ∷ 0x03 ∷ 0x05 ∷ 0x00 ∷ []
 
--- The marked sheets, in document 01's order; then ours: a chain of returns, and the first fault met in sheets that have more than one, or that are cut.
+-- Request L11. Exposure at most five ticks after the hand: open 1 after 0; 2 of 3 ticks after 1, at most 5 from the finish of 1. The hand does not wait for itself.
+abbrev pub exposure : List ℕ
+exposure = 0x03 ∷ 0x02 ∷ 0x00 ∷ 0x01 ∷ 0x01 ∷ 0x02 ∷ 0x03 ∷ 0x00 ∷ 0x01 ∷ 0x00 ∷ 0x01 ∷ 0x11 ∷ 0x01 ∷ 0x02 ∷ 0x05 ∷ 0x00 ∷ []
+
+-- 1 and 2 open, each after 0; 3 after both, at most 4 from the finish of 1: so 1 waits for 2. A rival that knows the durations would start 1 earlier.
+abbrev pub hand-over : List ℕ
+hand-over = 0x04 ∷ 0x04 ∷ 0x00 ∷ 0x01 ∷ 0x01 ∷ 0x01 ∷ 0x00 ∷ 0x01 ∷ 0x00 ∷ 0x01 ∷ 0x01 ∷ 0x00 ∷ 0x02 ∷ 0x11 ∷ 0x01 ∷ 0x03 ∷ 0x04 ∷ 0x00 ∷ 0x01 ∷ 0x02 ∷ 0x03 ∷ []
+
+-- The same, and at most 4 from the finish of 2: each waits for the other.
+abbrev pub both-finish : List ℕ
+both-finish = 0x04 ∷ 0x04 ∷ 0x00 ∷ 0x01 ∷ 0x01 ∷ 0x01 ∷ 0x00 ∷ 0x01 ∷ 0x00 ∷ 0x01 ∷ 0x01 ∷ 0x00 ∷ 0x02 ∷ 0x11 ∷ 0x01 ∷ 0x03 ∷ 0x04 ∷ 0x00 ∷ 0x11 ∷ 0x02 ∷ 0x03 ∷ 0x04 ∷ 0x00 ∷ []
+
+-- Open 1 after 0, 2 after 0; 3 after 1, at most 5 from the finish of 1, and at least 10 on (2, 3); 4 after 1, at most 7 on (2, 4). So 2 waits for 1, and 3 comes too late: no circle.
+abbrev pub too-late : List ℕ
+too-late = 0x05 ∷ 0x06 ∷ 0x00 ∷ 0x01 ∷ 0x01 ∷ 0x00 ∷ 0x00 ∷ 0x00 ∷ 0x01 ∷ 0x00 ∷ 0x01 ∷ 0x01 ∷ 0x00 ∷ 0x02 ∷ 0x11 ∷ 0x01 ∷ 0x03 ∷ 0x05 ∷ 0x00 ∷ 0x01 ∷ 0x01 ∷ 0x04 ∷ 0x02 ∷ 0x02 ∷ 0x03 ∷ 0x0a ∷ 0x00 ∷ 0x04 ∷ 0x02 ∷ 0x04 ∷ 0x07 ∷ 0x00 ∷ []
+
+-- Open 1 after 0; at least 10 on (0, 2); 2 after 1, at most 4 from the finish of 1. The hand may take no time, so it is held back until 6; no waits. A rival that knows the durations would start it earlier.
+abbrev pub held-back : List ℕ
+held-back = 0x03 ∷ 0x03 ∷ 0x00 ∷ 0x01 ∷ 0x01 ∷ 0x00 ∷ 0x01 ∷ 0x00 ∷ 0x01 ∷ 0x02 ∷ 0x00 ∷ 0x02 ∷ 0x0a ∷ 0x00 ∷ 0x11 ∷ 0x01 ∷ 0x02 ∷ 0x04 ∷ 0x00 ∷ []
+
+-- Open 1 after 0; open 2 and 4 of 10 ticks after 1; 3 after 2 and after 4, at most 3 from the finish of 2. From the end of 1 the walk over 4 and 3 comes back to 2 by the late return.
+abbrev pub second-hand : List ℕ
+second-hand = 0x05 ∷ 0x05 ∷ 0x00 ∷ 0x01 ∷ 0x01 ∷ 0x01 ∷ 0x00 ∷ 0x02 ∷ 0x0a ∷ 0x00 ∷ 0x01 ∷ 0x00 ∷ 0x01 ∷ 0x01 ∷ 0x01 ∷ 0x02 ∷ 0x01 ∷ 0x01 ∷ 0x04 ∷ 0x11 ∷ 0x02 ∷ 0x03 ∷ 0x03 ∷ 0x00 ∷ 0x01 ∷ 0x04 ∷ 0x03 ∷ []
+
+-- 1 of 3 ticks after 0; 2 after 1, at least m on (1, 2), at most 2 from the finish of 1: m may be 5 and no more.
+abbrev pub fixed-finish : ℕ → List ℕ
+fixed-finish m = 0x03 ∷ 0x02 ∷ 0x00 ∷ 0x01 ∷ 0x02 ∷ 0x03 ∷ 0x00 ∷ 0x00 ∷ 0x01 ∷ 0x00 ∷ 0x01 ∷ 0x13 ∷ 0x01 ∷ 0x02 ∷ m ∷ 0x00 ∷ 0x02 ∷ 0x00 ∷ []
+
+-- 1 after 0, at least m on (0, 1), at most 5 from the finish of 0, which is tick 0.
+abbrev pub source-finish : ℕ → List ℕ
+source-finish m = 0x02 ∷ 0x01 ∷ 0x00 ∷ 0x01 ∷ 0x00 ∷ 0x13 ∷ 0x00 ∷ 0x01 ∷ m ∷ 0x00 ∷ 0x05 ∷ 0x00 ∷ []
+
+-- The marked sheets, in document 01's order; then ours: a chain of returns, and the first fault met in sheets that have more than one, or that are cut; then those of request L11.
 unfoldable pub worked-sheets : List Worked
 worked-sheets =
     record { bytes = smallest; question = listing true; expected = accepted 0 [] (line 0 0 0 ∷ []) } ∷
@@ -129,6 +161,27 @@ worked-sheets =
     faulty (0x01 ∷ 0x00 ∷ 0x00 ∷ 0x01 ∷ 0x00 ∷ []) 7 ∷
     faulty (0x02 ∷ 0x01 ∷ 0x00 ∷ 0x01 ∷ 0x00 ∷ 0x01 ∷ 0x01 ∷ 0x00 ∷ []) 9 ∷
     faulty (0x03 ∷ 0x02 ∷ 0x00 ∷ 0x01 ∷ 0x00 ∷ 0x00 ∷ 0x02 ∷ 0x01 ∷ 0x02 ∷ 0x00 ∷ 0x00 ∷ 0x02 ∷ 0x02 ∷ 0x01 ∷ 0x00 ∷ 0x00 ∷ []) 8 ∷
+    record { bytes = exposure; question = listing false; expected = accepted 0 [] (line 0 0 0 ∷ line 1 0 0 ∷ line 2 1 0 ∷ []) } ∷
+    record { bytes = exposure; question = times-for (0 ∷ 9 ∷ 0 ∷ []); expected = started (0 ∷ 0 ∷ 9 ∷ []) } ∷
+    record { bytes = hand-over; question = listing true; expected = accepted 1 (wait 2 1 ∷ []) (line 0 0 0 ∷ line 1 2 0 ∷ line 2 0 0 ∷ line 3 1 0 ∷ []) } ∷
+    record { bytes = hand-over; question = listing false; expected = refuses 12 } ∷
+    record { bytes = both-finish; question = listing true; expected = refuses 28 } ∷
+    record { bytes = both-finish; question = listing false; expected = refuses 28 } ∷
+    record { bytes = too-late; question = listing true; expected = refuses 28 } ∷
+    record { bytes = too-late; question = listing false; expected = refuses 28 } ∷
+    record { bytes = fixed-finish 5; question = listing false; expected = accepted 0 [] (line 0 0 0 ∷ line 1 0 0 ∷ line 2 0 5 ∷ []) } ∷
+    record { bytes = fixed-finish 6; question = listing true; expected = refuses 10 } ∷
+    record { bytes = source-finish 5; question = listing false; expected = accepted 0 [] (line 0 0 0 ∷ line 1 0 5 ∷ []) } ∷
+    record { bytes = source-finish 6; question = listing true; expected = refuses 10 } ∷
+    record { bytes = held-back; question = listing false; expected = accepted 0 [] (line 0 0 0 ∷ line 1 0 6 ∷ line 2 0 10 ∷ line 2 1 0 ∷ []) } ∷
+    record { bytes = held-back; question = times-for (0 ∷ 9 ∷ 0 ∷ []); expected = started (0 ∷ 6 ∷ 15 ∷ []) } ∷
+    record { bytes = second-hand; question = listing false; expected = accepted 0 [] (line 0 0 0 ∷ line 1 0 0 ∷ line 2 1 7 ∷ line 3 1 10 ∷ line 3 2 0 ∷ line 4 1 0 ∷ []) } ∷
+    record { bytes = second-hand; question = times-for (0 ∷ 5 ∷ 2 ∷ 0 ∷ 0 ∷ []); expected = started (0 ∷ 0 ∷ 12 ∷ 15 ∷ 5 ∷ []) } ∷
+    faulty (0x02 ∷ 0x01 ∷ 0x00 ∷ 0x01 ∷ 0x00 ∷ 0x10 ∷ []) 26 ∷
+    faulty (0x02 ∷ 0x01 ∷ 0x00 ∷ 0x01 ∷ 0x00 ∷ 0x16 ∷ 0x05 ∷ 0x05 ∷ []) 26 ∷
+    faulty (0x02 ∷ 0x01 ∷ 0x00 ∷ 0x01 ∷ 0x00 ∷ 0x30 ∷ []) 4 ∷
+    faulty (0x02 ∷ 0x01 ∷ 0x00 ∷ 0x01 ∷ 0x00 ∷ 0x18 ∷ []) 4 ∷
+    faulty (0x02 ∷ 0x01 ∷ 0x00 ∷ 0x01 ∷ 0x00 ∷ 0x15 ∷ 0x00 ∷ 0x01 ∷ 0x09 ∷ 0x00 ∷ 0x05 ∷ []) 1 ∷
     []
 
 -- The computed test: the definitions answer every sheet of the table as expected.

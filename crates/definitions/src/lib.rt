@@ -17,13 +17,14 @@ pub enum Bound {
     Ticks(u16),
 }
 
-// A link record for the pair (from, to): after, at least and at most.
+// A link record for the pair (from, to): after, at least, at most, and at most from the finish.
 pub struct Link {
     pub from: u8,
     pub to: u8,
     pub sequencing: bool,
     pub minimum: Bound,
     pub maximum: Bound,
+    pub latest: Bound,
 }
 
 // The pair of the link record before, which the next pair has to rise above.
@@ -40,7 +41,7 @@ pub struct Sheet {
     pub links: [Link; 512],
 }
 
-// The refusals 1 to 18, in their order.
+// The refusals 1 to 18, in their order; then those of later requests, 26 and 28.
 pub enum Refusal {
     Truncated,
     OperationCount,
@@ -60,6 +61,8 @@ pub enum Refusal {
     AlreadyBegun,
     CannotFinish,
     ClockEnd,
+    Unsequenced,
+    Unserializable,
 }
 
 // What judging a sheet answers.

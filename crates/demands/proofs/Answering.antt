@@ -12,7 +12,7 @@ use Rattle.definitions.specs.Bytes.{Records}
 use Rattle.definitions.specs.Rounds.{cell}
 use Rattle.definitions.specs.Plan.{start-times, plan-table, delays-wrong, delays}
 use Rattle.definitions.specs.Answers.{count-of, edges-of, serialized-of, judge-records, judged, Waits, no-waits, waits-when, waits-read, waits-answer, too-short, written, plan-verdict, plan-read, planned, starts-verdict, starts-read, starts-answer}
-use Rattle.laws.proofs.Bools.{or-split, or-left, or-right, both-ways}
+use Rattle.laws.proofs.Bools.{or-neither, or-split, or-left, or-right}
 use Rattle.definitions.specs.Waits.{wait-maps, wait-count}
 use Rattle.laws.proofs.Negations.{passes-unless}
 use Rattle.laws.proofs.Outcomes.{given-not-refused, refuse-own, refuse-other, refuse-given, refuse-never, when-given-by, when-given-has, when-given-refused}
@@ -41,23 +41,19 @@ written-refused : {o : Outcome ℕ} {k : ℕ} (new lent : List ℕ) → o ≡ re
 unfolding written
 written-refused new lent h = rw h
 
-neither : (a b : Bool) → ((a || b) ≡ false) ↔ ((a ≡ false) × (b ≡ false))
-neither true b = (λ h. absurd (both-ways refl h), λ h. h .0)
-neither false b = (λ h. (refl, h), λ h. h .1)
-
 module _ (s : List ℕ) (allow : Bool) (q : Records) (sheet : IsSheet s q) where
   as-judged : judged s allow ≡ judge-records q allow
   unfolding judged
   as-judged = when-given-by (λ q. judge-records q allow) (sheet .reads)
 
-  never-past : {k : ℕ} → 12 < k → judge-records q allow ≢ refused k
+  never-past : {k : ℕ} → 12 < k → 28 ≢ k → judge-records q allow ≢ refused k
   unfolding judge-records
   never-past = judge-never-past (count-of q) (edges-of q) allow
 
-  -- A call that goes on after acceptance, refused with a number past 12, or accepted.
-  past : (f : ℕ → Outcome ℕ) (k : ℕ) → 12 < k → (when-given (judge-records q allow) f ≡ refused k) ↔ ((v : ℕ) × (judged s allow ≡ given v) × (f v ≡ refused k))
-  past f k h =
-      let r = when-given-refused (judge-records q allow) f k (never-past h) in
+  -- A call that goes on after acceptance, refused with a number that judging does not give, or accepted.
+  past : (f : ℕ → Outcome ℕ) (k : ℕ) → 12 < k → 28 ≢ k → (when-given (judge-records q allow) f ≡ refused k) ↔ ((v : ℕ) × (judged s allow ≡ given v) × (f v ≡ refused k))
+  past f k h z =
+      let r = when-given-refused (judge-records q allow) f k (never-past h z) in
       (λ e. let a = r .0 e in (a .0, as-judged ∙ a .1, a .2), λ a. r .1 (a .0, sym as-judged ∙ a .1, a .2))
 
   answered : (f : ℕ → Outcome ℕ) (w : ℕ) → (when-given (judge-records q allow) f ≡ given w) ↔ ((v : ℕ) × (judged s allow ≡ given v) × (f v ≡ given w))
@@ -84,8 +80,8 @@ module _ (s : List ℕ) (allow : Bool) (q : Records) (sheet : IsSheet s q) where
     plan-call : PlanCall s allow q table
     plan-call = record {
       refused-14 = (
-        λ h. let a = past after-plan 14 (omega arith) .0 (sym plan-is ∙ h) in ((a .0, a .1), short-iff table (count-of q * count-of q) .0 (refuse-own short 14 (given (a .0)) (λ e. given-not-refused e) .0 (a .2))),
-        λ x. plan-is ∙ past after-plan 14 (omega arith) .1 (x .0 .0, x .0 .1, refuse-own short 14 (given (x .0 .0)) (λ e. given-not-refused e) .1 (short-iff table (count-of q * count-of q) .1 (x .1))),
+        λ h. let a = past after-plan 14 (omega arith) (λ e. omega arith) .0 (sym plan-is ∙ h) in ((a .0, a .1), short-iff table (count-of q * count-of q) .0 (refuse-own short 14 (given (a .0)) (λ e. given-not-refused e) .0 (a .2))),
+        λ x. plan-is ∙ past after-plan 14 (omega arith) (λ e. omega arith) .1 (x .0 .0, x .0 .1, refuse-own short 14 (given (x .0 .0)) (λ e. given-not-refused e) .1 (short-iff table (count-of q * count-of q) .1 (x .1))),
       );
       accepted = λ v. (
         λ h. let a = answered after-plan v .0 (sym plan-is ∙ h) in let b = refuse-given short 14 (given (a .0)) v .0 (a .2) in (a .1 ∙ b .1, long-iff table (count-of q * count-of q) .0 (b .0)),
@@ -124,7 +120,7 @@ module _ (s : List ℕ) (allow : Bool) (q : Records) (sheet : IsSheet s q) where
 
     enough-iff : (lacking ≡ false) ↔ ((count-of q ≤ length list) × (count-of q ≤ length out))
     enough-iff =
-        let r = neither (too-short list (count-of q)) (too-short out (count-of q)) in
+        let r = or-neither (too-short list (count-of q)) (too-short out (count-of q)) in
         (λ h. let a = r .0 h in (long-iff list (count-of q) .0 (a .0), long-iff out (count-of q) .0 (a .1)), λ x. r .1 (long-iff list (count-of q) .1 (x .0), long-iff out (count-of q) .1 (x .1)))
 
     starts-are : starts-answer s allow list out .verdict ≡ when-given (judge-records q allow) after-starts
@@ -153,12 +149,12 @@ module _ (s : List ℕ) (allow : Bool) (q : Records) (sheet : IsSheet s q) where
     starts-call : StartsCall s allow q list out
     starts-call = record {
       refused-13 = (
-        λ h. let a = past after-starts 13 (omega arith) .0 (sym starts-are ∙ h) in ((a .0, a .1), passes-unless wrong right-iff .0 (thirteen (a .0) .0 (a .2))),
-        λ x. starts-are ∙ past after-starts 13 (omega arith) .1 (x .0 .0, x .0 .1, thirteen (x .0 .0) .1 (passes-unless wrong right-iff .1 (x .1))),
+        λ h. let a = past after-starts 13 (omega arith) (λ e. omega arith) .0 (sym starts-are ∙ h) in ((a .0, a .1), passes-unless wrong right-iff .0 (thirteen (a .0) .0 (a .2))),
+        λ x. starts-are ∙ past after-starts 13 (omega arith) (λ e. omega arith) .1 (x .0 .0, x .0 .1, thirteen (x .0 .0) .1 (passes-unless wrong right-iff .1 (x .1))),
       );
       refused-14 = (
-        λ h. let a = past after-starts 14 (omega arith) .0 (sym starts-are ∙ h) in let b = fourteen (a .0) .0 (a .2) in ((a .0, a .1), right-iff .0 (b .0), lacking-iff .0 (b .1)),
-        λ x. starts-are ∙ past after-starts 14 (omega arith) .1 (x .0 .0, x .0 .1, fourteen (x .0 .0) .1 (right-iff .1 (x .1), lacking-iff .1 (x .2))),
+        λ h. let a = past after-starts 14 (omega arith) (λ e. omega arith) .0 (sym starts-are ∙ h) in let b = fourteen (a .0) .0 (a .2) in ((a .0, a .1), right-iff .0 (b .0), lacking-iff .0 (b .1)),
+        λ x. starts-are ∙ past after-starts 14 (omega arith) (λ e. omega arith) .1 (x .0 .0, x .0 .1, fourteen (x .0 .0) .1 (right-iff .1 (x .1), lacking-iff .1 (x .2))),
       );
       accepted = λ v. (
         λ h. let a = answered after-starts v .0 (sym starts-are ∙ h) in let b = worked-out (a .0) v .0 (a .2) in let e = enough-iff .0 (b .1) in (a .1 ∙ b .2, right-iff .0 (b .0), e .0, e .1),

@@ -1,6 +1,6 @@
 -- The theorems: one for each statement of specs/Demands.antt, in its order.
 use mathlib.Core.Path.{refl}
-use Rattle.demands.specs.Demands.{EdgesMeant, ListsMeant, ImpossibleExactly, ReadExactly, WellFormedExactly, JudgedExactly, EachCallRefuses, StartsReturned, CallsExactly, StartsKept, NobodyEarlier, NobodyEarlierWithWaits, OursAmongRivals, TestsMeant, WaitsListed, WaitsSound, OffsetsRight, StartRule, DecidingSets, PlanTable, LinesListed, FrontDecides, HypothesesMet}
+use Rattle.demands.specs.Demands.{EdgesMeant, ListsMeant, ImpossibleExactly, ReadExactly, WellFormedExactly, JudgedExactly, EachCallRefuses, StartsReturned, CallsExactly, StartsKept, NobodyEarlier, NobodyEarlierWithWaits, OursAmongRivals, NobodyEarlierWithoutForesight, OursWithoutForesight, Refused28Exactly, NothingNew, TestsMeant, WaitsListed, WaitsSound, OffsetsRight, StartRule, DecidingSets, PlanTable, LinesListed, FrontDecides, HypothesesMet}
 use Rattle.demands.proofs.Reading.{read-fits}
 use Rattle.demands.proofs.FirstBytes.{front-for}
 use Rattle.demands.proofs.Meaning.{meant-for}
@@ -11,13 +11,14 @@ use Rattle.demands.proofs.DelayLists.{limits-meant}
 use Rattle.demands.proofs.Refusals as Refusals
 use Rattle.demands.proofs.Answering.{calls-for, returned}
 use Rattle.demands.proofs.Verdicts.{judged-for}
+use Rattle.demands.proofs.Foresight.{earliest-of-strategies, nothing-new-for, ours-dynamic, rivals-28}
 use Rattle.demands.proofs.OurStarts.{kept-for, ours-among, earliest, earliest-of-rivals}
 use Rattle.demands.proofs.Planning.{waits-for-sheet, offset-for, start-rule-for, deciding-for, plan-for}
 use Rattle.demands.proofs.Examples.{examples}
 
 -- ## The words
 
--- By the kind of link: the edge is counted just where the duration is the delay.
+-- By the kind of link: the edge is counted, or late, just where the duration is the delay.
 pub edges-meant : EdgesMeant
 edges-meant = keeps-sheet
 
@@ -27,11 +28,12 @@ lists-meant s q sheet = limits-meant q (read-fits s q (sheet .bytes) (sheet .rea
 
 -- ## Demand 3
 
--- 10: the rounds from step 0 come to rest exactly if there is a schedule with delays 0. 11: a walk from the end of an open step to that step loses less than the longest duration of a list. Else our starts keep every link.
+-- 10: the rounds from step 0 come to rest exactly if there is a schedule with delays 0. 11: a walk from the end of an open step to that step loses less than the longest duration of a list. Else the delays are raised one
+-- at a time, and what the end of that step reaches moves with it.
 pub impossible-exactly : ImpossibleExactly
 impossible-exactly = impossible-for
 
--- Reading refuses with at most 7, judging with 8 and more.
+-- Reading refuses with at most 7 or with 26, judging with 8 to 12 or with 28.
 pub read-exactly : ReadExactly
 read-exactly = Refusals.read-exactly
 
@@ -55,13 +57,13 @@ starts-returned = returned
 pub calls-exactly : CallsExactly
 calls-exactly = calls-for
 
--- Offsets along an edge differ by at least its weight, and a sound graph carries each anchor along it.
+-- Offsets along an edge differ by at least its weight, and a sound graph carries each anchor along it, but for a late return into the anchor itself: it closes a walk, which is not above 0.
 pub starts-kept : StartsKept
 starts-kept s allow q v accepted = kept-for accepted
 
--- A walk that has the offset bounds any schedule from below; by induction along anchors.
+-- Where no return is late, a walk that has the offset bounds any schedule from below; by induction along anchors.
 pub nobody-earlier : NobodyEarlier
-nobody-earlier s allow q accepted = earliest accepted refl
+nobody-earlier s allow q accepted none = earliest accepted none refl
 
 -- A sound sheet with these links has a forward chain wherever a wait stands, so it keeps the waits; then as before.
 pub nobody-earlier-with-waits : NobodyEarlierWithWaits
@@ -70,6 +72,24 @@ nobody-earlier-with-waits s allow q v accepted = earliest-of-rivals accepted
 -- The edge of a wait is that of an after link out of an open step.
 pub ours-among-rivals : OursAmongRivals
 ours-among-rivals s allow q v accepted = ours-among accepted
+
+-- ## Request L11
+
+-- Along the walk of an offset, for all lists at once: over a late return take its step to last nothing, which the rival cannot tell until that step has ended.
+pub nobody-earlier-without-foresight : NobodyEarlierWithoutForesight
+nobody-earlier-without-foresight s allow q v accepted = earliest-of-strategies accepted
+
+-- A start turns on the delays of its anchors alone, and these have ended by then.
+pub ours-without-foresight : OursWithoutForesight
+ours-without-foresight s allow q v accepted = ours-dynamic accepted
+
+-- A rival cannot know that a step will not take long, so it keeps the waits: they close no circle, and leave start times.
+pub refused-28-exactly : Refused28Exactly
+refused-28-exactly = rivals-28
+
+-- No edge is late then. A wait stands for a walk, so that a circle through one would be an open step that waits for its own end.
+pub nothing-new : NothingNew
+nothing-new = nothing-new-for
 
 -- ## Demand 2
 
@@ -81,7 +101,7 @@ tests-meant s q sheet = meant-for (read-fits s q (sheet .bytes) (sheet .reads))
 pub waits-listed : WaitsListed
 waits-listed s q sheet = listed-for (read-fits s q (sheet .bytes) (sheet .reads))
 
--- A wait stands for a walk, so that a circle through one would be an open step that waits for its own end.
+-- The waits carry each anchor over the returns that it may use; that they close no circle and leave start times is what 28 tests.
 pub waits-sound : WaitsSound
 waits-sound s allow q v accepted = waits-for-sheet accepted
 

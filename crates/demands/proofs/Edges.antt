@@ -8,8 +8,8 @@ use native.Mathlib.Omega.{arith}
 use lib.Dec.{eqb}
 use borrow.Author.Tests.{eq-eqb, ne-eqb}
 use Rattle.definitions.specs.Bytes.{Records}
-use Rattle.definitions.specs.Links.{Constraint, sequencing, minimum, maximum, sequencing-of, minimum-of, maximum-of, link-constraints, constraints, delay-at, duration-with, duration, Keeps, KeepsAll, Edge, sequencing-edge, edge-of, edges, members, _⊑_}
-use Rattle.definitions.specs.Rival.{Further, Extension}
+use Rattle.definitions.specs.Links.{Constraint, sequencing, minimum, maximum, finish-maximum, sequencing-of, minimum-of, maximum-of, finish-maximum-of, link-constraints, constraints, delay-at, duration-with, duration, Keeps, KeepsAll, Edge, sequencing-edge, finish-edge, edge-of, edges, members, _⊑_}
+use Rattle.definitions.specs.Rival.{Further, Extension, Lasts}
 use Rattle.definitions.specs.Answers.{count-of, edges-of}
 use Rattle.definitions.specs.declared.Delay.{Delay}
 use Rattle.definitions.specs.declared.Delay.the-variants.{Open, Fixed}
@@ -17,8 +17,10 @@ use Rattle.definitions.specs.declared.Operation.{Operation}
 use Rattle.definitions.specs.declared.Bound.{Bound}
 use Rattle.definitions.specs.declared.Bound.the-variants.{Absent, Ticks}
 use Rattle.definitions.specs.declared.Link.{Link}
+use Rattle.laws.proofs.Bools.{same-or-not}
 use Rattle.laws.proofs.Tests.{flatMap-only}
-use Rattle.theory.specs.Graphs.{KeepsEdge, Schedule, Shape, Gains, Losses}
+use Rattle.theory.specs.Graphs.{KeepsEdge, Schedule, Shape, Gains, Losses, Timely}
+use Rattle.demands.specs.Demands.{NoLateLinks}
 use Rattle.demands.proofs.Reading.{Fits, LinkFits}
 
 -- Both ends of a link are steps.
@@ -26,14 +28,16 @@ abbrev pub Ends : ℕ → Constraint → Type 0
 Ends n (sequencing i j) = (i < n) × (j < n)
 Ends n (minimum i j m) = (i < n) × (j < n)
 Ends n (maximum i j u) = (i < n) × (j < n)
+Ends n (finish-maximum i j u) = (i < n) × (j < n)
 
 -- And its ticks are at most g.
 abbrev pub TicksWithin : ℕ → Constraint → Type 0
 TicksWithin g (sequencing i j) = Unit {0}
 TicksWithin g (minimum i j m) = m ≤ g
 TicksWithin g (maximum i j u) = u ≤ g
+TicksWithin g (finish-maximum i j u) = u ≤ g
 
--- What is true of every edge that a link is: its ends, no weight against its direction, and where it is counted.
+-- What is true of every edge that a link is: its ends, no weight against its direction, and where it is counted or late.
 pub record EdgeFits (os : List Operation) (n : ℕ) (e : Edge) : Type 0 where
   pub from-below : e .from < n
   pub to-below : e .to < n
@@ -41,6 +45,9 @@ pub record EdgeFits (os : List Operation) (n : ℕ) (e : Edge) : Type 0 where
   pub forward-lossless : e .back ≡ false → e .loss ≡ 0
   pub counted-open : e .counted ≡ true → delay-at os (e .from) ≡ Open
   pub counted-not-source : e .counted ≡ true → e .from ≢ 0
+  pub forward-timely : e .back ≡ false → e .late ≡ false
+  pub late-open : e .late ≡ true → delay-at os (e .to) ≡ Open
+  pub late-not-source : e .late ≡ true → e .to ≢ 0
 
 false-true : {A : Type 0} → false ≡ true → A
 false-true e = let z : _≡_ {A = ℕ} 0 1 = cc in absurd (omega arith)
@@ -48,17 +55,25 @@ false-true e = let z : _≡_ {A = ℕ} 0 1 = cc in absurd (omega arith)
 sequencing-fits : (os : List Operation) (n i j : ℕ) (d : Delay) → delay-at os i ≡ d → i < n → j < n → EdgeFits os n (sequencing-edge d i j)
 unfolding sequencing-edge
 sequencing-fits os n i j (Fixed x) h a b =
-    record { from-below = a; to-below = b; back-uncounted = λ z. refl; forward-lossless = λ z. refl; counted-open = λ z. false-true z; counted-not-source = λ z. false-true z }
+    record { from-below = a; to-below = b; back-uncounted = λ z. refl; forward-lossless = λ z. refl; counted-open = λ z. false-true z; counted-not-source = λ z. false-true z; forward-timely = λ z. refl; late-open = λ z. false-true z; late-not-source = λ z. false-true z }
 sequencing-fits os n i j Open h a b =
-    record { from-below = a; to-below = b; back-uncounted = λ z. false-true z; forward-lossless = λ z. refl; counted-open = λ z. h; counted-not-source = λ z e. false-true (sym (ap not (eq-eqb i 0 e)) ∙ z) }
+    record { from-below = a; to-below = b; back-uncounted = λ z. false-true z; forward-lossless = λ z. refl; counted-open = λ z. h; counted-not-source = λ z e. false-true (sym (ap not (eq-eqb i 0 e)) ∙ z); forward-timely = λ z. refl; late-open = λ z. false-true z; late-not-source = λ z. false-true z }
+
+finish-fits : (os : List Operation) (n i j u : ℕ) (d : Delay) → delay-at os i ≡ d → i < n → j < n → EdgeFits os n (finish-edge d i j u)
+unfolding finish-edge
+finish-fits os n i j u (Fixed x) h a b =
+    record { from-below = b; to-below = a; back-uncounted = λ z. refl; forward-lossless = λ z. false-true (sym z); counted-open = λ z. false-true z; counted-not-source = λ z. false-true z; forward-timely = λ z. refl; late-open = λ z. false-true z; late-not-source = λ z. false-true z }
+finish-fits os n i j u Open h a b =
+    record { from-below = b; to-below = a; back-uncounted = λ z. refl; forward-lossless = λ z. false-true (sym z); counted-open = λ z. false-true z; counted-not-source = λ z. false-true z; forward-timely = λ z. false-true (sym z); late-open = λ z. h; late-not-source = λ z e. false-true (sym (ap not (eq-eqb i 0 e)) ∙ z) }
 
 edge-fits : (os : List Operation) (n : ℕ) (c : Constraint) → Ends n c → EdgeFits os n (edge-of os c)
 unfolding edge-of
 edge-fits os n (sequencing i j) h = sequencing-fits os n i j (delay-at os i) refl (h .0) (h .1)
 edge-fits os n (minimum i j m) h =
-    record { from-below = h .0; to-below = h .1; back-uncounted = λ z. refl; forward-lossless = λ z. refl; counted-open = λ z. false-true z; counted-not-source = λ z. false-true z }
+    record { from-below = h .0; to-below = h .1; back-uncounted = λ z. refl; forward-lossless = λ z. refl; counted-open = λ z. false-true z; counted-not-source = λ z. false-true z; forward-timely = λ z. refl; late-open = λ z. false-true z; late-not-source = λ z. false-true z }
 edge-fits os n (maximum i j u) h =
-    record { from-below = h .1; to-below = h .0; back-uncounted = λ z. refl; forward-lossless = λ z. false-true (sym z); counted-open = λ z. false-true z; counted-not-source = λ z. false-true z }
+    record { from-below = h .1; to-below = h .0; back-uncounted = λ z. refl; forward-lossless = λ z. false-true (sym z); counted-open = λ z. false-true z; counted-not-source = λ z. false-true z; forward-timely = λ z. refl; late-open = λ z. false-true z; late-not-source = λ z. false-true z }
+edge-fits os n (finish-maximum i j u) h = finish-fits os n i j u (delay-at os i) refl (h .0) (h .1)
 
 -- An edge of a list of links is the edge of one of them.
 pub edge-link : (os : List Operation) (cs : List Constraint) (e : Edge) → members (edges os cs) e → (c : Constraint) × List·Memᴰ c cs × (edge-of os c ≡ e)
@@ -75,9 +90,30 @@ all-fit os n cs ends e m =
     subst (EdgeFits os n) (r .2) (edge-fits os n (r .0) (ends (r .0) (r .1)))
 
 pub edges-shape : (os : List Operation) (n : ℕ) (cs : List Constraint) → ((c : Constraint) → List·Memᴰ c cs → Ends n c) → Shape n (members (edges os cs))
-edges-shape os n cs ends = record { from-below = λ e m. all-fit os n cs ends e m .from-below; to-below = λ e m. all-fit os n cs ends e m .to-below; back-uncounted = λ e m. all-fit os n cs ends e m .back-uncounted; forward-lossless = λ e m. all-fit os n cs ends e m .forward-lossless }
+edges-shape os n cs ends = record { from-below = λ e m. all-fit os n cs ends e m .from-below; to-below = λ e m. all-fit os n cs ends e m .to-below; back-uncounted = λ e m. all-fit os n cs ends e m .back-uncounted; forward-lossless = λ e m. all-fit os n cs ends e m .forward-lossless; forward-timely = λ e m. all-fit os n cs ends e m .forward-timely }
 
--- Start times keep a link exactly if they keep its edge: the edge is counted just where the duration is the delay. By the kind of link and the delay of its first step.
+-- A link's edge is late where it counts from the finish of an open step other than 0, and nowhere else.
+finish-timely : (os : List Operation) (i j u : ℕ) (d : Delay) → delay-at os i ≡ d → ¬ Lasts os i → finish-edge d i j u .late ≡ false
+unfolding finish-edge
+finish-timely os i j u (Fixed x) h none = refl
+finish-timely os i j u Open h none = go (same-or-not i 0)
+  where
+    go : (i ≡ 0) ⊎ (i ≢ 0) → not (eqb i 0) ≡ false
+    go (inl e) = ap not (eq-eqb i 0 e)
+    go (inr e) = absurd (none (record { not-source = e; open-step = h }))
+
+link-timely : (os : List Operation) (c : Constraint) → ((i j u : ℕ) → c ≡ finish-maximum i j u → ¬ Lasts os i) → edge-of os c .late ≡ false
+unfolding edge-of sequencing-edge
+link-timely os (sequencing i j) none = sequencing-timely (delay-at os i)
+  where
+    sequencing-timely : (d : Delay) → sequencing-edge d i j .late ≡ false
+    sequencing-timely (Fixed x) = refl
+    sequencing-timely Open = refl
+link-timely os (minimum i j m) none = refl
+link-timely os (maximum i j u) none = refl
+link-timely os (finish-maximum i j u) none = finish-timely os i j u (delay-at os i) refl (none i j u refl)
+
+-- Start times keep a link exactly if they keep its edge: the edge is counted, or late, just where the duration is the delay. By the kind of link and the delay of its first step.
 module _ (os : List Operation) (d t : ℕ → ℕ) where
   sequencing-keeps : (i j : ℕ) (x : Delay) → (t i + duration-with d i x ≤ t j) ↔ KeepsEdge d t (sequencing-edge x i j)
   unfolding duration-with sequencing-edge
@@ -87,11 +123,20 @@ module _ (os : List Operation) (d t : ℕ → ℕ) where
       let c : eqb (suc i) 0 ≡ false = ne-eqb (suc i) 0 (λ e. omega arith) in
       rw c (λ h. omega arith, λ h. omega arith)
 
+  finish-keeps : (i j u : ℕ) (x : Delay) → (t j ≤ t i + duration-with d i x + u) ↔ KeepsEdge d t (finish-edge x i j u)
+  unfolding duration-with finish-edge
+  finish-keeps i j u (Fixed x) = (λ h. omega arith, λ h. omega arith)
+  finish-keeps zero j u Open = (λ h. omega arith, λ h. omega arith)
+  finish-keeps (suc i) j u Open =
+      let c : eqb (suc i) 0 ≡ false = ne-eqb (suc i) 0 (λ e. omega arith) in
+      rw c (λ h. omega arith, λ h. omega arith)
+
   pub link-keeps : (c : Constraint) → Keeps os d t c ↔ KeepsEdge d t (edge-of os c)
   unfolding edge-of duration
   link-keeps (sequencing i j) = sequencing-keeps i j (delay-at os i)
   link-keeps (minimum i j m) = (λ h. omega arith, λ h. omega arith)
   link-keeps (maximum i j u) = (λ h. omega arith, λ h. omega arith)
+  link-keeps (finish-maximum i j u) = finish-keeps i j u (delay-at os i)
 
   pub keeps-schedule : (cs : List Constraint) → KeepsAll os cs d t → Schedule (members (edges os cs)) d t
   keeps-schedule cs K = record { starts = K .starts; keeps = λ e m. let r = edge-link os cs e m in subst (KeepsEdge d t) (r .2) (link-keeps (r .0) .0 (K .keeps (r .0) (r .1))) }
@@ -99,17 +144,23 @@ module _ (os : List Operation) (d t : ℕ → ℕ) where
   pub schedule-keeps : (cs : List Constraint) → Schedule (members (edges os cs)) d t → KeepsAll os cs d t
   schedule-keeps cs S = record { starts = S .starts; keeps = λ c m. link-keeps c .1 (S .keeps (edge-of os c) (link-edge os cs c m)) }
 
--- Gains and losses: of a fixed duration, or of the link's ticks.
-sequencing-gain : (g i j : ℕ) (x : Delay) → ((ticks : ℕ) → x ≡ Fixed ticks → ticks ≤ g) → (sequencing-edge x i j .gain ≤ g) × (sequencing-edge x i j .loss ≤ g)
+-- Gains and losses: of a fixed duration, or of the link's ticks; a return from the finish of a fixed step loses both.
+sequencing-gain : (g i j : ℕ) (x : Delay) → ((ticks : ℕ) → x ≡ Fixed ticks → ticks ≤ g) → (sequencing-edge x i j .gain ≤ g) × (sequencing-edge x i j .loss ≤ g + g)
 unfolding sequencing-edge
 sequencing-gain g i j (Fixed x) h = (h x refl, omega arith)
 sequencing-gain g i j Open h = (omega arith, omega arith)
 
-edge-weights : (os : List Operation) (g : ℕ) → ((i x : ℕ) → delay-at os i ≡ Fixed x → x ≤ g) → (c : Constraint) → TicksWithin g c → (edge-of os c .gain ≤ g) × (edge-of os c .loss ≤ g)
+finish-loss : (g i j u : ℕ) (x : Delay) → ((ticks : ℕ) → x ≡ Fixed ticks → ticks ≤ g) → u ≤ g → (finish-edge x i j u .gain ≤ g) × (finish-edge x i j u .loss ≤ g + g)
+unfolding finish-edge
+finish-loss g i j u (Fixed x) h w = (omega arith, omega (arith, h x refl))
+finish-loss g i j u Open h w = (omega arith, omega arith)
+
+edge-weights : (os : List Operation) (g : ℕ) → ((i x : ℕ) → delay-at os i ≡ Fixed x → x ≤ g) → (c : Constraint) → TicksWithin g c → (edge-of os c .gain ≤ g) × (edge-of os c .loss ≤ g + g)
 unfolding edge-of
 edge-weights os g h (sequencing i j) w = sequencing-gain g i j (delay-at os i) (h i)
 edge-weights os g h (minimum i j m) w = (w, omega arith)
-edge-weights os g h (maximum i j u) w = (omega arith, w)
+edge-weights os g h (maximum i j u) w = (omega arith, omega arith)
+edge-weights os g h (finish-maximum i j u) w = finish-loss g i j u (delay-at os i) (h i) w
 
 -- A link record's links: on its pair, with its ticks.
 record LinkIs (n g : ℕ) (c : Constraint) : Type 0 where
@@ -131,17 +182,32 @@ unfolding maximum-of
 maximum-is n g i j (Ticks x) c a b h m = subst (LinkIs n g) (sym (List·Memᴰ·eq-of-singleton m)) (record { ends = (a, b); within = h x refl })
 maximum-is n g i j Absent c a b h m = absurd (List·Memᴰ·not-nil m)
 
+finish-is : (n g i j : ℕ) (x : Bound) (c : Constraint) → i < n → j < n → ((m : ℕ) → x ≡ Ticks m → m ≤ g) → List·Memᴰ c (finish-maximum-of i j x) → LinkIs n g c
+unfolding finish-maximum-of
+finish-is n g i j (Ticks x) c a b h m = subst (LinkIs n g) (sym (List·Memᴰ·eq-of-singleton m)) (record { ends = (a, b); within = h x refl })
+finish-is n g i j Absent c a b h m = absurd (List·Memᴰ·not-nil m)
+
 record-is : (n : ℕ) (l : Link) (c : Constraint) → LinkFits n l → List·Memᴰ c (link-constraints l) → LinkIs n 65535 c
 unfolding link-constraints
-record-is n l c f m = go (List·Memᴰ·append-cases (sequencing-of (l .from) (l .to) (l .sequencing) ++ minimum-of (l .from) (l .to) (l .minimum)) m)
+record-is n l c f m = go (List·Memᴰ·append-cases (three l) m)
   where
-    left : List·Memᴰ c (sequencing-of (l .from) (l .to) (l .sequencing)) ⊎ List·Memᴰ c (minimum-of (l .from) (l .to) (l .minimum)) → LinkIs n 65535 c
-    left (inl i) = sequencing-is n 65535 (l .from) (l .to) (l .sequencing) c (f .from-below) (f .to-below) i
-    left (inr i) = minimum-is n 65535 (l .from) (l .to) (l .minimum) c (f .from-below) (f .to-below) (f .minimum-few) i
+    two : Link → List Constraint
+    two l = sequencing-of (l .from) (l .to) (l .sequencing) ++ minimum-of (l .from) (l .to) (l .minimum)
 
-    go : List·Memᴰ c (sequencing-of (l .from) (l .to) (l .sequencing) ++ minimum-of (l .from) (l .to) (l .minimum)) ⊎ List·Memᴰ c (maximum-of (l .from) (l .to) (l .maximum)) → LinkIs n 65535 c
-    go (inl i) = left (List·Memᴰ·append-cases (sequencing-of (l .from) (l .to) (l .sequencing)) i)
-    go (inr i) = maximum-is n 65535 (l .from) (l .to) (l .maximum) c (f .from-below) (f .to-below) (f .maximum-few) i
+    three : Link → List Constraint
+    three l = two l ++ maximum-of (l .from) (l .to) (l .maximum)
+
+    first : List·Memᴰ c (sequencing-of (l .from) (l .to) (l .sequencing)) ⊎ List·Memᴰ c (minimum-of (l .from) (l .to) (l .minimum)) → LinkIs n 65535 c
+    first (inl i) = sequencing-is n 65535 (l .from) (l .to) (l .sequencing) c (f .from-below) (f .to-below) i
+    first (inr i) = minimum-is n 65535 (l .from) (l .to) (l .minimum) c (f .from-below) (f .to-below) (f .minimum-few) i
+
+    second : List·Memᴰ c (two l) ⊎ List·Memᴰ c (maximum-of (l .from) (l .to) (l .maximum)) → LinkIs n 65535 c
+    second (inl i) = first (List·Memᴰ·append-cases (sequencing-of (l .from) (l .to) (l .sequencing)) i)
+    second (inr i) = maximum-is n 65535 (l .from) (l .to) (l .maximum) c (f .from-below) (f .to-below) (f .maximum-few) i
+
+    go : List·Memᴰ c (three l) ⊎ List·Memᴰ c (finish-maximum-of (l .from) (l .to) (l .latest)) → LinkIs n 65535 c
+    go (inl i) = second (List·Memᴰ·append-cases (two l) i)
+    go (inr i) = finish-is n 65535 (l .from) (l .to) (l .latest) c (f .from-below) (f .to-below) (f .latest-few) i
 
 -- The edges of a sheet that has been read.
 module _ {q : Records} (fits : Fits q) where
@@ -160,17 +226,24 @@ module _ {q : Records} (fits : Fits q) where
   unfolding edges-of
   sheet-shape = edges-shape (q .steps) (count-of q) (constraints (q .pairs)) sheet-ends
 
-  sheet-weights : (e : Edge) → members (edges-of q) e → (e .gain ≤ 65535) × (e .loss ≤ 65535)
+  sheet-weights : (e : Edge) → members (edges-of q) e → (e .gain ≤ 65535) × (e .loss ≤ 131070)
   unfolding edges-of
   sheet-weights e m =
       let r = edge-link (q .steps) (constraints (q .pairs)) e m in
-      subst (λ (x : Edge). (x .gain ≤ 65535) × (x .loss ≤ 65535)) (r .2) (edge-weights (q .steps) 65535 (fits .ticks) (r .0) (sheet-link (r .0) (r .1) .within))
+      subst (λ (x : Edge). (x .gain ≤ 65535) × (x .loss ≤ 131070)) (r .2) (edge-weights (q .steps) 65535 (fits .ticks) (r .0) (sheet-link (r .0) (r .1) .within))
 
   pub sheet-gains : Gains (members (edges-of q)) 65535
   sheet-gains e m = sheet-weights e m .0
 
-  pub sheet-losses : Losses (members (edges-of q)) 65535
+  pub sheet-losses : Losses (members (edges-of q)) 131070
   sheet-losses e m = sheet-weights e m .1
+
+  -- Without late links no edge is late: by the link that it is.
+  pub sheet-timely : NoLateLinks q → Timely (members (edges-of q))
+  unfolding edges-of
+  sheet-timely none e m =
+      let r = edge-link (q .steps) (constraints (q .pairs)) e m in
+      subst (λ (x : Edge). x .late ≡ false) (r .2) (link-timely (q .steps) (r .0) (λ i j u h. none i j u (subst (λ (c : Constraint). List·Memᴰ c (constraints (q .pairs))) h (r .1))))
 
   -- A rival's sheet: its graph has the sheet's edges, and the shape of a sheet's.
   module _ {fs : List Constraint} (extension : Extension (q .steps) (constraints (q .pairs)) fs) where
@@ -178,6 +251,7 @@ module _ {q : Records} (fits : Fits q) where
     further-ends (sequencing i j) h = h
     further-ends (minimum i j m) h = h
     further-ends (maximum i j u) h = absurd h
+    further-ends (finish-maximum i j u) h = absurd h
 
     rival-ends : (c : Constraint) → List·Memᴰ c fs → Ends (count-of q) c
     rival-ends c m = go (extension .only c m)
@@ -188,6 +262,18 @@ module _ {q : Records} (fits : Fits q) where
 
     pub rival-shape : Shape (count-of q) (members (edges (q .steps) fs))
     rival-shape = edges-shape (q .steps) (count-of q) fs rival-ends
+
+    further-late : (c : Constraint) → Further (count-of q) c → (i j u : ℕ) → c ≡ finish-maximum i j u → ¬ Lasts (q .steps) i
+    further-late c h i j u e = absurd (subst (Further (count-of q)) e h)
+
+    pub rival-timely : NoLateLinks q → Timely (members (edges (q .steps) fs))
+    rival-timely none e m =
+        let r = edge-link (q .steps) fs e m in
+        subst (λ (x : Edge). x .late ≡ false) (r .2) (link-timely (q .steps) (r .0) (by (r .0) (extension .only (r .0) (r .1))))
+      where
+        by : (c : Constraint) → List·Memᴰ c (constraints (q .pairs)) ⊎ Further (count-of q) c → (i j u : ℕ) → c ≡ finish-maximum i j u → ¬ Lasts (q .steps) i
+        by c (inl k) i j u h = none i j u (subst (λ (c : Constraint). List·Memᴰ c (constraints (q .pairs))) h k)
+        by c (inr f) i j u h = further-late c f i j u h
 
     pub rival-above : members (edges-of q) ⊑ members (edges (q .steps) fs)
     unfolding edges-of

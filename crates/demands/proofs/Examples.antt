@@ -2,27 +2,28 @@
 use mathlib.Core.Path.{_≡_, refl, sym, subst}
 use mathlib.Core.Bool.{Bool, true, false}
 use mathlib.Core.Logic.{_⊎_, inl, inr}
-use mathlib.Core.List.{List, [], _∷_, _++_, flatMap, List·Memᴰ, List·Memᴰ·not-nil, List·Memᴰ·cases-cons, List·Memᴰ·append-cases, Memᴰ·append-left}
+use mathlib.Core.List.{List, [], _∷_, _++_, flatMap, List·Memᴰ, List·Memᴰ·head, List·Memᴰ·tail, List·Memᴰ·not-nil, List·Memᴰ·cases-cons, List·Memᴰ·append-cases, Memᴰ·append-left}
 use Prim.Native.Nat.{ℕ, zero, suc, _+_, _<_}
 use native.Mathlib.Omega.{arith}
 use lib.Dec.{leb, ltb}
 use lib.ListN.{length, getD}
 use borrow.Author.Tests.{ltb-true, leb-true}
 use Rattle.definitions.specs.Basics.{any, all, any-below, all-below, tabulate, select-below, largest, test-bit, bits-below, Outcome, given, refused, refuse-if, when-given}
-use Rattle.definitions.specs.Bytes.{demand, byte, two-bytes, ticks-if, operation-map, delay-from, operation, link-map, endpoints, rises, bound-from, link, records, operations, pair-of, links, at-end, Records, sheet, read}
-use Rattle.definitions.specs.Links.{Constraint, sequencing, minimum, maximum, sequencing-of, minimum-of, maximum-of, link-constraints, constraints, delay-at, duration-with, duration, Keeps, sequencing-edge, edge-of, edges, forwards, usable}
+use Rattle.definitions.specs.Bytes.{demand, byte, two-bytes, ticks-if, operation-map, delay-from, operation, link-map, sequenced, endpoints, rises, bound-from, link, records, operations, pair-of, links, at-end, Records, sheet, read}
+use Rattle.definitions.specs.Links.{Constraint, sequencing, minimum, maximum, finish-maximum, sequencing-of, minimum-of, maximum-of, finish-maximum-of, link-constraints, constraints, delay-at, duration-with, duration, Keeps, sequencing-edge, finish-edge, edge-of, edges, forwards, late-into, usable}
 use Rattle.definitions.specs.Rounds.{extend, raise, round, rounds, stable, source-row, seed, seeds, after-row, bares, reaches, after-reaches}
 use Rattle.definitions.specs.Anchors.{in-anchor-set, well-posed}
 use Rattle.definitions.specs.Waits.{waits-for, waits-of, wait-list, wait-count, needs-waits, serialized}
 use Rattle.definitions.specs.Plan.{first-row, offset-row, offset, start-from, start-turns, start-times}
-use Rattle.definitions.specs.Rival.{Further}
-use Rattle.definitions.specs.Answers.{closes-circle, unreached, infeasible, inconsistent, judge-edges, count-of, edges-of, serialized-of, judge-records, judged}
+use Rattle.definitions.specs.Rival.{Further, DelayAssignment}
+use Rattle.definitions.specs.Answers.{closes-circle, unreached, infeasible, inconsistent, unserializable, judge-edges, count-of, edges-of, serialized-of, judge-records, judged}
 use Rattle.definitions.specs.Worked.{Worked, listing, lists, worked-sheets}
+use Rattle.definitions.specs.declared.Delay.the-variants.{Open}
 use Rattle.definitions.specs.declared.Operation.{Operation}
 use Rattle.laws.proofs.Tests.{all-each}
 use Rattle.laws.proofs.Lists.{mem-at}
 use Rattle.theory.proofs.Reachability.{well-posed-iff}
-use Rattle.demands.specs.Demands.{Bytes, IsSheet, WellFormed, WorkedBytes, RivalMet, HypothesesMet, our-start}
+use Rattle.demands.specs.Demands.{Bytes, IsSheet, WellFormed, WorkedBytes, RivalMet, ForesightEarlier, HypothesesMet, our-start}
 use Rattle.demands.proofs.Reading.{read-fits}
 use Rattle.demands.proofs.Edges.{Ends, edges-shape, sheet-ends}
 use Rattle.demands.proofs.Impossibility.{impossible-for}
@@ -52,12 +53,14 @@ keeps-test : List Operation → (ℕ → ℕ) → (ℕ → ℕ) → Constraint �
 keeps-test os d t (sequencing i j) = leb (t i + duration os d i) (t j)
 keeps-test os d t (minimum i j m) = leb (t i + m) (t j)
 keeps-test os d t (maximum i j u) = leb (t j) (t i + u)
+keeps-test os d t (finish-maximum i j u) = leb (t j) (t i + duration os d i + u)
 
 keeps-tested : (os : List Operation) (d t : ℕ → ℕ) (c : Constraint) → keeps-test os d t c ≡ true → Keeps os d t c
 unfolding keeps-test
 keeps-tested os d t (sequencing i j) h = leb-true (t i + duration os d i) (t j) h
 keeps-tested os d t (minimum i j m) h = leb-true (t i + m) (t j) h
 keeps-tested os d t (maximum i j u) h = leb-true (t j) (t i + u) h
+keeps-tested os d t (finish-maximum i j u) h = leb-true (t j) (t i + duration os d i + u) h
 
 -- A rival's sheet for two hands: the wait, and step 3 at least 7 after step 0. Hand 1 takes 3, hand 2 takes 4: ours starts step 3 at 4, the rival at 7.
 abbrev hands : Records
@@ -75,11 +78,26 @@ hands-take a = getD (0 ∷ 3 ∷ 4 ∷ []) a 0
 abbrev rival-times : ℕ → ℕ
 rival-times i = getD (0 ∷ 0 ∷ 0 ∷ 7 ∷ 4 ∷ []) i 0
 
--- All that is computed: the stand sheet (1 of the table) is sound, with limit 1 (2) it is refused 10, two hands (3) is accepted with waits, and 5 is refused 11.
+-- The hand that is held back (43) takes 10. We start it at 6, since it may take no time; a rival that knows its duration starts it at 0.
+abbrev back : Records
+back = worked-records 43
+
+abbrev hand-takes : ℕ → ℕ
+hand-takes a = getD (0 ∷ 10 ∷ []) a 0
+
+abbrev foresight-times : ℕ → ℕ
+foresight-times i = getD (0 ∷ 0 ∷ 10 ∷ []) i 0
+
+-- All that is computed: the stand sheet (1 of the table) is sound, with limit 1 (2) it is refused 10, two hands (3) is accepted with waits, and 5 is refused 11; both-finish (35) and too-late (37) are
+-- refused 28, and held-back (43) is sound.
+abbrev used : List ℕ
+used = 1 ∷ 2 ∷ 3 ∷ 5 ∷ 35 ∷ 37 ∷ 43 ∷ []
+
 record Computed : Type 0 where
-  bytes : (k : ℕ) → k < 6 → all (λ b. ltb b 256) (worked k) ≡ true
-  reads : (k : ℕ) → k < 6 → read (worked k) ≡ given (worked-records k)
-  formed : (k : ℕ) → k < 6 → (closes-circle (count-of (worked-records k)) (edges-of (worked-records k)) ≡ false) × (unreached (count-of (worked-records k)) (edges-of (worked-records k)) ≡ false)
+  size : length worked-sheets ≡ 52
+  bytes : (k : ℕ) → List·Memᴰ k used → all (λ b. ltb b 256) (worked k) ≡ true
+  reads : (k : ℕ) → List·Memᴰ k used → read (worked k) ≡ given (worked-records k)
+  formed : (k : ℕ) → List·Memᴰ k used → (closes-circle (count-of (worked-records k)) (edges-of (worked-records k)) ≡ false) × (unreached (count-of (worked-records k)) (edges-of (worked-records k)) ≡ false)
   sound : judged (worked 1) false ≡ given 0
   with-waits : judged (worked 3) true ≡ given 1
   infeasible : judged (worked 2) true ≡ refused 10
@@ -88,23 +106,58 @@ record Computed : Type 0 where
   rival-keeps : all (keeps-test (hands .steps) hands-take rival-times) rival-links ≡ true
   our-third : our-start hands hands-take 3 ≡ 4
   five : count-of hands ≡ 5
+  held-back : judged (worked 43) false ≡ given 0
+  hand-open : delay-at (back .steps) 1 ≡ Open
+  foresight-keeps : all (keeps-test (back .steps) hand-takes foresight-times) (constraints (back .pairs)) ≡ true
+  our-first : our-start back hand-takes 1 ≡ 6
+  three : count-of back ≡ 3
+  circle : judged (worked 35) false ≡ refused 28
+  with-circle : closes-circle (count-of (worked-records 35)) (serialized-of (worked-records 35)) ≡ true
+  too-late : judged (worked 37) false ≡ refused 28
+  no-circle : closes-circle (count-of (worked-records 37)) (serialized-of (worked-records 37)) ≡ false
 
--- What holds of 0 to 5 holds below 6.
-below-six : (P : ℕ → Type 0) → P 0 → P 1 → P 2 → P 3 → P 4 → P 5 → (k : ℕ) → k < 6 → P k
-below-six P a b c d e f zero h = a
-below-six P a b c d e f (suc zero) h = b
-below-six P a b c d e f (suc (suc zero)) h = c
-below-six P a b c d e f (suc (suc (suc zero))) h = d
-below-six P a b c d e f (suc (suc (suc (suc zero)))) h = e
-below-six P a b c d e f (suc (suc (suc (suc (suc zero))))) h = f
-below-six P a b c d e f (suc (suc (suc (suc (suc (suc k)))))) h = absurd (omega arith)
+-- What holds of the seven sheets that are used holds of each.
+each-used : (P : ℕ → Type 0) → P 1 → P 2 → P 3 → P 5 → P 35 → P 37 → P 43 → (k : ℕ) → List·Memᴰ k used → P k
+each-used P a b c d e f g k m = go (List·Memᴰ·cases-cons m)
+  where
+    put : {l : ℕ} → P l → k ≡ l → P k
+    put h i = subst P (sym i) h
+
+    seventh : (k ≡ 43) ⊎ List·Memᴰ k [] → P k
+    seventh (inl i) = put g i
+    seventh (inr i) = absurd (List·Memᴰ·not-nil i)
+
+    sixth : (k ≡ 37) ⊎ List·Memᴰ k (43 ∷ []) → P k
+    sixth (inl i) = put f i
+    sixth (inr i) = seventh (List·Memᴰ·cases-cons i)
+
+    fifth : (k ≡ 35) ⊎ List·Memᴰ k (37 ∷ 43 ∷ []) → P k
+    fifth (inl i) = put e i
+    fifth (inr i) = sixth (List·Memᴰ·cases-cons i)
+
+    fourth : (k ≡ 5) ⊎ List·Memᴰ k (35 ∷ 37 ∷ 43 ∷ []) → P k
+    fourth (inl i) = put d i
+    fourth (inr i) = fifth (List·Memᴰ·cases-cons i)
+
+    third : (k ≡ 3) ⊎ List·Memᴰ k (5 ∷ 35 ∷ 37 ∷ 43 ∷ []) → P k
+    third (inl i) = put c i
+    third (inr i) = fourth (List·Memᴰ·cases-cons i)
+
+    second : (k ≡ 2) ⊎ List·Memᴰ k (3 ∷ 5 ∷ 35 ∷ 37 ∷ 43 ∷ []) → P k
+    second (inl i) = put b i
+    second (inr i) = third (List·Memᴰ·cases-cons i)
+
+    go : (k ≡ 1) ⊎ List·Memᴰ k (2 ∷ 3 ∷ 5 ∷ 35 ∷ 37 ∷ 43 ∷ []) → P k
+    go (inl i) = put a i
+    go (inr i) = second (List·Memᴰ·cases-cons i)
 
 computed : Computed
-unfolding any all any-below all-below tabulate select-below largest test-bit bits-below refuse-if when-given demand byte two-bytes ticks-if operation-map delay-from operation link-map endpoints rises bound-from link records operations pair-of links at-end sheet read sequencing-of minimum-of maximum-of link-constraints constraints delay-at duration-with duration sequencing-edge edge-of edges forwards usable extend raise round rounds stable source-row seed seeds after-row bares reaches after-reaches in-anchor-set well-posed waits-for waits-of wait-list wait-count needs-waits serialized first-row offset-row offset start-from start-turns start-times closes-circle unreached infeasible inconsistent judge-edges edges-of serialized-of judge-records judged worked-sheets flatMap keeps-test
+unfolding any all any-below all-below tabulate select-below largest test-bit bits-below refuse-if when-given demand byte two-bytes ticks-if operation-map delay-from operation link-map sequenced endpoints rises bound-from link records operations pair-of links at-end sheet read sequencing-of minimum-of maximum-of finish-maximum-of link-constraints constraints delay-at duration-with duration sequencing-edge finish-edge edge-of edges forwards late-into usable extend raise round rounds stable source-row seed seeds after-row bares reaches after-reaches in-anchor-set well-posed waits-for waits-of wait-list wait-count needs-waits serialized first-row offset-row offset start-from start-turns start-times closes-circle unreached infeasible inconsistent unserializable judge-edges edges-of serialized-of judge-records judged worked-sheets flatMap keeps-test
 computed = record {
-  bytes = below-six (λ k. all (λ b. ltb b 256) (worked k) ≡ true) refl refl refl refl refl refl;
-  reads = below-six (λ k. read (worked k) ≡ given (worked-records k)) refl refl refl refl refl refl;
-  formed = below-six (λ k. (closes-circle (count-of (worked-records k)) (edges-of (worked-records k)) ≡ false) × (unreached (count-of (worked-records k)) (edges-of (worked-records k)) ≡ false)) (refl, refl) (refl, refl) (refl, refl) (refl, refl) (refl, refl) (refl, refl);
+  size = refl;
+  bytes = each-used (λ k. all (λ b. ltb b 256) (worked k) ≡ true) refl refl refl refl refl refl refl;
+  reads = each-used (λ k. read (worked k) ≡ given (worked-records k)) refl refl refl refl refl refl refl;
+  formed = each-used (λ k. (closes-circle (count-of (worked-records k)) (edges-of (worked-records k)) ≡ false) × (unreached (count-of (worked-records k)) (edges-of (worked-records k)) ≡ false)) (refl, refl) (refl, refl) (refl, refl) (refl, refl) (refl, refl) (refl, refl) (refl, refl);
   sound = refl;
   with-waits = refl;
   infeasible = refl;
@@ -113,17 +166,47 @@ computed = record {
   rival-keeps = refl;
   our-third = refl;
   five = refl;
+  held-back = refl;
+  hand-open = refl;
+  foresight-keeps = refl;
+  our-first = refl;
+  three = refl;
+  circle = refl;
+  with-circle = refl;
+  too-late = refl;
+  no-circle = refl;
 }
 
-is-sheet : (k : ℕ) → k < 6 → IsSheet (worked k) (worked-records k)
+-- Where each stands among them.
+is-1 : List·Memᴰ 1 used
+is-1 = List·Memᴰ·head refl
+
+is-2 : List·Memᴰ 2 used
+is-2 = List·Memᴰ·tail (List·Memᴰ·head refl)
+
+is-3 : List·Memᴰ 3 used
+is-3 = List·Memᴰ·tail (List·Memᴰ·tail (List·Memᴰ·head refl))
+
+is-5 : List·Memᴰ 5 used
+is-5 = List·Memᴰ·tail (List·Memᴰ·tail (List·Memᴰ·tail (List·Memᴰ·head refl)))
+
+is-35 : List·Memᴰ 35 used
+is-35 = List·Memᴰ·tail (List·Memᴰ·tail (List·Memᴰ·tail (List·Memᴰ·tail (List·Memᴰ·head refl))))
+
+is-37 : List·Memᴰ 37 used
+is-37 = List·Memᴰ·tail (List·Memᴰ·tail (List·Memᴰ·tail (List·Memᴰ·tail (List·Memᴰ·tail (List·Memᴰ·head refl)))))
+
+is-43 : List·Memᴰ 43 used
+is-43 = List·Memᴰ·tail (List·Memᴰ·tail (List·Memᴰ·tail (List·Memᴰ·tail (List·Memᴰ·tail (List·Memᴰ·tail (List·Memᴰ·head refl))))))
+
+is-sheet : (k : ℕ) → List·Memᴰ k used → IsSheet (worked k) (worked-records k)
 is-sheet k h = record { bytes = are-bytes (worked k) (computed .bytes k h); reads = computed .reads k h }
 
-is-formed : (k : ℕ) → k < 6 → WellFormed (worked k) (worked-records k)
+is-formed : (k : ℕ) → List·Memᴰ k used → WellFormed (worked k) (worked-records k)
 is-formed k h = record { sheet = is-sheet k h; no-circle = computed .formed k h .0; all-reached = computed .formed k h .1 }
 
-table-size : (k : ℕ) → k < 6 → WorkedBytes (worked k)
-unfolding worked-sheets
-table-size k h = in-table k (omega arith)
+in-worked : (k : ℕ) → k < 52 → WorkedBytes (worked k)
+in-worked k h = in-table k (omega (arith, computed .size))
 
 -- The rival's sheet is an extension: by the computed test for sound.
 further-each : (c : Constraint) → List·Memᴰ c further → Further (count-of hands) c
@@ -145,12 +228,13 @@ further-ends : (c : Constraint) → Further (count-of hands) c → Ends (count-o
 further-ends (sequencing i j) h = h
 further-ends (minimum i j m) h = h
 further-ends (maximum i j u) h = absurd h
+further-ends (finish-maximum i j u) h = absurd h
 
 rival-ends : (c : Constraint) → List·Memᴰ c rival-links → Ends (count-of hands) c
 rival-ends c m = go (rival-only c (List·Memᴰ·append-cases (constraints (hands .pairs)) m))
   where
     go : List·Memᴰ c (constraints (hands .pairs)) ⊎ Further (count-of hands) c → Ends (count-of hands) c
-    go (inl i) = sheet-ends (read-fits (worked 3) hands (is-sheet 3 (omega arith) .bytes) (is-sheet 3 (omega arith) .reads)) c i
+    go (inl i) = sheet-ends (read-fits (worked 3) hands (is-sheet 3 is-3 .bytes) (is-sheet 3 is-3 .reads)) c i
     go (inr f) = further-ends c f
 
 rival-met : RivalMet hands
@@ -170,13 +254,32 @@ rival-met = record {
   later = omega (arith, computed .our-third);
 }
 
+-- Only the hand lasts.
+hand-assigned : DelayAssignment (back .steps) hand-takes
+hand-assigned zero none = refl
+hand-assigned (suc zero) none = absurd (none (record { not-source = λ e. omega arith; open-step = computed .hand-open }))
+hand-assigned (suc (suc v)) none = refl
+
+foresight-met : ForesightEarlier back
+foresight-met = record {
+  durations = hand-takes;
+  assigned = hand-assigned;
+  times = foresight-times;
+  kept = record { starts = refl; keeps = λ c m. keeps-tested (back .steps) hand-takes foresight-times c (all-each (keeps-test (back .steps) hand-takes foresight-times) (constraints (back .pairs)) (computed .foresight-keeps) c m) };
+  step = 1;
+  exists = omega (arith, computed .three);
+  earlier = omega (arith, computed .our-first);
+}
+
 pub examples : HypothesesMet
 examples =
-    let six : 5 < 6 = omega arith in
-    let none = impossible-for (worked 5) true (worked-records 5) (is-formed 5 six) in
+    let none = impossible-for (worked 5) true (worked-records 5) (is-formed 5 is-5) in
     record {
-      sound = (worked 1, worked-records 1, table-size 1 (omega arith), record { sheet = is-sheet 1 (omega arith); accepts = computed .sound });
-      with-waits = (worked 3, hands, table-size 3 (omega arith), record { sheet = is-sheet 3 (omega arith); accepts = computed .with-waits }, rival-met);
-      infeasible = (worked 2, worked-records 2, table-size 2 (omega arith), is-formed 2 (omega arith), computed .infeasible);
-      inconsistent = (worked 5, worked-records 5, table-size 5 six, is-formed 5 six, computed .inconsistent, none .refused-11 .0 (computed .inconsistent) .1);
+      sound = (worked 1, worked-records 1, in-worked 1 (omega arith), record { sheet = is-sheet 1 is-1; accepts = computed .sound });
+      with-waits = (worked 3, hands, in-worked 3 (omega arith), record { sheet = is-sheet 3 is-3; accepts = computed .with-waits }, rival-met);
+      infeasible = (worked 2, worked-records 2, in-worked 2 (omega arith), is-formed 2 is-2, computed .infeasible);
+      inconsistent = (worked 5, worked-records 5, in-worked 5 (omega arith), is-formed 5 is-5, computed .inconsistent, none .refused-11 .0 (computed .inconsistent) .1);
+      foresight = (worked 43, back, in-worked 43 (omega arith), record { sheet = is-sheet 43 is-43; accepts = computed .held-back }, foresight-met);
+      circle = (worked 35, worked-records 35, in-worked 35 (omega arith), is-formed 35 is-35, computed .circle, computed .with-circle);
+      no-circle = (worked 37, worked-records 37, in-worked 37 (omega arith), is-formed 37 is-37, computed .too-late, computed .no-circle);
     }

@@ -10,7 +10,7 @@ use lib.Dec.{leb}
 use lib.ListN.{take}
 use borrow.Author.Tests.{leb-true, eqb-true}
 use Rattle.definitions.specs.Basics.{test-bit, Outcome, given, refused, when-given}
-use Rattle.definitions.specs.Bytes.{Taken, Parser, _>>=_, _>>_, give, demand, byte, two-bytes, ticks-if, operation-map, operation, link-map, endpoints, rises, link, records, operations, pair-of, links, at-end, Records, sheet, read}
+use Rattle.definitions.specs.Bytes.{Taken, Parser, _>>=_, _>>_, give, demand, byte, two-bytes, ticks-if, operation-map, operation, link-map, sequenced, endpoints, rises, link, records, operations, pair-of, links, at-end, Records, sheet, read}
 use Rattle.definitions.specs.Output.{listed, list-records, listing-text, standplan}
 use Rattle.definitions.specs.declared.Previous.{Previous}
 use Rattle.definitions.specs.declared.Previous.the-variants.{Nothing}
@@ -86,19 +86,21 @@ looks-first : Looks (operation true) 1
 unfolding operation operation-map test-bit ticks-if
 looks-first = looks-bind {k = 0} looks-byte (λ m. looks-demand (operation-map true m) 4 (λ h. rw (eqb-true m 1 h) (looks-bind (looks-give 0) (λ ticks. looks-give _))))
 
--- A link record has at most 7.
-looks-link : (n : ℕ) (previous : Previous) → Looks (link n previous) 7
+-- A link record has at most 9.
+looks-link : (n : ℕ) (previous : Previous) → Looks (link n previous) 9
 unfolding link
 looks-link n previous =
     looks-bind looks-byte
     (λ m. looks-demand (link-map m) 4
-    (λ h4. looks-bind looks-byte
+    (λ h4. looks-demand (sequenced m) 26
+    (λ h26. looks-bind looks-byte
     (λ i. looks-bind looks-byte
     (λ j. looks-demand (endpoints n i j) 5
     (λ h5. looks-demand (rises previous i j) 6
     (λ h6. looks-bind (looks-ticks (test-bit m 1))
     (λ least. looks-bind (looks-ticks (test-bit m 2))
-    (λ most. looks-give _))))))))
+    (λ most. looks-bind (looks-ticks (test-bit m 4))
+    (λ latest. looks-give _))))))))))
 
 -- Records in a row. Induction on their number.
 looks-records : {A S : Type 0} (item : S → Parser A) (next : A → S) (j : ℕ) → ((state : S) → Looks (item state) j) → (k : ℕ) (state : S) → Looks (records item next k state) (k * j)
@@ -113,12 +115,12 @@ looks-operations zero low high = absurd (omega arith)
 looks-operations (suc n) low high =
     looks-more (omega arith) (looks-bind looks-first (λ x. looks-bind (looks-records operation (λ o. false) 3 looks-operation n false) (λ xs. looks-give (x ∷ xs))))
 
-looks-links : (n r : ℕ) → r ≤ 512 → Looks (links n r) (512 * 7)
+looks-links : (n r : ℕ) → r ≤ 512 → Looks (links n r) (512 * 9)
 unfolding links
-looks-links n r high = looks-more (omega arith) (looks-records (link n) pair-of 7 (looks-link n) r Nothing)
+looks-links n r high = looks-more (omega arith) (looks-records (link n) pair-of 9 (looks-link n) r Nothing)
 
 -- Three bytes in front, the records, and one for the end.
-looks-sheet : Looks sheet (3 + (1 + 63 * 3) + 512 * 7 + 1)
+looks-sheet : Looks sheet (3 + (1 + 63 * 3) + 512 * 9 + 1)
 unfolding sheet
 looks-sheet =
     looks-bind looks-byte

@@ -1,5 +1,5 @@
 -- Refusals 10 and 11 of a well-formed sheet. 10 is no schedule with delays 0. For 11, an open step that waits for its own end is given the longest time of a list: around its closed walk nothing can
--- lose that much. Where neither applies our starts keep every link, so that no list leaves none.
+-- lose that much. Where neither applies there are start times for all delays, so that no list leaves none.
 use mathlib.Core.Path.{_≡_, refl, sym, subst, _∙_}
 use mathlib.Core.Bool.{Bool, true, false}
 use mathlib.Core.Logic.{_⊎_, inl, inr, _≢_, _↔_}
@@ -8,16 +8,17 @@ use Prim.Native.Nat.{ℕ, _<_}
 use native.Mathlib.Omega.{arith}
 use Rattle.definitions.specs.Basics.{refused}
 use Rattle.definitions.specs.Bytes.{Records}
-use Rattle.definitions.specs.Links.{Edge, members, constraints, After}
+use Rattle.definitions.specs.Links.{Edge, members, constraints, After, UsableFrom}
 use Rattle.definitions.specs.Plan.{delays}
-use Rattle.definitions.specs.Answers.{infeasible, inconsistent, judged, judge-edges, count-of, edges-of, serialized-of}
+use Rattle.definitions.specs.Answers.{infeasible, inconsistent, judged, judge-edges, count-of, edges-of}
 use Rattle.laws.proofs.Bools.{bool-cases, not-passing}
 use Rattle.laws.proofs.Outcomes.{refused-same}
 use Rattle.theory.specs.Graphs.{Schedule, Shape, Rooted, Well, sole-delay}
-use Rattle.theory.proofs.Walks.{after-start-below}
+use Rattle.theory.proofs.Walks.{after-mono, after-start-below, some-after}
+use Rattle.theory.proofs.Usables.{usable-shape, usable-sub}
 use Rattle.theory.proofs.Feasibility.{closed-after-64}
-use Rattle.theory.proofs.Plans.{plan-keeps}
-use Rattle.demands.specs.Demands.{WellFormed, KeepsLinks, NoStarts, SomeListLeavesNone, ImpossibleFor, our-start}
+use Rattle.theory.proofs.Possibility.{possible}
+use Rattle.demands.specs.Demands.{WellFormed, KeepsLinks, NoStarts, SomeListLeavesNone, ImpossibleFor}
 use Rattle.demands.proofs.Reading.{Fits, read-fits}
 use Rattle.demands.proofs.Edges.{keeps-schedule, schedule-keeps, sheet-shape, sheet-losses}
 use Rattle.demands.proofs.Judging.{judge-10, judge-11, judged-edges}
@@ -30,10 +31,9 @@ pub keeps-sheet : (q : Records) (d t : ℕ → ℕ) → KeepsLinks q d t ↔ Sch
 unfolding edges-of
 keeps-sheet q d t = (keeps-schedule (q .steps) d t (constraints (q .pairs)), schedule-keeps (q .steps) d t (constraints (q .pairs)))
 
--- Our starts keep the links of a sheet that can be scheduled.
-pub our-starts-keep : (q : Records) → Well (count-of q) (members (edges-of q)) → (d : ℕ → ℕ) → d 0 ≡ 0 → KeepsLinks q d (our-start q d)
-unfolding serialized-of
-our-starts-keep q well d d0 = keeps-sheet q d (our-start q d) .1 (plan-keeps well d d0)
+-- A sheet that can be scheduled has start times for all delays.
+starts-exist : (q : Records) → Well (count-of q) (members (edges-of q)) → (d : ℕ → ℕ) → d 0 ≡ 0 → (t : ℕ → ℕ) × KeepsLinks q d t
+starts-exist q well d d0 = let r = possible well d d0 in (r .0, keeps-sheet q d (r .0) .1 (r .1))
 
 module _ (s : List ℕ) (allow : Bool) (q : Records) (formed : WellFormed s q) where
   abbrev n : ℕ
@@ -73,11 +73,11 @@ module _ (s : List ℕ) (allow : Bool) (q : Records) (formed : WellFormed s q) w
       (λ h t k. r .0 (judged-10 .0 h) t (keeps-sheet q (λ a. 0) t .0 k), λ f. judged-10 .1 (r .1 (λ t k. f t (keeps-sheet q (λ a. 0) t .1 k))))
 
   -- The list that shows 11.
-  own-end : (a : ℕ) → After (members es) a a → SomeListLeavesNone q
+  own-end : (a : ℕ) → After (UsableFrom (members es) a) a a → SomeListLeavesNone q
   own-end a w =
-      let inside : a < n = after-start-below shape w in
+      let inside : a < n = after-start-below (usable-shape shape a) w in
       let same : delays (sole-list n a) ≡ sole-delay 16777215 a = sole-delays n a inside in
-      record { list = sole-list n a; allowed = sole-allowed q a inside (inr (after-open fits w)); none = λ t k. closed-after-64 shape (fits .few) (sheet-losses fits) w (subst (λ (d : ℕ → ℕ). Schedule (members es) d t) same (keeps-sheet q (delays (sole-list n a)) t .0 k)) }
+      record { list = sole-list n a; allowed = sole-allowed q a inside (inr (after-open fits (some-after (after-mono (usable-sub (members es) a) (w .walk))))); none = λ t k. closed-after-64 shape (fits .few) (sheet-losses fits) w (subst (λ (d : ℕ → ℕ). Schedule (members es) d t) same (keeps-sheet q (delays (sole-list n a)) t .0 k)) }
 
   no-time : NoStarts q (λ a. 0) → SomeListLeavesNone q
   no-time f =
@@ -90,8 +90,8 @@ module _ (s : List ℕ) (allow : Bool) (q : Records) (formed : WellFormed s q) w
       go : (inconsistent n es ≡ true) ⊎ (inconsistent n es ≡ false) → judged s allow ≡ refused 11
       go (inl t) = judged-11 .1 (h, t)
       go (inr f) =
-          let d = delays (L .list) in
-          absurd (L .none (our-start q d) (our-starts-keep q (not-10-11 (fits .some) shape rooted h f) d (source-zero (q .steps) (L .list) (fits .some) (L .allowed .within))))
+          let r = starts-exist q (not-10-11 (fits .some) shape rooted h f) (delays (L .list)) (source-zero (q .steps) (L .list) (fits .some) (L .allowed .within)) in
+          absurd (L .none (r .0) (r .1))
 
   found-11 : judged s allow ≡ refused 11 → SomeListLeavesNone q
   found-11 h = let r = is-11 (fits .some) shape rooted (judged-11 .0 h .1) in own-end (r .0) (r .1)
@@ -108,7 +108,7 @@ module _ (s : List ℕ) (allow : Bool) (q : Records) (formed : WellFormed s q) w
   otherwise h k d d0 =
       let feasible = not-judged-10 h in
       let consistent = not-passing (inconsistent n es) (λ t. k (judged-11 .1 (feasible, t))) in
-      (our-start q d, our-starts-keep q (not-10-11 (fits .some) shape rooted feasible consistent) d d0)
+      starts-exist q (not-10-11 (fits .some) shape rooted feasible consistent) d d0
 
   pub impossible-for : ImpossibleFor s allow q
   impossible-for = record {

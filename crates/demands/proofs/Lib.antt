@@ -12,6 +12,7 @@ pub mod Sheets
 pub mod Impossibility
 pub mod Answering
 pub mod Verdicts
+pub mod Foresight
 pub mod OurStarts
 pub mod Planning
 pub mod Examples

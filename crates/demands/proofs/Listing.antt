@@ -1,13 +1,12 @@
 -- The waits that are listed are those of document 01, and the maps and the count say the same as the list.
 use mathlib.Core.Path.{_≡_, refl, sym, ap, ap₂, _∙_}
-use mathlib.Core.Bool.{Bool, true, false}
+use mathlib.Core.Bool.{Bool, true}
 use mathlib.Core.Logic.{_↔_}
 use mathlib.Core.List.{List, List·Memᴰ, Memᴰ·cast}
-use Prim.Native.Nat.{ℕ, _^_, _≤_, _<_}
+use Prim.Native.Nat.{ℕ, _^_, _<_}
 use native.Mathlib.Omega.{arith}
 use native.Mathlib.Decide.{decLt}
 use lib.Pow.{pow-mono}
-use native.Mathlib.Nat.{zero-div}
 use Rattle.definitions.specs.Basics.{test-bit, given}
 use Rattle.definitions.specs.Bytes.{Records}
 use Rattle.definitions.specs.Links.{Edge, members}
@@ -20,24 +19,14 @@ use Rattle.laws.proofs.Outcomes.{when-given-by}
 use Rattle.theory.proofs.Walks.{member-below}
 use Rattle.theory.proofs.DecidingSets.{decides-iff}
 use Rattle.demands.proofs.Meaning.{waits-shape, wait-of}
-use Rattle.laws.proofs.Bools.{both-ways}
-use Rattle.laws.proofs.Tests.{tabulate-length, tabulate-past}
+use Rattle.laws.proofs.Tests.{tabulate-length}
 use Rattle.theory.specs.Graphs.{Shape}
-use Rattle.theory.proofs.WaitLists.{wait-listed, listed-wait, wait-target-below, wait-map-iff, wait-map-small, wait-maps-at}
+use Rattle.theory.proofs.WaitLists.{wait-listed, listed-wait, wait-map-small, wait-maps-at, wait-maps-iff, wait-maps-past}
 use Rattle.theory.proofs.WaitCounts.{wait-count-bits}
 use Rattle.demands.specs.Demands.{Rising, WaitBefore, ListedFor, LinesFor, Accepted, LineBefore, sheet-lines, wait-pair, sheet-waits}
 use Rattle.demands.proofs.Reading.{Fits}
 use Rattle.demands.proofs.Edges.{sheet-shape}
 use Rattle.demands.proofs.Orders.{pairs-rising, pairs-has, pairs-only}
-
--- No bit stands in 0.
-no-bits : (a : ℕ) → test-bit 0 a ≡ false
-unfolding test-bit
-no-bits a = rw (zero-div (2 ^ a))
-
-maps-past : (n : ℕ) (es : List Edge) (i : ℕ) → 64 ≤ i → cell (wait-maps n es) i ≡ 0
-unfolding wait-maps
-maps-past n es i h = tabulate-past (wait-map n es) 64 i 0 h
 
 -- They are the pairs that wait, in rising order.
 waits-rising : (n : ℕ) (es : List Edge) → Rising WaitBefore (wait-list n es)
@@ -55,23 +44,19 @@ module _ {q : Records} (fits : Fits q) where
   pub listed-iff : (a i : ℕ) → List·Memᴰ (wait-pair a i) (sheet-waits q) ↔ Wait (members (edges-of q)) a i
   listed-iff a i = (λ m. listed-wait (sheet-shape fits) m, λ w. wait-listed (sheet-shape fits) w)
 
-  maps-bits : (a i : ℕ) → Dec (i < 64) → (test-bit (cell (wait-maps n es) i) a ≡ true) ↔ List·Memᴰ (wait-pair a i) (sheet-waits q)
-  maps-bits a i (yes c) =
-      let r = wait-map-iff (sheet-shape fits) i a in
+  maps-bits : (a i : ℕ) → (test-bit (cell (wait-maps n es) i) a ≡ true) ↔ List·Memᴰ (wait-pair a i) (sheet-waits q)
+  maps-bits a i =
+      let r = wait-maps-iff (fits .few) (sheet-shape fits) i a in
       let l = listed-iff a i in
-      (λ h. l .1 (r .0 (ap (λ (m : ℕ). test-bit m a) (sym (wait-maps-at n es i c)) ∙ h)), λ m. ap (λ (x : ℕ). test-bit x a) (wait-maps-at n es i c) ∙ r .1 (l .0 m))
-  maps-bits a i (no c) = (
-    λ h. absurd (both-ways h (ap (λ (m : ℕ). test-bit m a) (maps-past n es i (omega arith)) ∙ no-bits a)),
-    λ m. absurd (omega (arith, wait-target-below (sheet-shape fits) (listed-iff a i .0 m), fits .few)),
-  )
+      (λ h. l .1 (r .0 h), λ m. r .1 (l .0 m))
 
   maps-small : (i : ℕ) → Dec (i < 64) → cell (wait-maps n es) i < 2 ^ 64
   maps-small i (yes c) = omega (arith, wait-maps-at n es i c, wait-map-small n es i, pow-mono (fits .few))
-  maps-small i (no c) = omega (arith, maps-past n es i (omega arith))
+  maps-small i (no c) = omega (arith, wait-maps-past n es i (omega arith))
 
   pub listed-for : ListedFor q
   unfolding wait-maps wait-count
-  listed-for = record { listed = listed-iff; each = wait-of fits; order = waits-rising n es; maps-size = tabulate-length (wait-map n es) 64; maps-small = λ i. maps-small i (decLt i 64); maps-bits = λ a i. maps-bits a i (decLt i 64); count-list = refl; count-maps = wait-count-bits n es (fits .few) }
+  listed-for = record { listed = listed-iff; each = wait-of fits; order = waits-rising n es; maps-size = tabulate-length (wait-map n es) 64; maps-small = λ i. maps-small i (decLt i 64); maps-bits = maps-bits; count-list = refl; count-maps = wait-count-bits n es (fits .few) }
 
 -- Start lines are the pairs of a step and one that decides it, in rising order. One that decides is a member of a start set, and so a step.
 line-of : (n : ℕ) (es : List Edge) (i a : ℕ) → StartLine

@@ -15,10 +15,10 @@ use Rattle.definitions.specs.declared.Delay.the-variants.{Open}
 use Rattle.laws.proofs.Bools.{both-ways, not-passing}
 use Rattle.laws.proofs.Tests.{any-has, any-by, any-below-has, any-below-by}
 use Rattle.theory.specs.Graphs.{Shape}
-use Rattle.theory.proofs.Walks.{walk-to, joined-mono, chain-after}
+use Rattle.theory.proofs.Walks.{after-mono, some-after, walk-to, joined-mono, chain-after}
 use Rattle.theory.proofs.Reachability.{forwards-mem, mem-forwards, forwards-shape, reaches-iff, after-reaches-iff, in-anchor-set-iff, well-posed-iff}
 use Rattle.theory.proofs.Serialization.{after-back, wait-after}
-use Rattle.theory.proofs.WaitLists.{serialized-waited, serialized-shape, listed-wait, wait-list-only}
+use Rattle.theory.proofs.WaitLists.{serialized-waited, serialized-shape, usable-reaches-iff, listed-wait, wait-list-only}
 use Rattle.definitions.specs.Waits.{WaitPair}
 use Rattle.demands.specs.Demands.{Meant, MeantFor, WaitOf, sheet-waits}
 use Rattle.demands.proofs.Reading.{Fits}
@@ -55,6 +55,7 @@ module _ {n : ℕ} {es : List Edge} (some : 0 < n) (shape : Shape n (members es)
   meant = record {
     walks = λ x v b. reaches-iff shape b v;
     after-walks = after-reaches-iff shape;
+    end-walks = usable-reaches-iff shape;
     start-sets = in-anchor-set-iff shape;
     sound = well-posed-iff shape;
     circle = (circle-walk, λ r. walk-circle refl (r .4));
@@ -75,7 +76,7 @@ pub wait-of : {q : Records} → Fits q → (w : WaitPair) → List·Memᴰ w (sh
 wait-of {q} fits w m =
     let below = wait-list-only (count-of q) (edges-of q) m in
     let a = wait-after (listed-wait (sheet-shape fits) m) in
-    record { anchor-below = below .0; target-below = below .1; not-source = a .walk .not-source; lasts = after-open fits a }
+    record { anchor-below = below .0; target-below = below .1; not-source = a .walk .not-source; lasts = after-open fits (some-after (after-mono (λ e i. i .0) (a .walk))) }
 
 -- The sheet with its waits in has the shape of a sheet.
 module _ {q : Records} (fits : Fits q) where

@@ -11,17 +11,17 @@ use Rattle.definitions.specs.Links.{Edge, members, Constraint, constraints, del
 use Rattle.definitions.specs.Waits.{WaitPair, needs-waits, wait-edge, serialized}
 use Rattle.definitions.specs.Anchors.{WellPosed}
 use Rattle.definitions.specs.Rival.{Further, Extension}
-use Rattle.definitions.specs.Answers.{count-of, edges-of, serialized-of}
+use Rattle.definitions.specs.Answers.{count-of, edges-of, serialized-of, unserializable}
 use Rattle.definitions.specs.declared.Delay.{Delay}
 use Rattle.definitions.specs.declared.Delay.the-variants.{Open, Fixed}
-use Rattle.theory.specs.Graphs.{Schedule, Well}
+use Rattle.theory.specs.Graphs.{Schedule, Serializable, Well}
 use Rattle.theory.proofs.Plans.{plan-posed, plan-keeps-waits, plan-least-unwaited, plan-least-rival}
-use Rattle.demands.specs.Demands.{Accepted, KeepsLinks, KeptFor, OursAmong, our-start, sheet-waits, wait-link}
+use Rattle.demands.specs.Demands.{Accepted, KeepsLinks, KeptFor, OursAmong, our-start, sheet-waits, wait-link, links-and-waits, NoLateLinks}
 use Rattle.demands.proofs.Reading.{Fits, read-fits}
-use Rattle.demands.proofs.Edges.{keeps-schedule, schedule-keeps, sheet-shape, rival-shape, rival-above}
+use Rattle.demands.proofs.Edges.{keeps-schedule, schedule-keeps, sheet-shape, sheet-timely, rival-shape, rival-above, rival-timely}
 use Rattle.demands.proofs.Judging.{Passes, judge-given, judged-edges}
 use Rattle.demands.proofs.Meaning.{wait-of}
-use Rattle.demands.proofs.Sheets.{passes-well}
+use Rattle.demands.proofs.Sheets.{passes-well, serializable-iff}
 use Rattle.demands.proofs.Impossibility.{keeps-sheet}
 
 -- What acceptance says.
@@ -29,17 +29,20 @@ module _ {s : List ℕ} {allow : Bool} {q : Records} {v : ℕ} (accepted : Accep
   pub accepted-fits : Fits q
   accepted-fits = read-fits s q (accepted .sheet .bytes) (accepted .sheet .reads)
 
-  accepted-judged : Passes (count-of q) (edges-of q) × ((needs-waits (count-of q) (edges-of q) && not allow) ≡ false) × (cond (needs-waits (count-of q) (edges-of q)) 1 0 ≡ v)
+  accepted-judged : Passes (count-of q) (edges-of q) × (unserializable (count-of q) (edges-of q) ≡ false) × ((needs-waits (count-of q) (edges-of q) && not allow) ≡ false) × (cond (needs-waits (count-of q) (edges-of q)) 1 0 ≡ v)
   accepted-judged = judge-given (count-of q) (edges-of q) allow v .0 (sym (judged-edges s (accepted .sheet .reads) allow) ∙ accepted .accepts)
 
   pub accepted-passes : Passes (count-of q) (edges-of q)
   accepted-passes = accepted-judged .0
 
   pub accepted-verdict : cond (needs-waits (count-of q) (edges-of q)) 1 0 ≡ v
-  accepted-verdict = accepted-judged .2
+  accepted-verdict = accepted-judged .3
 
   pub accepted-well : Well (count-of q) (members (edges-of q))
   accepted-well = passes-well (accepted-fits .some) (sheet-shape accepted-fits) accepted-passes
+
+  pub accepted-serial : Serializable (members (serialized (count-of q) (edges-of q)))
+  accepted-serial = serializable-iff (accepted-fits .some) (sheet-shape accepted-fits) (accepted-well .rooted) .0 (accepted-judged .1)
 
 -- Verdict 0 says that no waits are needed.
 pub verdict-zero : (b : Bool) → (cond {A = ℕ} b 1 0 ≡ 0) ↔ (b ≡ false)
@@ -47,13 +50,13 @@ verdict-zero true = (λ h. absurd (omega arith), λ h. let z : _≡_ {A = ℕ} 1
 verdict-zero false = (λ h. refl, λ h. refl)
 
 -- A wait is for an open step other than 0: as an after link it counts that step's delay.
-open-duration : (d : ℕ → ℕ) (i : ℕ) (x : Delay) → i ≢ 0 → x ≡ Open → duration-with d i x ≡ d i
+pub open-duration : (d : ℕ → ℕ) (i : ℕ) (x : Delay) → i ≢ 0 → x ≡ Open → duration-with d i x ≡ d i
 unfolding duration-with
 open-duration d zero x z e = absurd (z refl)
 open-duration d (suc i) Open z e = refl
 open-duration d (suc i) (Fixed t) z e = let c : _≡_ {A = ℕ} 0 1 = cc in absurd (omega arith)
 
-open-edge : (i j : ℕ) (x : Delay) → i ≢ 0 → x ≡ Open → sequencing-edge x i j ≡ record { from = i; to = j; gain = 0; loss = 0; counted = true; back = false }
+open-edge : (i j : ℕ) (x : Delay) → i ≢ 0 → x ≡ Open → sequencing-edge x i j ≡ record { from = i; to = j; gain = 0; loss = 0; counted = true; back = false; late = false }
 unfolding sequencing-edge
 open-edge i j Open z e = rw (ne-eqb i 0 z)
 open-edge i j (Fixed t) z e = let c : _≡_ {A = ℕ} 0 1 = cc in absurd (omega arith)
@@ -63,17 +66,13 @@ map-agree : {A B : Type 0} (f g : A → B) (l : List A) → ((x : A) → List·M
 map-agree f g [] h = refl
 map-agree f g (x ∷ l) h = let rest = map-agree f g l (λ y m. h y (List·Memᴰ·tail m)) in let head = h x (List·Memᴰ·head refl) in rw (head, rest)
 
--- The links of a sheet, and its waits as after links.
-abbrev pub with-waits : Records → List Constraint
-with-waits q = constraints (q .pairs) ++ map wait-link (sheet-waits q)
-
 module _ {q : Records} (fits : Fits q) where
   -- The edge of a wait is that of its after link; so the edges of the sheet with its waits are those of the links and the waits' links.
   wait-edge-link : (w : WaitPair) → List·Memᴰ w (sheet-waits q) → edge-of (q .steps) (wait-link w) ≡ wait-edge w
   unfolding edge-of
   wait-edge-link w m = let r = wait-of fits w m in open-edge (w .anchor) (w .target) (delay-at (q .steps) (w .anchor)) (r .not-source) (r .lasts)
 
-  pub edges-with-waits : edges (q .steps) (with-waits q) ≡ serialized-of q
+  pub edges-with-waits : edges (q .steps) (links-and-waits q) ≡ serialized-of q
   unfolding edges serialized-of serialized edges-of
   edges-with-waits =
       map-append (edge-of (q .steps)) (constraints (q .pairs)) (map wait-link (sheet-waits q))
@@ -85,11 +84,11 @@ module _ {s : List ℕ} {allow : Bool} {q : Records} {v : ℕ} (accepted : Accep
 
   schedule : (d : ℕ → ℕ) → d 0 ≡ 0 → Schedule (members (serialized-of q)) d (our-start q d)
   unfolding serialized-of
-  schedule d d0 = plan-keeps-waits (accepted-well accepted) d d0
+  schedule d d0 = plan-keeps-waits (accepted-well accepted) (accepted-serial accepted) d d0
 
   -- Our starts keep the links and the waits' links together.
-  all-kept : (d : ℕ → ℕ) → d 0 ≡ 0 → KeepsAll (q .steps) (with-waits q) d (our-start q d)
-  all-kept d d0 = schedule-keeps (q .steps) d (our-start q d) (with-waits q) (subst (λ (l : List Edge). Schedule (members l) d (our-start q d)) (sym (edges-with-waits fits)) (schedule d d0))
+  all-kept : (d : ℕ → ℕ) → d 0 ≡ 0 → KeepsAll (q .steps) (links-and-waits q) d (our-start q d)
+  all-kept d d0 = schedule-keeps (q .steps) d (our-start q d) (links-and-waits q) (subst (λ (l : List Edge). Schedule (members l) d (our-start q d)) (sym (edges-with-waits fits)) (schedule d d0))
 
   pub kept-for : (d : ℕ → ℕ) → d 0 ≡ 0 → KeptFor q d
   kept-for d d0 =
@@ -97,9 +96,9 @@ module _ {s : List ℕ} {allow : Bool} {q : Records} {v : ℕ} (accepted : Accep
       record { links = record { starts = k .starts; keeps = λ c m. k .keeps c (Memᴰ·append-left (map wait-link (sheet-waits q)) m) }; waits = λ w m. k .keeps (wait-link w) (Memᴰ·append-right (constraints (q .pairs)) (Memᴰ·map wait-link m)) }
 
   -- The waits' links are further links, and with them the sheet is sound.
-  pub ours-among : (d : ℕ → ℕ) → d 0 ≡ 0 → OursAmong q d (with-waits q)
+  pub ours-among : (d : ℕ → ℕ) → d 0 ≡ 0 → OursAmong q d (links-and-waits q)
   unfolding serialized-of
-  ours-among d d0 = record { extension = record { keeps-all = λ c m. Memᴰ·append-left (map wait-link (sheet-waits q)) m; only = λ c m. only c (List·Memᴰ·append-cases (constraints (q .pairs)) m); well-posed = subst (λ (l : List Edge). WellPosed (members l)) (sym (edges-with-waits fits)) (plan-posed (accepted-well accepted)) }; kept = all-kept d d0 }
+  ours-among d d0 = record { extension = record { keeps-all = λ c m. Memᴰ·append-left (map wait-link (sheet-waits q)) m; only = λ c m. only c (List·Memᴰ·append-cases (constraints (q .pairs)) m); well-posed = subst (λ (l : List Edge). WellPosed (members l)) (sym (edges-with-waits fits)) (plan-posed (accepted-well accepted) (accepted-serial accepted)) }; kept = all-kept d d0 }
     where
       further : (w : WaitPair) → List·Memᴰ w (sheet-waits q) → Further (count-of q) (wait-link w)
       further w m = let r = wait-of fits w m in (r .anchor-below, r .target-below)
@@ -108,12 +107,14 @@ module _ {s : List ℕ} {allow : Bool} {q : Records} {v : ℕ} (accepted : Accep
       only c (inl m) = inl m
       only c (inr m) = let r = Memᴰ·of-map wait-link (sheet-waits q) m in inr (subst (Further (count-of q)) (r .2) (further (r .0) (r .1)))
 
-  -- Nobody is earlier. With verdict 0 the sheet is sound as sent; with waits every rival's sheet keeps them already.
-  pub earliest : v ≡ 0 → (d t : ℕ → ℕ) → d 0 ≡ 0 → KeepsLinks q d t → (i : ℕ) → i < count-of q → our-start q d i ≤ t i
-  unfolding serialized-of
-  earliest h d t d0 k = plan-least-unwaited (accepted-well accepted) (verdict-zero (needs-waits (count-of q) (edges-of q)) .0 (accepted-verdict accepted ∙ h)) d0 (keeps-sheet q d t .0 k)
+  -- Nobody is earlier, on sheets without late links. With verdict 0 the sheet is sound as sent; with waits every rival's sheet keeps them already.
+  module _ (timely : NoLateLinks q) where
+    pub earliest : v ≡ 0 → (d t : ℕ → ℕ) → d 0 ≡ 0 → KeepsLinks q d t → (i : ℕ) → i < count-of q → our-start q d i ≤ t i
+    unfolding serialized-of
+    earliest h d t d0 k =
+        plan-least-unwaited (accepted-well accepted) (accepted-serial accepted) (sheet-timely fits timely) (verdict-zero (needs-waits (count-of q) (edges-of q)) .0 (accepted-verdict accepted ∙ h)) d0 (keeps-sheet q d t .0 k)
 
-  pub earliest-of-rivals : (fs : List Constraint) → Extension (q .steps) (constraints (q .pairs)) fs → (d t : ℕ → ℕ) → d 0 ≡ 0 → KeepsAll (q .steps) fs d t → (i : ℕ) → i < count-of q → our-start q d i ≤ t i
-  unfolding serialized-of
-  earliest-of-rivals fs extension d t d0 k =
-      plan-least-rival (accepted-well accepted) (rival-above fits extension) (rival-shape fits extension) (extension .well-posed) d0 (keeps-schedule (q .steps) d t fs k)
+    pub earliest-of-rivals : (fs : List Constraint) → Extension (q .steps) (constraints (q .pairs)) fs → (d t : ℕ → ℕ) → d 0 ≡ 0 → KeepsAll (q .steps) fs d t → (i : ℕ) → i < count-of q → our-start q d i ≤ t i
+    unfolding serialized-of
+    earliest-of-rivals fs extension d t d0 k =
+        plan-least-rival (accepted-well accepted) (accepted-serial accepted) (sheet-timely fits timely) (rival-above fits extension) (rival-shape fits extension) (extension .well-posed) (rival-timely fits extension timely) d0 (keeps-schedule (q .steps) d t fs k)

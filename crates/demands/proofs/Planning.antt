@@ -12,27 +12,27 @@ use Rattle.definitions.specs.Basics.{any-below, largest}
 use Rattle.definitions.specs.Bytes.{Records}
 use Rattle.definitions.specs.Links.{Edge, members, Forward, delay-at}
 use Rattle.definitions.specs.Anchors.{InAnchorSet}
-use Rattle.definitions.specs.Waits.{WaitPair, wait-list, wait-count, needs-waits}
+use Rattle.definitions.specs.Waits.{WaitPair, wait-list, wait-count, needs-waits, serialized}
 use Rattle.definitions.specs.Plan.{start-times, overrides, decides, plan-entry, delays}
 use Rattle.definitions.specs.Answers.{count-of, edges-of, serialized-of}
 use Rattle.laws.proofs.Bools.{bool-cases, both-ways, and-join, not-passing}
 use Rattle.laws.proofs.Tests.{any-below-has, any-below-by}
-use Rattle.theory.specs.Graphs.{Shape, Well, Acyclic, Relative, Decides, Overrides, sole-delay}
-use Rattle.theory.proofs.Walks.{member-below, chain-after}
+use Rattle.theory.specs.Graphs.{Shape, Well, Acyclic, Relative, Decides, Overrides, Serializable, sole-delay}
+use Rattle.theory.proofs.Walks.{member-below}
+use Rattle.theory.proofs.Serialization.{forward-acyclic}
 use Rattle.theory.proofs.Reachability.{in-anchor-set-iff}
 use Rattle.theory.proofs.WaitLists.{needs-waits-iff}
-use Rattle.theory.proofs.StartTimes.{relative-all, start-times-length, start-times-source, start-times-rule}
+use Rattle.theory.proofs.StartTimes.{start-times-length, start-times-source, start-times-rule}
 use Rattle.theory.proofs.DecidingSets.{overrides-iff, decides-iff}
 use Rattle.theory.proofs.PlanTables.{plan-table-length, plan-table-at, plan-table-row}
-use Rattle.theory.proofs.Plans.{plan-some, plan-well, plan-posed, plan-forward-acyclic, plan-wait-other, plan-wait-not-source, plan-relative, plan-enough, plan-offset-limit, plan-start-limit-64, plan-strict, plan-deciding-least}
+use Rattle.theory.proofs.Plans.{plan-some, plan-posed, plan-wait-other, plan-wait-not-source, plan-relative, plan-enough, plan-offset-limit, plan-start-limit-64, plan-strict, plan-deciding-least}
 use Rattle.demands.specs.Demands.{Accepted, IsDelayList, in-start-set, sheet-offset, sheet-decides, our-start, term, WaitsFor, OffsetFor, StartRuleFor, GivesStart, Needed, LeftOut, DecidingFor, PlanFor}
 use Rattle.demands.proofs.Reading.{Fits}
 use Rattle.demands.proofs.Edges.{sheet-shape, sheet-gains}
 use Rattle.demands.proofs.Meaning.{waits-shape, meant-for}
 use Rattle.demands.proofs.Listing.{listed-iff}
 use Rattle.demands.proofs.DelayLists.{list-within, limit-most, source-zero, sole-list, sole-delays, sole-allowed}
-use Rattle.demands.proofs.Sheets.{not-8}
-use Rattle.demands.proofs.OurStarts.{accepted-fits, accepted-passes, accepted-verdict, accepted-well, verdict-zero}
+use Rattle.demands.proofs.OurStarts.{accepted-fits, accepted-serial, accepted-verdict, accepted-well, verdict-zero}
 
 -- Waits are needed exactly if the list of waits is not empty.
 needs-none : (n : ℕ) (es : List Edge) → (needs-waits n es ≡ false) ↔ (wait-list n es ≡ [])
@@ -53,6 +53,9 @@ module _ {s : List ℕ} {allow : Bool} {q : Records} {v : ℕ} (accepted : Accep
   well : Well n (members (edges-of q))
   well = accepted-well accepted
 
+  serial : Serializable (members (serialized n (edges-of q)))
+  serial = accepted-serial accepted
+
   unneeded : (v ≡ 0) ↔ (needs-waits n (edges-of q) ≡ false)
   unneeded =
       let r = verdict-zero (needs-waits n (edges-of q)) in
@@ -67,11 +70,11 @@ module _ {s : List ℕ} {allow : Bool} {q : Records} {v : ℕ} (accepted : Accep
         verdicts = verdict-of (needs-waits n (edges-of q)) (accepted-verdict accepted);
         sound = (λ h. sound .0 (unneeded .0 h), λ h. unneeded .1 (sound .1 h));
         none = (λ h. none .0 (unneeded .0 h), λ h. unneeded .1 (none .1 h));
-        itself = λ a m. plan-wait-other well (listed-iff fits a a .0 m) refl;
-        source = λ a m. plan-wait-not-source well (listed-iff fits a 0 .0 m) refl;
-        then-sound = plan-posed well;
-        then-no-circle = plan-forward-acyclic well (not-8 (fits .some) (sheet-shape fits) (accepted-passes accepted .no-circle));
-        then-no-gain = λ x k g l w. plan-well well .never .closed w;
+        itself = λ a m. plan-wait-other well serial (listed-iff fits a a .0 m) refl;
+        source = λ a m. plan-wait-not-source well serial (listed-iff fits a 0 .0 m) refl;
+        then-sound = plan-posed well serial;
+        then-no-circle = λ r. serial .acyclic (r .0) (r .1) (r .2) (r .3) (r .4);
+        then-no-gain = λ x k g l w. serial .never .closed w;
       }
     where
       verdict-of : (b : Bool) → cond b 1 0 ≡ v → (v ≡ 0) ⊎ (v ≡ 1)
@@ -87,16 +90,16 @@ module _ {s : List ℕ} {allow : Bool} {q : Records} {v : ℕ} (accepted : Accep
 
   acyclic : Acyclic (Forward (members (serialized-of q)))
   unfolding serialized-of
-  acyclic a w = plan-well well .acyclic a (chain-after w)
+  acyclic = forward-acyclic (serial .acyclic)
 
   -- Our starts are the largest of the terms: none is above, and one is met.
   relative : (d : ℕ → ℕ) → d 0 ≡ 0 → Relative n (members (serialized-of q)) d (our-start q d) (sheet-offset q)
   unfolding serialized-of
-  relative d d0 = relative-all (plan-relative well d d0)
+  relative d d0 = plan-relative well serial d d0
 
   offset-most : (a i : ℕ) → i < n → in-start-set q a i ≡ true → sheet-offset q a i ≤ 4128705
   unfolding serialized-of
-  offset-most a i b h = plan-offset-limit well (sheet-gains fits) (fits .few) a i b (member a i .0 h)
+  offset-most a i b h = plan-offset-limit well serial (sheet-gains fits) (fits .few) a i b (member a i .0 h)
 
   pub offset-for : (a i : ℕ) → i < n → in-start-set q a i ≡ true → OffsetFor q a i
   offset-for a i b h = record { heaviest = relative (λ x. 0) refl .offsets a i b (member a i .0 h); small = offset-most a i b h }
@@ -106,7 +109,7 @@ module _ {s : List ℕ} {allow : Bool} {q : Records} {v : ℕ} (accepted : Accep
   unfolding serialized-of
   starts-most list L i (no c) = omega (arith, List·getD-eq-default (start-times n (serialized-of q) (delays list)) 0 {n = i} (omega (arith, start-times-length n (serialized-of q) (delays list))))
   starts-most list L i (yes c) =
-      plan-start-limit-64 well (sheet-gains fits) (fits .few) (delays list) (source-zero (q .steps) list (fits .some) (L .within)) (λ a b. omega (arith, list-within (q .steps) list (L .within) a b, limit-most a (delay-at (q .steps) a))) i c
+      plan-start-limit-64 well serial (sheet-gains fits) (fits .few) (delays list) (source-zero (q .steps) list (fits .some) (L .within)) (λ a b. omega (arith, list-within (q .steps) list (L .within) a b, limit-most a (delay-at (q .steps) a))) i c
 
   pub start-rule-for : StartRuleFor q
   start-rule-for = record { source = λ d. start-times-source shape d; rule = λ d i b. start-times-rule shape d acyclic (suc i) b (λ e. omega arith); small = λ list L i. starts-most list L i (decLt i n); narrow = λ list L i. omega (arith, starts-most list L i (decLt i n)) }
@@ -120,11 +123,11 @@ module _ {s : List ℕ} {allow : Bool} {q : Records} {v : ℕ} (accepted : Accep
 
     enough : (d : ℕ → ℕ) → d 0 ≡ 0 → our-start q d i ≡ largest (λ a. sheet-decides q a i) (term q d i) n
     unfolding serialized-of
-    enough d d0 = plan-enough well d d0 i inside
+    enough d d0 = plan-enough well serial d d0 i inside
 
     some : (a : ℕ) × (sheet-decides q a i ≡ true)
     unfolding serialized-of
-    some = let r = plan-some well i inside in (r .0, r .2)
+    some = let r = plan-some well serial i inside in (r .0, r .2)
 
     deciding-part : GivesStart q i (λ a. sheet-decides q a i)
     deciding-part = record { some = some; within = decided-member; same = λ list L. enough (delays list) (source-zero (q .steps) list (fits .some) (L .within)) }
@@ -142,13 +145,13 @@ module _ {s : List ℕ} {allow : Bool} {q : Records} {v : ℕ} (accepted : Accep
         let m = decided-member a h in
         let b = P .some .0 in
         let same : our-start q (sole-delay 16777215 a) i ≡ largest part (term q (sole-delay 16777215 a) i) n = subst (λ (d : ℕ → ℕ). our-start q d i ≡ largest part (term q d i) n) (sole-delays n a (below a m)) (P .same (sole-list n a) (shows a m)) in
-        plan-deciding-least well (sheet-gains fits) (fits .few) part a i inside (P .within) (any-below-by part n (below b (P .within b (P .some .1))) (P .some .1)) same h
+        plan-deciding-least well serial (sheet-gains fits) (fits .few) part a i inside (P .within) (any-below-by part n (below b (P .within b (P .some .1))) (P .some .1)) same h
 
     needed-by : (a : ℕ) → sheet-decides q a i ≡ true → Needed q a i
     unfolding serialized-of
     needed-by a h =
         let m = decided-member a h in
-        record { list = sole-list n a; allowed = shows a m; alone = λ b other k. subst (λ (d : ℕ → ℕ). term q d i b < term q d i a) (sym (sole-delays n a (below a m))) (plan-strict well (sheet-gains fits) (fits .few) a i inside h b other (member b i .0 k)) }
+        record { list = sole-list n a; allowed = shows a m; alone = λ b other k. subst (λ (d : ℕ → ℕ). term q d i b < term q d i a) (sym (sole-delays n a (below a m))) (plan-strict well serial (sheet-gains fits) (fits .few) a i inside h b other (member b i .0 k)) }
 
     -- Left out: by the criterion of document 01.
     left-out-by : (a : ℕ) → in-start-set q a i ≡ true → sheet-decides q a i ≡ false → (b : ℕ) × LeftOut q a i b

@@ -1,6 +1,6 @@
 -- What holds of a sheet that has been read, and of a refusal of reading: the limits of document 01 on its numbers of steps and records, its first step, its durations, and the ends and ticks of its links.
 -- A fact about each parser is carried through the parsers that are built from it, as their text goes.
-use mathlib.Core.Path.{_≡_, refl, sym, ap, _∙_}
+use mathlib.Core.Path.{_≡_, refl, sym, ap, subst, _∙_}
 use mathlib.Core.Bool.{Bool, true, false, not, _&&_}
 use mathlib.Core.Logic.{_⊎_, inl, inr, _≢_}
 use mathlib.Core.List.{List, [], _∷_, List·Memᴰ, List·Memᴰ·head, List·Memᴰ·tail, List·Memᴰ·not-nil, List·Memᴰ·cases-cons}
@@ -11,7 +11,7 @@ use native.Mathlib.Decide.{decLt}
 use lib.ListN.{length, getD, List·getD-eq-default}
 use borrow.Author.Tests.{ltb-true, leb-true, eqb-true, eqb-false, not-true}
 use Rattle.definitions.specs.Basics.{test-bit, Outcome, given, refused, when-given}
-use Rattle.definitions.specs.Bytes.{Taken, Parser, _>>=_, give, demand, byte, two-bytes, ticks-if, operation-map, delay-from, operation, link-map, endpoints, rises, bound-from, link, records, operations, pair-of, links, at-end, Records, sheet, read, blank-operation}
+use Rattle.definitions.specs.Bytes.{Taken, Parser, _>>=_, give, demand, byte, two-bytes, ticks-if, operation-map, delay-from, operation, link-map, sequenced, endpoints, rises, bound-from, link, records, operations, pair-of, links, at-end, Records, sheet, read, blank-operation}
 use Rattle.definitions.specs.Links.{delay-at}
 use Rattle.definitions.specs.declared.Delay.the-variants.{Open, Fixed}
 use Rattle.definitions.specs.declared.Operation.{Operation}
@@ -22,12 +22,12 @@ use Rattle.definitions.specs.declared.Previous.the-variants.{Nothing}
 use Rattle.laws.proofs.Bools.{and-split}
 use Rattle.laws.proofs.Lists.{mem-at}
 use Rattle.laws.proofs.Outcomes.{given-same, given-not-refused, refused-same, when-given-has}
-use Rattle.demands.specs.Demands.{Bytes}
+use Rattle.demands.specs.Demands.{Bytes, FromReading}
 
--- Whatever a parser takes from bytes has the property P, and bytes are left; whatever it refuses with is at most 7.
+-- Whatever a parser takes from bytes has the property P, and bytes are left; whatever it refuses with is a refusal of reading.
 record Takes {A : Type 0} (p : Parser A) (P : A → Type 0) : Type 0 where
   each : (s : List ℕ) → Bytes s → (t : Taken A) → p s ≡ given t → P (t .value) × Bytes (t .rest)
-  most : (s : List ℕ) → Bytes s → (k : ℕ) → p s ≡ refused k → k ≤ 7
+  most : (s : List ℕ) → Bytes s → (k : ℕ) → p s ≡ refused k → FromReading k
 
 takes-give : {A : Type 0} {P : A → Type 0} (a : A) → P a → Takes (give a) P
 takes-give {P = P} a h = record { each = λ s b t e. let z = given-same e in (rw (← z) h, rw (← z) b); most = λ s b k e. absurd (given-not-refused e) }
@@ -40,14 +40,14 @@ takes-bind {A} {B} {p} {f} {P} {Q} g h = record { each = λ s b t e. taken s b t
     taken s b t (given u) e i = let r = g .each s b u e in h (u .value) (r .0) .each (u .rest) (r .1) t i
     taken s b t (refused k) e i = absurd (given-not-refused (sym i))
 
-    refuses : (s : List ℕ) → Bytes s → (k : ℕ) (o : Outcome (Taken A)) → p s ≡ o → when-given o (λ u. f (u .value) (u .rest)) ≡ refused k → k ≤ 7
+    refuses : (s : List ℕ) → Bytes s → (k : ℕ) (o : Outcome (Taken A)) → p s ≡ o → when-given o (λ u. f (u .value) (u .rest)) ≡ refused k → FromReading k
     refuses s b k (given u) e i = let r = g .each s b u e in h (u .value) (r .0) .most (u .rest) (r .1) k i
-    refuses s b k (refused l) e i = let same : l ≡ k = refused-same i in omega (arith, g .most s b l e)
+    refuses s b k (refused l) e i = subst FromReading (refused-same i) (g .most s b l e)
 
-takes-demand : (b : Bool) (k : ℕ) → k ≤ 7 → Takes (demand b k) (λ u. b ≡ true)
+takes-demand : (b : Bool) (k : ℕ) → FromReading k → Takes (demand b k) (λ u. b ≡ true)
 unfolding demand
 takes-demand true k h = takes-give tt refl
-takes-demand false k h = record { each = λ s b t e. absurd (given-not-refused (sym e)); most = λ s b l e. let same : k ≡ l = refused-same e in omega arith }
+takes-demand false k h = record { each = λ s b t e. absurd (given-not-refused (sym e)); most = λ s b l e. subst FromReading (refused-same e) h }
 
 takes-byte : Takes byte (λ b. b < 256)
 unfolding byte
@@ -59,8 +59,8 @@ takes-byte = record { each = taken; most = refuses }
         let z = given-same e in
         (rw (← z) (b x (List·Memᴰ·head refl)), rw (← z) (λ c m. b c (List·Memᴰ·tail m)))
 
-    refuses : (s : List ℕ) → Bytes s → (k : ℕ) → byte s ≡ refused k → k ≤ 7
-    refuses [] b k e = let same : 1 ≡ k = refused-same e in omega arith
+    refuses : (s : List ℕ) → Bytes s → (k : ℕ) → byte s ≡ refused k → FromReading k
+    refuses [] b k e = subst FromReading (refused-same e) (inl (omega arith))
     refuses (x ∷ s) b k e = absurd (given-not-refused e)
 
 takes-two-bytes : Takes two-bytes (λ x. x ≤ 65535)
@@ -91,7 +91,7 @@ takes-operation : (first : Bool) → Takes (operation first) (OperationFits firs
 unfolding operation
 takes-operation first =
     takes-bind takes-byte
-    (λ m bm. takes-bind (takes-demand (operation-map first m) 4 (omega arith))
+    (λ m bm. takes-bind (takes-demand (operation-map first m) 4 (inl (omega arith)))
     (λ u allowed. takes-bind (takes-ticks (test-bit m 1))
     (λ ticks few. takes-give (record { delay = delay-from (test-bit m 0) ticks }) (record { source = source-open first m ticks allowed; ticks = λ x e. delay-fits (test-bit m 0) ticks x few e }))))
 
@@ -102,6 +102,7 @@ pub record LinkFits (n : ℕ) (l : Link) : Type 0 where
   pub apart : l .from ≢ l .to
   pub minimum-few : (m : ℕ) → l .minimum ≡ Ticks m → m ≤ 65535
   pub maximum-few : (u : ℕ) → l .maximum ≡ Ticks u → u ≤ 65535
+  pub latest-few : (u : ℕ) → l .latest ≡ Ticks u → u ≤ 65535
 
 bound-fits : (b : Bool) (ticks x : ℕ) → ticks ≤ 65535 → bound-from b ticks ≡ Ticks x → x ≤ 65535
 unfolding bound-from
@@ -119,18 +120,20 @@ takes-link : (n : ℕ) (previous : Previous) → Takes (link n previous) (LinkFi
 unfolding link
 takes-link n previous =
     takes-bind takes-byte
-    (λ m bm. takes-bind (takes-demand (link-map m) 4 (omega arith))
-    (λ u4 allowed. takes-bind takes-byte
+    (λ m bm. takes-bind (takes-demand (link-map m) 4 (inl (omega arith)))
+    (λ u4 allowed. takes-bind (takes-demand (sequenced m) 26 (inr refl))
+    (λ u26 paired. takes-bind takes-byte
     (λ i bi. takes-bind takes-byte
-    (λ j bj. takes-bind (takes-demand (endpoints n i j) 5 (omega arith))
-    (λ u5 ends. takes-bind (takes-demand (rises previous i j) 6 (omega arith))
+    (λ j bj. takes-bind (takes-demand (endpoints n i j) 5 (inl (omega arith)))
+    (λ u5 ends. takes-bind (takes-demand (rises previous i j) 6 (inl (omega arith)))
     (λ u6 up. takes-bind (takes-ticks (test-bit m 1))
     (λ least few-least. takes-bind (takes-ticks (test-bit m 2))
-    (λ most few-most.
+    (λ most few-most. takes-bind (takes-ticks (test-bit m 4))
+    (λ latest few-latest.
     let r = endpoints-fit n i j ends in
     takes-give
-    (record { from = i; to = j; sequencing = test-bit m 0; minimum = bound-from (test-bit m 1) least; maximum = bound-from (test-bit m 2) most })
-    (record { from-below = r .0; to-below = r .1; apart = r .2; minimum-few = λ x e. bound-fits (test-bit m 1) least x few-least e; maximum-few = λ x e. bound-fits (test-bit m 2) most x few-most e })))))))))
+    (record { from = i; to = j; sequencing = test-bit m 0; minimum = bound-from (test-bit m 1) least; maximum = bound-from (test-bit m 2) most; latest = bound-from (test-bit m 4) latest })
+    (record { from-below = r .0; to-below = r .1; apart = r .2; minimum-few = λ x e. bound-fits (test-bit m 1) least x few-least e; maximum-few = λ x e. bound-fits (test-bit m 2) most x few-most e; latest-few = λ x e. bound-fits (test-bit m 4) latest x few-latest e })))))))))))
 
 -- Records in a row: as many as are asked for, each with its property in the state that the one before it leaves. Induction on their number.
 module _ {A S : Type 0} (P : S → A → Type 0) (next : A → S) where
@@ -195,9 +198,9 @@ takes-end = record { each = taken; most = refuses }
     taken [] b t e = let z = given-same e in (tt, rw (← z) b)
     taken (x ∷ s) b t e = absurd (given-not-refused (sym e))
 
-    refuses : (s : List ℕ) → Bytes s → (k : ℕ) → at-end s ≡ refused k → k ≤ 7
+    refuses : (s : List ℕ) → Bytes s → (k : ℕ) → at-end s ≡ refused k → FromReading k
     refuses [] b k e = absurd (given-not-refused e)
-    refuses (x ∷ s) b k e = let same : 7 ≡ k = refused-same e in omega arith
+    refuses (x ∷ s) b k e = subst FromReading (refused-same e) (inl (omega arith))
 
 fits-by : (n r : ℕ) (os : List Operation) (ls : List Link) → (leb 1 n && leb n 64) ≡ true → leb r 512 ≡ true → (length os ≡ n) × Row OperationFits (λ o. false) true os → (length ls ≡ r) × Row (λ previous. LinkFits n) pair-of Nothing ls → Fits (record { steps = os; pairs = ls })
 fits-by n r os ls hn hr O L =
@@ -211,9 +214,9 @@ takes-sheet : Takes sheet Fits
 unfolding sheet
 takes-sheet =
     takes-bind takes-byte
-    (λ n bn. takes-bind (takes-demand (leb 1 n && leb n 64) 2 (omega arith))
+    (λ n bn. takes-bind (takes-demand (leb 1 n && leb n 64) 2 (inl (omega arith)))
     (λ u2 hn. takes-bind takes-two-bytes
-    (λ r br. takes-bind (takes-demand (leb r 512) 3 (omega arith))
+    (λ r br. takes-bind (takes-demand (leb r 512) 3 (inl (omega arith)))
     (λ u3 hr. takes-bind (takes-operations n)
     (λ os O. takes-bind (takes-links n r)
     (λ ls L. takes-bind takes-end
@@ -227,10 +230,10 @@ read-fits s q b e =
     let same : r .0 .value ≡ q = given-same (r .2) in
     rw same at (takes-sheet .each s b (r .0) (r .1) .0)
 
-pub read-most : (s : List ℕ) (k : ℕ) → Bytes s → read s ≡ refused k → k ≤ 7
+pub read-most : (s : List ℕ) (k : ℕ) → Bytes s → read s ≡ refused k → FromReading k
 unfolding read when-given
 read-most s k b e = go (sheet s) refl e
   where
-    go : (o : Outcome (Taken Records)) → sheet s ≡ o → when-given o (λ t. given (t .value)) ≡ refused k → k ≤ 7
+    go : (o : Outcome (Taken Records)) → sheet s ≡ o → when-given o (λ t. given (t .value)) ≡ refused k → FromReading k
     go (given t) h i = absurd (given-not-refused i)
-    go (refused l) h i = let same : l ≡ k = refused-same i in omega (arith, takes-sheet .most s b l h)
+    go (refused l) h i = subst FromReading (refused-same i) (takes-sheet .most s b l h)

@@ -1,6 +1,6 @@
 -- What each answer of judging says of a sheet, in the words of document 01. The tests behind the answers are the relations, and 10 and 11 are settled by the lists.
-use mathlib.Core.Path.{_≡_, refl, sym, ap, _∙_}
-use mathlib.Core.Bool.{Bool, true, false, cond, not, _&&_, true≢false, false≢true}
+use mathlib.Core.Path.{_≡_, refl, sym, ap, subst, _∙_}
+use mathlib.Core.Bool.{Bool, true, false, cond, not, _&&_, _||_, true≢false, false≢true}
 use mathlib.Core.Logic.{_⊎_, inl, inr, _≢_, _↔_}
 use mathlib.Core.List.{List}
 use Prim.Native.Nat.{ℕ}
@@ -8,19 +8,22 @@ use native.Mathlib.Omega.{arith}
 use borrow.Author.Tests.{not-true}
 use Rattle.definitions.specs.Basics.{refused}
 use Rattle.definitions.specs.Bytes.{Records}
-use Rattle.definitions.specs.Links.{Edge}
-use Rattle.definitions.specs.Waits.{needs-waits}
-use Rattle.definitions.specs.Answers.{closes-circle, unreached, infeasible, inconsistent, judged, judge-edges, count-of, edges-of}
-use Rattle.laws.proofs.Bools.{and-split, and-join, not-passing, both-ways}
+use Rattle.definitions.specs.Links.{Edge, KeepsAll, members}
+use Rattle.definitions.specs.Waits.{needs-waits, serialized}
+use Rattle.definitions.specs.Answers.{closes-circle, unreached, infeasible, inconsistent, unserializable, judged, judge-edges, count-of, edges-of, serialized-of}
+use Rattle.laws.proofs.Bools.{and-split, and-join, not-passing, both-ways, or-left, or-right, or-split}
 use Rattle.laws.proofs.Negations.{fails-unless, passes-unless}
 use Rattle.laws.proofs.Outcomes.{refused-same}
+use Rattle.theory.specs.Graphs.{Rooted, Schedule}
 use Rattle.theory.proofs.WaitLists.{needs-waits-iff}
-use Rattle.demands.specs.Demands.{IsSheet, WellFormed, SomeListLeavesNone, Circle, SomeStepUnreached, Sound, JudgedFor}
+use Rattle.demands.specs.Demands.{IsSheet, WellFormed, SomeListLeavesNone, ForwardCircle, Circle, SomeStepUnreached, Sound, WaitsClash, circle, no-times, JudgedFor, links-and-waits}
 use Rattle.demands.proofs.Reading.{Fits, read-fits}
-use Rattle.demands.proofs.Edges.{sheet-shape}
-use Rattle.demands.proofs.Judging.{Passes, judge-8, judge-9, judge-10, judge-11, judge-12, judge-given, judged-edges}
-use Rattle.demands.proofs.Meaning.{meant-for}
+use Rattle.demands.proofs.Edges.{keeps-schedule, schedule-keeps, sheet-shape}
+use Rattle.demands.proofs.Judging.{Passes, judge-8, judge-9, judge-10, judge-11, judge-12, judge-28, judge-given, judged-edges}
+use Rattle.demands.proofs.Meaning.{meant-for, waits-shape}
+use Rattle.demands.proofs.Sheets.{is-10, not-8, not-9, passes-well, serialized-rooted, unneeded-serializable}
 use Rattle.demands.proofs.Impossibility.{impossible-for}
+use Rattle.demands.proofs.OurStarts.{edges-with-waits}
 
 module _ (s : List ℕ) (allow : Bool) (q : Records) (sheet : IsSheet s q) where
   abbrev n : ℕ
@@ -35,15 +38,15 @@ module _ (s : List ℕ) (allow : Bool) (q : Records) (sheet : IsSheet s q) where
   as-judged : judged s allow ≡ judge-edges n es allow
   as-judged = judged-edges s (sheet .reads) allow
 
-  circle : (closes-circle n es ≡ true) ↔ Circle q
-  circle = meant-for fits .as-sent .circle
+  circled : (closes-circle n es ≡ true) ↔ Circle q
+  circled = meant-for fits .as-sent .circle
 
   unreach : (unreached n es ≡ true) ↔ SomeStepUnreached q
   unreach = meant-for fits .as-sent .reached
 
   formed-iff : WellFormed s q ↔ ((¬ Circle q) × (¬ SomeStepUnreached q))
   formed-iff =
-      let c = fails-unless (closes-circle n es) circle in
+      let c = fails-unless (closes-circle n es) circled in
       let u = fails-unless (unreached n es) unreach in
       (λ f. (c .0 (f .no-circle), u .0 (f .all-reached)), λ r. record { sheet = sheet; no-circle = c .1 (r .0); all-reached = u .1 (r .1) })
 
@@ -70,22 +73,63 @@ module _ (s : List ℕ) (allow : Bool) (q : Records) (sheet : IsSheet s q) where
   needed : (needs-waits n es ≡ true) ↔ (¬ Sound q)
   needed = passes-unless (needs-waits n es) unneeded
 
-  -- 12, from the front: it is none of 8 and 9.
-  twelve-formed : judge-edges n es allow ≡ refused 12 → (closes-circle n es ≡ false) × (unreached n es ≡ false)
-  twelve-formed h =
-      let c = not-passing (closes-circle n es) (λ t. apart 8 (λ e. omega arith) (judge-8 n es allow .1 t)) in
-      (c, not-passing (unreached n es) (λ t. apart 9 (λ e. omega arith) (judge-9 n es allow .1 (c, t))))
-    where
-      apart : (k : ℕ) → k ≢ 12 → judge-edges n es allow ≡ refused k → ⊥
-      apart k d e = d (refused-same (sym e ∙ h))
+  -- What is refused with another number than 8 and 9 is well-formed.
+  formed-by : {k : ℕ} → 8 ≢ k → 9 ≢ k → judge-edges n es allow ≡ refused k → (closes-circle n es ≡ false) × (unreached n es ≡ false)
+  formed-by {k} not-8 not-9 h =
+      let c = not-passing (closes-circle n es) (λ t. not-8 (refused-same (sym (judge-8 n es allow .1 t) ∙ h))) in
+      (c, not-passing (unreached n es) (λ t. not-9 (refused-same (sym (judge-9 n es allow .1 (c, t)) ∙ h))))
 
-  twelve : (judge-edges n es allow ≡ refused 12) ↔ (Passes n es × (needs-waits n es ≡ true) × (allow ≡ false))
+  pub refused-formed : {k : ℕ} → 8 ≢ k → 9 ≢ k → judged s allow ≡ refused k → WellFormed s q
+  refused-formed a b h = let f = formed-by a b (sym as-judged ∙ h) in record { sheet = sheet; no-circle = f .0; all-reached = f .1 }
+
+  -- 28: by the tests of circles and of 10, on the sheet with its waits.
+  clash-iff : WellFormed s q → (unserializable n es ≡ true) ↔ WaitsClash q
+  unfolding unserializable serialized-of
+  clash-iff f = (λ h. found (or-split (closes-circle n (serialized n es)) (infeasible n (serialized n es)) h), test)
+    where
+      rooted : Rooted n (members es)
+      rooted = not-9 (fits .some) (sheet-shape fits) (f .all-reached)
+
+      ten : (infeasible n (serialized n es) ≡ true) ↔ ((t : ℕ → ℕ) → ¬ Schedule (members (serialized n es)) (λ a. 0) t)
+      ten = is-10 (fits .some) (waits-shape fits) (serialized-rooted (fits .some) (sheet-shape fits) rooted)
+
+      kept : (t : ℕ → ℕ) → KeepsAll (q .steps) (links-and-waits q) (λ a. 0) t ↔ Schedule (members (serialized n es)) (λ a. 0) t
+      kept t =
+          subst
+          (λ (l : List Edge). KeepsAll (q .steps) (links-and-waits q) (λ a. 0) t ↔ Schedule (members l) (λ a. 0) t)
+          (edges-with-waits fits)
+          (keeps-schedule (q .steps) (λ a. 0) t (links-and-waits q), schedule-keeps (q .steps) (λ a. 0) t (links-and-waits q))
+
+      around : (closes-circle n (serialized n es) ≡ true) ↔ ForwardCircle (serialized n es)
+      around = meant-for fits .with-waits .circle
+
+      found : (closes-circle n (serialized n es) ≡ true) ⊎ (infeasible n (serialized n es) ≡ true) → WaitsClash q
+      found (inl h) = circle (around .0 h)
+      found (inr h) = no-times (λ t k. ten .0 h t (kept t .0 k))
+
+      test : WaitsClash q → (closes-circle n (serialized n es) || infeasible n (serialized n es)) ≡ true
+      test (circle r) = or-left (infeasible n (serialized n es)) (around .1 r)
+      test (no-times none) = or-right (closes-circle n (serialized n es)) (ten .1 (λ t k. none t (kept t .1 k)))
+
+  twenty-eight : (judge-edges n es allow ≡ refused 28) ↔ (Passes n es × (unserializable n es ≡ true))
+  twenty-eight = (
+    λ h. let f = formed-by (λ e. omega arith) (λ e. omega arith) h in
+        let r = judge-28 n es allow (f .0) (f .1) .0 h in
+        (record { no-circle = f .0; all-reached = f .1; feasible = r .0; consistent = r .1 }, r .2),
+    λ r. judge-28 n es allow (r .0 .no-circle) (r .0 .all-reached) .1 (r .0 .feasible, r .0 .consistent, r .1),
+  )
+
+  -- A sheet that needs no waits passes 28.
+  unneeded-passes : Passes n es → needs-waits n es ≡ false → unserializable n es ≡ false
+  unneeded-passes P h = unneeded-serializable (passes-well (fits .some) (sheet-shape fits) P) (not-8 (fits .some) (sheet-shape fits) (P .no-circle)) h
+
+  twelve : (judge-edges n es allow ≡ refused 12) ↔ (Passes n es × (unserializable n es ≡ false) × (needs-waits n es ≡ true) × (allow ≡ false))
   twelve = (
-    λ h. let f = twelve-formed h in
+    λ h. let f = formed-by (λ e. omega arith) (λ e. omega arith) h in
         let r = judge-12 n es allow (f .0) (f .1) .0 h in
-        let w = and-split (needs-waits n es) (not allow) (r .2) in
-        (record { no-circle = f .0; all-reached = f .1; feasible = r .0; consistent = r .1 }, w .0, not-true allow (w .1)),
-    λ r. judge-12 n es allow (r .0 .no-circle) (r .0 .all-reached) .1 (r .0 .feasible, r .0 .consistent, and-join (r .1) (ap not (r .2))),
+        let w = and-split (needs-waits n es) (not allow) (r .3) in
+        (record { no-circle = f .0; all-reached = f .1; feasible = r .0; consistent = r .1 }, r .2, w .0, not-true allow (w .1)),
+    λ r. judge-12 n es allow (r .0 .no-circle) (r .0 .all-reached) .1 (r .0 .feasible, r .0 .consistent, r .1, and-join (r .2) (ap not (r .3))),
   )
 
   verdict-bool : (b a : Bool) → (((b && not a) ≡ false) × (cond {A = ℕ} b 1 0 ≡ 1)) ↔ ((b ≡ true) × (a ≡ true))
@@ -100,25 +144,32 @@ module _ (s : List ℕ) (allow : Bool) (q : Records) (sheet : IsSheet s q) where
   pub judged-for : JudgedFor s allow q
   judged-for =
       let r9 = judge-9 n es allow in
-      let c = fails-unless (closes-circle n es) circle in
+      let c = fails-unless (closes-circle n es) circled in
       let given-0 = judge-given n es allow 0 in
       let given-1 = judge-given n es allow 1 in
       let none = verdict-none (needs-waits n es) allow in
       let some = verdict-bool (needs-waits n es) allow in
       record {
-        refused-8 = (λ h. circle .0 (judge-8 n es allow .0 (sym as-judged ∙ h)), λ x. as-judged ∙ judge-8 n es allow .1 (circle .1 x));
+        refused-8 = (λ h. circled .0 (judge-8 n es allow .0 (sym as-judged ∙ h)), λ x. as-judged ∙ judge-8 n es allow .1 (circled .1 x));
         refused-9 = (λ h. let a = r9 .0 (sym as-judged ∙ h) in (c .0 (a .0), unreach .0 (a .1)), λ x. as-judged ∙ r9 .1 (c .1 (x .0), unreach .1 (x .1)));
         well-formed = formed-iff;
+        refused-28 = (
+          λ h. let a = twenty-eight .0 (sym as-judged ∙ h) in let p = passes-iff .0 (a .0) in (p .0, p .1, clash-iff (p .0) .0 (a .1)),
+          λ x. as-judged ∙ twenty-eight .1 (passes-iff .1 (x .0, x .1), clash-iff (x .0) .1 (x .2)),
+        );
         refused-12 = (
-          λ h. let a = twelve .0 (sym as-judged ∙ h) in let p = passes-iff .0 (a .0) in (p .0, p .1, needed .0 (a .1), a .2),
-          λ x. as-judged ∙ twelve .1 (passes-iff .1 (x .0, x .1), needed .1 (x .2), x .3),
+          λ h. let a = twelve .0 (sym as-judged ∙ h) in let p = passes-iff .0 (a .0) in (p .0, p .1, clear (p .0) .0 (a .1), needed .0 (a .2), a .3),
+          λ x. as-judged ∙ twelve .1 (passes-iff .1 (x .0, x .1), clear (x .0) .1 (x .2), needed .1 (x .3), x .4),
         );
         verdict-0 = (
-          λ h. let a = given-0 .0 (sym as-judged ∙ h) in let p = passes-iff .0 (a .0) in (p .0, p .1, unneeded .0 (none .0 (a .1, a .2))),
-          λ x. let z = none .1 (unneeded .1 (x .2)) in as-judged ∙ given-0 .1 (passes-iff .1 (x .0, x .1), z .0, z .1),
+          λ h. let a = given-0 .0 (sym as-judged ∙ h) in let p = passes-iff .0 (a .0) in (p .0, p .1, unneeded .0 (none .0 (a .2, a .3))),
+          λ x. let w = unneeded .1 (x .2) in let P = passes-iff .1 (x .0, x .1) in let z = none .1 w in as-judged ∙ given-0 .1 (P, unneeded-passes P w, z .0, z .1),
         );
         verdict-1 = (
-          λ h. let a = given-1 .0 (sym as-judged ∙ h) in let p = passes-iff .0 (a .0) in let z = some .0 (a .1, a .2) in (p .0, p .1, needed .0 (z .0), z .1),
-          λ x. let z = some .1 (needed .1 (x .2), x .3) in as-judged ∙ given-1 .1 (passes-iff .1 (x .0, x .1), z .0, z .1),
+          λ h. let a = given-1 .0 (sym as-judged ∙ h) in let p = passes-iff .0 (a .0) in let z = some .0 (a .2, a .3) in (p .0, p .1, clear (p .0) .0 (a .1), needed .0 (z .0), z .1),
+          λ x. let z = some .1 (needed .1 (x .3), x .4) in as-judged ∙ given-1 .1 (passes-iff .1 (x .0, x .1), clear (x .0) .1 (x .2), z .0, z .1),
         );
       }
+    where
+      clear : WellFormed s q → (unserializable n es ≡ false) ↔ (¬ WaitsClash q)
+      clear f = fails-unless (unserializable n es) (clash-iff f)

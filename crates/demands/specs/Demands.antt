@@ -4,9 +4,10 @@
 -- 3. A well-formed sheet is called impossible exactly when some list of durations leaves no start times that keep every link. For every accepted sheet and every list our starts keep every link and
 --    wait, and nobody is earlier: not a rival who knows every duration beforehand and gives any start times that keep every link (no waits needed), nor one who picks any sound sheet with these
 --    steps, these links and further after or at-least links, and any start times that keep it (waits added).
+-- L11. On sheets with a limit from the finish of an open step, nobody without foresight is earlier; refused 28 exactly if, not being 10 or 11, there is no such rival.
 --
 -- Words that are not defined here are those of the crate definitions, in the words of document 01: Bytes, Links, Anchors, Waits, Plan, Rival, Answers, to be read in this order. Quoted sentences are
--- document 01's.
+-- document 01's, and document 02's where they speak of request L11.
 -- Start times and durations are functions from steps to whole numbers, with no largest one: a hand may take any time at all. Lists of durations are a case of them.
 use mathlib.Core.Path.{_≡_}
 use mathlib.Core.Bool.{Bool, true, false, cond}
@@ -16,18 +17,18 @@ use Prim.Native.Nat.{ℕ, suc, _+_, _*_, _^_, _≤_, _<_}
 use lib.ListN.{length, getD, take, drop, replicate}
 use Rattle.definitions.specs.Basics.{largest, test-bit, given, refused}
 use Rattle.definitions.specs.Bytes.{Records, read}
-use Rattle.definitions.specs.Links.{Constraint, sequencing, constraints, delay-at, Keeps, KeepsAll, Edge, members, Forward, Walk, Joined, After}
+use Rattle.definitions.specs.Links.{Constraint, sequencing, finish-maximum, constraints, delay-at, Keeps, KeepsAll, Edge, Graph, members, Forward, Walk, Joined, After, UsableFrom, usable}
 use Rattle.definitions.specs.Rounds.{cell, reaches, after-reaches}
 use Rattle.definitions.specs.Anchors.{InAnchorSet, in-anchor-set, WellPosed, well-posed}
 use Rattle.definitions.specs.Waits.{Wait, WaitPair, wait-list, wait-maps, wait-count}
 use Rattle.definitions.specs.Plan.{Offset, offset, start-times, decides, plan-row, plan-table, row-part, undecided, delays-wrong, delays}
-use Rattle.definitions.specs.Rival.{Extension}
+use Rattle.definitions.specs.Rival.{Extension, Lasts, DelayAssignment, DynamicStrategy}
 use Rattle.definitions.specs.Answers.{closes-circle, unreached, count-of, edges-of, serialized-of, judged, waits-answer, planned, starts-answer}
 use Rattle.definitions.specs.Output.{StartLine, start-lines, listed, standplan}
 use Rattle.definitions.specs.Worked.{Worked, worked-sheets}
 use Rattle.definitions.specs.declared.Delay.the-variants.{Open, Fixed}
 use Rattle.theory.specs.Counts.{standing-bits}
-use Rattle.theory.specs.Graphs.{Schedule}
+use Rattle.theory.specs.Graphs.{Carries, Schedule}
 
 -- ## The words
 
@@ -35,7 +36,14 @@ use Rattle.theory.specs.Graphs.{Schedule}
 abbrev pub Bytes : List ℕ → Type 0
 Bytes s = (b : ℕ) → List·Memᴰ b s → b < 256
 
--- The bytes s are a sheet with the records q: no refusal from 1 to 7 applies.
+-- The refusals of reading: 1 to 7, and 26 of request L11. A sheet that none of these nor 8 and 9 applies to is well-formed.
+abbrev pub FromReading : ℕ → Type 0
+FromReading k = (k ≤ 7) ⊎ (k ≡ 26)
+
+abbrev pub FromForm : ℕ → Type 0
+FromForm k = (k ≤ 9) ⊎ (k ≡ 26)
+
+-- The bytes s are a sheet with the records q: no refusal of reading applies.
 pub record IsSheet (s : List ℕ) (q : Records) : Type 0 where
   pub bytes : Bytes s
   pub reads : read s ≡ given q
@@ -46,7 +54,7 @@ pub record WellFormed (s : List ℕ) (q : Records) : Type 0 where
   pub no-circle : closes-circle (count-of q) (edges-of q) ≡ false
   pub all-reached : unreached (count-of q) (edges-of q) ≡ false
 
--- "Accepted means that no refusal down to 12 applies." v is the verdict; allow says whether the caller allows waits.
+-- "Accepted means that no refusal down to 12 applies", nor 26 or 28. v is the verdict; allow says whether the caller allows waits.
 pub record Accepted (s : List ℕ) (allow : Bool) (q : Records) (v : ℕ) : Type 0 where
   pub sheet : IsSheet s q
   pub accepts : judged s allow ≡ given v
@@ -111,6 +119,14 @@ wait-pair a i = record { anchor = a; target = i }
 abbrev pub wait-link : WaitPair → Constraint
 wait-link w = sequencing (w .anchor) (w .target)
 
+-- With the waits put in as after links.
+abbrev pub links-and-waits : Records → List Constraint
+links-and-waits q = constraints (q .pairs) ++ map wait-link (sheet-waits q)
+
+-- No limit counts from the finish of an open step other than step 0: a sheet without request L11, but for such limits on step 0 and on fixed steps.
+abbrev pub NoLateLinks : Records → Type 0
+NoLateLinks q = (i j u : ℕ) → List·Memᴰ (finish-maximum i j u) (constraints (q .pairs)) → ¬ Lasts (q .steps) i
+
 -- ## Demand 3
 
 -- "10. With all open durations 0, no start times keep every link. 11. Not 10, yet some list of durations leaves none." "Impossible means 10 or 11."
@@ -124,18 +140,22 @@ pub record ImpossibleFor (s : List ℕ) (allow : Bool) (q : Records) : Type 0 wh
 abbrev pub ImpossibleExactly : Type 0
 ImpossibleExactly = (s : List ℕ) (allow : Bool) (q : Records) → WellFormed s q → ImpossibleFor s allow q
 
--- The refusals 1 to 7 are those of reading the bytes, and reading gives no others. So a sheet is well-formed exactly if no refusal from 1 to 9 is given. Proofs: read-exactly,
+-- The refusals 1 to 7 and 26 are those of reading the bytes, and reading gives no others. So a sheet is well-formed exactly if no refusal from 1 to 9 and not 26 is given. Proofs: read-exactly,
 -- well-formed-exactly.
 abbrev pub ReadExactly : Type 0
-ReadExactly = (s : List ℕ) → Bytes s → (allow : Bool) (k : ℕ) → (read s ≡ refused k) ↔ ((judged s allow ≡ refused k) × (k ≤ 7))
+ReadExactly = (s : List ℕ) → Bytes s → (allow : Bool) (k : ℕ) → (read s ≡ refused k) ↔ ((judged s allow ≡ refused k) × FromReading k)
 
 abbrev pub WellFormedExactly : Type 0
-WellFormedExactly = (s : List ℕ) → Bytes s → (allow : Bool) → ((q : Records) × WellFormed s q) ↔ ((k : ℕ) → k ≤ 9 → judged s allow ≢ refused k)
+WellFormedExactly = (s : List ℕ) → Bytes s → (allow : Bool) → ((q : Records) × WellFormed s q) ↔ ((k : ℕ) → FromForm k → judged s allow ≢ refused k)
 
 -- "8. Forward links close a circle. 9. A step has no forward chain from step 0." "12. Waits are needed and the caller did not allow them." "Verdict 0 is sound, 1 sound with waits."
--- "Each refusal is given when its condition holds and no earlier one does, and only then." Proof: judged-exactly.
+-- "28, the waits close a circle of forward links, or leave no start times with each open step at its least, after 11". "Each refusal is given when its condition holds and no earlier one does, and only
+-- then." Proof: judged-exactly.
+abbrev pub ForwardCircle : List Edge → Type 0
+ForwardCircle es = (x : ℕ) × (k : ℕ) × (g : ℕ) × (l : ℕ) × Walk (Forward (members es)) x x (suc k) g l
+
 abbrev pub Circle : Records → Type 0
-Circle q = (x : ℕ) × (k : ℕ) × (g : ℕ) × (l : ℕ) × Walk (Forward (members (edges-of q))) x x (suc k) g l
+Circle q = ForwardCircle (edges-of q)
 
 abbrev pub SomeStepUnreached : Records → Type 0
 SomeStepUnreached q = (v : ℕ) × (v < count-of q) × (¬ Joined (Forward (members (edges-of q))) 0 v)
@@ -143,25 +163,30 @@ SomeStepUnreached q = (v : ℕ) × (v < count-of q) × (¬ Joined (Forward (memb
 abbrev pub Sound : Records → Type 0
 Sound q = WellPosed (members (edges-of q))
 
+pub data WaitsClash (q : Records) : Type 0 where
+  circle : ForwardCircle (serialized-of q) → WaitsClash q
+  no-times : ((t : ℕ → ℕ) → ¬ KeepsAll (q .steps) (links-and-waits q) (λ a. 0) t) → WaitsClash q
+
 pub record JudgedFor (s : List ℕ) (allow : Bool) (q : Records) : Type 0 where
   pub refused-8 : (judged s allow ≡ refused 8) ↔ Circle q
   pub refused-9 : (judged s allow ≡ refused 9) ↔ ((¬ Circle q) × SomeStepUnreached q)
   pub well-formed : WellFormed s q ↔ ((¬ Circle q) × (¬ SomeStepUnreached q))
-  pub refused-12 : (judged s allow ≡ refused 12) ↔ (WellFormed s q × (¬ SomeListLeavesNone q) × (¬ Sound q) × (allow ≡ false))
+  pub refused-28 : (judged s allow ≡ refused 28) ↔ (WellFormed s q × (¬ SomeListLeavesNone q) × WaitsClash q)
+  pub refused-12 : (judged s allow ≡ refused 12) ↔ (WellFormed s q × (¬ SomeListLeavesNone q) × (¬ WaitsClash q) × (¬ Sound q) × (allow ≡ false))
   pub verdict-0 : (judged s allow ≡ given 0) ↔ (WellFormed s q × (¬ SomeListLeavesNone q) × Sound q)
-  pub verdict-1 : (judged s allow ≡ given 1) ↔ (WellFormed s q × (¬ SomeListLeavesNone q) × (¬ Sound q) × (allow ≡ true))
+  pub verdict-1 : (judged s allow ≡ given 1) ↔ (WellFormed s q × (¬ SomeListLeavesNone q) × (¬ WaitsClash q) × (¬ Sound q) × (allow ≡ true))
 
 abbrev pub JudgedExactly : Type 0
 JudgedExactly = (s : List ℕ) (allow : Bool) (q : Records) → IsSheet s q → JudgedFor s allow q
 
--- "From each call that judges, lists waits, plans or works out starts": the refusals 1 to 12 are the same in each. Whoever lists waits allows them. Proof: each-call-refuses.
+-- "From each call that judges, lists waits, plans or works out starts": the refusals but 13 and 14 are the same in each. Whoever lists waits allows them. Proof: each-call-refuses.
 pub record SameRefusal (s : List ℕ) (allow : Bool) (k : ℕ) : Type 0 where
   pub waits : (waits-answer s .verdict ≡ refused k) ↔ (judged s true ≡ refused k)
   pub plan : (table : List ℕ) → (planned s allow table .verdict ≡ refused k) ↔ (judged s allow ≡ refused k)
   pub starts : (list out : List ℕ) → (starts-answer s allow list out .verdict ≡ refused k) ↔ (judged s allow ≡ refused k)
 
 abbrev pub EachCallRefuses : Type 0
-EachCallRefuses = (s : List ℕ) (allow : Bool) (k : ℕ) → k ≤ 12 → SameRefusal s allow k
+EachCallRefuses = (s : List ℕ) (allow : Bool) (k : ℕ) → k ≢ 13 → k ≢ 14 → SameRefusal s allow k
 
 -- "Our starts are the N numbers that working out starts returns for a sheet and a list." A list's duration of step 0 is 0. Proof: starts-returned.
 pub record ReturnedFor (s : List ℕ) (allow : Bool) (q : Records) (v : ℕ) (list out : List ℕ) : Type 0 where
@@ -213,17 +238,17 @@ pub record KeptFor (q : Records) (d : ℕ → ℕ) : Type 0 where
 abbrev pub StartsKept : Type 0
 StartsKept = (s : List ℕ) (allow : Bool) (q : Records) (v : ℕ) → Accepted s allow q v → (d : ℕ → ℕ) → d 0 ≡ 0 → KeptFor q d
 
--- "Nobody is earlier: not a rival who knows every duration beforehand and gives any start times that keep every link (no waits needed)." The rival's t may depend on d in any way. Proof:
--- nobody-earlier.
+-- "Nobody is earlier: not a rival who knows every duration beforehand and gives any start times that keep every link (no waits needed)." The rival's t may depend on d in any way. On sheets without
+-- late links. Proof: nobody-earlier.
 abbrev pub NobodyEarlier : Type 0
 NobodyEarlier =
-    (s : List ℕ) (allow : Bool) (q : Records) → Accepted s allow q 0 → (d t : ℕ → ℕ) → d 0 ≡ 0 → KeepsLinks q d t → (i : ℕ) → i < count-of q → our-start q d i ≤ t i
+    (s : List ℕ) (allow : Bool) (q : Records) → Accepted s allow q 0 → NoLateLinks q → (d t : ℕ → ℕ) → d 0 ≡ 0 → KeepsLinks q d t → (i : ℕ) → i < count-of q → our-start q d i ≤ t i
 
 -- "Nor one who picks any sound sheet with these steps, these links and further after or at-least links, and any start times that keep it (waits added)." It holds where no waits are needed too.
 -- Proof: nobody-earlier-with-waits.
 abbrev pub NobodyEarlierWithWaits : Type 0
 NobodyEarlierWithWaits =
-    (s : List ℕ) (allow : Bool) (q : Records) (v : ℕ) → Accepted s allow q v → (fs : List Constraint) → Extension (q .steps) (constraints (q .pairs)) fs → (d t : ℕ → ℕ) → d 0 ≡ 0 → KeepsAll (q .steps) fs d t → (i : ℕ) → i < count-of q → our-start q d i ≤ t i
+    (s : List ℕ) (allow : Bool) (q : Records) (v : ℕ) → Accepted s allow q v → NoLateLinks q → (fs : List Constraint) → Extension (q .steps) (constraints (q .pairs)) fs → (d t : ℕ → ℕ) → d 0 ≡ 0 → KeepsAll (q .steps) fs d t → (i : ℕ) → i < count-of q → our-start q d i ≤ t i
 
 -- The sheet with our waits put in as after links is one of these rivals' sheets, and our starts keep it. So the bound is met. Proof: ours-among-rivals.
 pub record OursAmong (q : Records) (d : ℕ → ℕ) (fs : List Constraint) : Type 0 where
@@ -232,7 +257,49 @@ pub record OursAmong (q : Records) (d : ℕ → ℕ) (fs : List Constraint) : Ty
 
 abbrev pub OursAmongRivals : Type 0
 OursAmongRivals =
-    (s : List ℕ) (allow : Bool) (q : Records) (v : ℕ) → Accepted s allow q v → (d : ℕ → ℕ) → d 0 ≡ 0 → OursAmong q d (constraints (q .pairs) ++ map wait-link (sheet-waits q))
+    (s : List ℕ) (allow : Bool) (q : Records) (v : ℕ) → Accepted s allow q v → (d : ℕ → ℕ) → d 0 ≡ 0 → OursAmong q d (links-and-waits q)
+
+-- ## Request L11
+
+-- "For earliest starts on sheets with bit 4 on an open i the rival no longer knows the future." For every rival that keeps every link for every list, with no largest duration, and does not know the future:
+-- each of its starts is at least ours, for every list. It holds on sheets without bit 4 too. Proof: nobody-earlier-without-foresight.
+abbrev pub NobodyEarlierWithoutForesight : Type 0
+NobodyEarlierWithoutForesight =
+    (s : List ℕ) (allow : Bool) (q : Records) (v : ℕ) → Accepted s allow q v → (ρ : (ℕ → ℕ) → ℕ → ℕ) → DynamicStrategy (q .steps) (constraints (q .pairs)) ρ → (d : ℕ → ℕ) → DelayAssignment (q .steps) d → (i : ℕ) → i < count-of q → our-start q d i ≤ ρ d i
+
+-- Our starts are such a rival. Proof: ours-without-foresight.
+abbrev pub OursWithoutForesight : Type 0
+OursWithoutForesight =
+    (s : List ℕ) (allow : Bool) (q : Records) (v : ℕ) → Accepted s allow q v → DynamicStrategy (q .steps) (constraints (q .pairs)) (our-start q)
+
+-- Refused 28 exactly if, not being 10 or 11, no such rival exists. Proof: refused-28-exactly.
+abbrev pub NoRival : Records → Type 0
+NoRival q = (ρ : (ℕ → ℕ) → ℕ → ℕ) → ¬ DynamicStrategy (q .steps) (constraints (q .pairs)) ρ
+
+abbrev pub Refused28Exactly : Type 0
+Refused28Exactly =
+    (s : List ℕ) (allow : Bool) (q : Records) → WellFormed s q → (judged s allow ≡ refused 28) ↔ ((judged s allow ≢ refused 10) × (judged s allow ≢ refused 11) × NoRival q)
+
+-- On a sheet without late links nothing is new: every walk may take every edge, of the sheet as sent and with its waits in, so that waits, offsets and sound are those of document 01 word for word, and 28
+-- is never given. All else that makes a plan is defined from these. Proof: nothing-new. A plain wait is one of document 01, with walks over all edges.
+pub record PlainWait (E : Graph) (a i : ℕ) : Type 0 where
+  pub edge : Edge
+  pub mem : E edge
+  pub returns : edge .back ≡ true
+  pub enters : edge .to ≡ i
+  pub reaches : After E a (edge .from)
+  pub absent : ¬ InAnchorSet E a i
+
+pub record NothingNewFor (s : List ℕ) (allow : Bool) (q : Records) : Type 0 where
+  pub as-sent : (a : ℕ) → usable (edges-of q) a ≡ edges-of q
+  pub with-waits : (a : ℕ) → usable (serialized-of q) a ≡ serialized-of q
+  pub sound : Sound q ↔ ((a : ℕ) → Carries (members (edges-of q)) a)
+  pub waits : (a i : ℕ) → List·Memᴰ (wait-pair a i) (sheet-waits q) ↔ PlainWait (members (edges-of q)) a i
+  pub offsets : (v : ℕ) → judged s allow ≡ given v → (a i : ℕ) → i < count-of q → in-start-set q a i ≡ true → Offset (members (serialized-of q)) a i (sheet-offset q a i)
+  pub never-28 : judged s allow ≢ refused 28
+
+abbrev pub NothingNew : Type 0
+NothingNew = (s : List ℕ) (allow : Bool) (q : Records) → IsSheet s q → NoLateLinks q → NothingNewFor s allow q
 
 -- ## Demand 2: the tests mean what document 01 says
 
@@ -240,9 +307,10 @@ OursAmongRivals =
 pub record Meant (n : ℕ) (es : List Edge) : Type 0 where
   pub walks : (x v : ℕ) → x < n → (reaches n es x v ≡ true) ↔ Joined (members es) x v
   pub after-walks : (a v : ℕ) → (after-reaches n es a v ≡ true) ↔ After (members es) a v
+  pub end-walks : (a v : ℕ) → (after-reaches n (usable es a) a v ≡ true) ↔ After (UsableFrom (members es) a) a v
   pub start-sets : (a v : ℕ) → (in-anchor-set n es a v ≡ true) ↔ InAnchorSet (members es) a v
   pub sound : (well-posed n es ≡ true) ↔ WellPosed (members es)
-  pub circle : (closes-circle n es ≡ true) ↔ ((x : ℕ) × (k : ℕ) × (g : ℕ) × (l : ℕ) × Walk (Forward (members es)) x x (suc k) g l)
+  pub circle : (closes-circle n es ≡ true) ↔ ForwardCircle es
   pub reached : (unreached n es ≡ true) ↔ ((v : ℕ) × (v < n) × (¬ Joined (Forward (members es)) 0 v))
 
 -- For every sheet, as sent and with its waits in. "Step 0 is in every set, its own too. Another open step .." Proof: tests-meant.
@@ -296,7 +364,7 @@ pub record WaitsFor (q : Records) (v : ℕ) : Type 0 where
   pub itself : (a : ℕ) → ¬ List·Memᴰ (wait-pair a a) (sheet-waits q)
   pub source : (a : ℕ) → ¬ List·Memᴰ (wait-pair a 0) (sheet-waits q)
   pub then-sound : WellPosed (members (serialized-of q))
-  pub then-no-circle : (x k g l : ℕ) → ¬ Walk (Forward (members (serialized-of q))) x x (suc k) g l
+  pub then-no-circle : ¬ ForwardCircle (serialized-of q)
   pub then-no-gain : (x k g l : ℕ) → Walk (members (serialized-of q)) x x k g l → g ≤ l
 
 abbrev pub WaitsSound : Type 0
@@ -304,10 +372,10 @@ WaitsSound = (s : List ℕ) (allow : Bool) (q : Records) (v : ℕ) → Accepted 
 
 -- ## Demand 2: offsets and starts
 
--- "Offset of v for a in its start set: the heaviest walk from a to v that begins with an after link out of a; for a = 0, the heaviest walk from 0." "Offsets never exceed 4,128,705." Proof:
--- offsets-right.
+-- "Offset of v for a in its start set: the heaviest walk from a to v that begins with an after link out of a; for a = 0, the heaviest walk from 0." "A walk that counts from the end of i, for a wait or
+-- an offset, never takes" i's own return from the finish. "Offsets never exceed 4,128,705." Proof: offsets-right.
 pub record OffsetFor (q : Records) (a v : ℕ) : Type 0 where
-  pub heaviest : Offset (members (serialized-of q)) a v (sheet-offset q a v)
+  pub heaviest : Offset (UsableFrom (members (serialized-of q)) a) a v (sheet-offset q a v)
   pub small : sheet-offset q a v ≤ 4128705
 
 abbrev pub OffsetsRight : Type 0
@@ -386,14 +454,14 @@ LinesListed = (s : List ℕ) (allow : Bool) (q : Records) (v : ℕ) → Accepted
 
 -- ## How much of an input decides
 
--- The longest sheet has 3 + 1 + 63 * 3 + 512 * 7 = 3,777 bytes; one more shows that something follows it. So any longer front of any bytes decides what is read and what `standplan` prints. Proof:
+-- The longest sheet has 3 + 1 + 63 * 3 + 512 * 9 = 4,801 bytes; one more shows that something follows it. So any longer front of any bytes decides what is read and what `standplan` prints. Proof:
 -- front-decides.
 pub record FrontFor (s : List ℕ) (limit : ℕ) : Type 0 where
   pub reads : read (take limit s) ≡ read s
   pub prints : standplan (take limit s) ≡ standplan s
 
 abbrev pub FrontDecides : Type 0
-FrontDecides = (s : List ℕ) (limit : ℕ) → 3777 < limit → FrontFor s limit
+FrontDecides = (s : List ℕ) (limit : ℕ) → 4801 < limit → FrontFor s limit
 
 -- ## The hypotheses are met
 
@@ -402,7 +470,8 @@ abbrev pub WorkedBytes : List ℕ → Type 0
 WorkedBytes s = (w : Worked) × List·Memᴰ w worked-sheets × (w .bytes ≡ s)
 
 -- There are accepted sheets of both verdicts; sheets refused 10, and 11 with a list that leaves none; and for one with waits a rival's sheet, with links of its own, and start times that keep it and
--- differ from ours. Proof: hypotheses-met.
+-- differ from ours. Of request L11: a sheet with a late link that needs no waits, on which a rival with foresight is earlier than we are, so that `NobodyEarlier` is false there; and two that are refused 28, by
+-- a circle and without. Proof: hypotheses-met.
 pub record RivalMet (q : Records) : Type 0 where
   pub links : List Constraint
   pub extension : Extension (q .steps) (constraints (q .pairs)) links
@@ -414,8 +483,20 @@ pub record RivalMet (q : Records) : Type 0 where
   pub exists : step < count-of q
   pub later : our-start q durations step < times step
 
+pub record ForesightEarlier (q : Records) : Type 0 where
+  pub durations : ℕ → ℕ
+  pub assigned : DelayAssignment (q .steps) durations
+  pub times : ℕ → ℕ
+  pub kept : KeepsLinks q durations times
+  pub step : ℕ
+  pub exists : step < count-of q
+  pub earlier : times step < our-start q durations step
+
 pub record HypothesesMet : Type 0 where
   pub sound : (s : List ℕ) × (q : Records) × WorkedBytes s × Accepted s false q 0
   pub with-waits : (s : List ℕ) × (q : Records) × WorkedBytes s × Accepted s true q 1 × RivalMet q
   pub infeasible : (s : List ℕ) × (q : Records) × WorkedBytes s × WellFormed s q × (judged s true ≡ refused 10)
   pub inconsistent : (s : List ℕ) × (q : Records) × WorkedBytes s × WellFormed s q × (judged s true ≡ refused 11) × SomeListLeavesNone q
+  pub foresight : (s : List ℕ) × (q : Records) × WorkedBytes s × Accepted s false q 0 × ForesightEarlier q
+  pub circle : (s : List ℕ) × (q : Records) × WorkedBytes s × WellFormed s q × (judged s false ≡ refused 28) × (closes-circle (count-of q) (serialized-of q) ≡ true)
+  pub no-circle : (s : List ℕ) × (q : Records) × WorkedBytes s × WellFormed s q × (judged s false ≡ refused 28) × (closes-circle (count-of q) (serialized-of q) ≡ false)

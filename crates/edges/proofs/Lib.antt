@@ -1,3 +1,5 @@
 pub mod Digits
+pub mod Places
+pub mod Users
 pub mod Serializing
 pub mod Waiting

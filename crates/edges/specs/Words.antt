@@ -5,13 +5,13 @@ use Prim.Native.Nat.{ℕ, _/_, _%_, _<_}
 use lib.Dec.{eqb}
 use Rattle.definitions.specs.Links.{Edge}
 
-abbrev pub edge : ℕ → ℕ → ℕ → ℕ → Bool → Bool → Edge
-edge f t g l c b = record { from = f; to = t; gain = g; loss = l; counted = c; back = b }
+abbrev pub edge : ℕ → ℕ → ℕ → ℕ → Bool → Bool → Bool → Edge
+edge f t g l c b late = record { from = f; to = t; gain = g; loss = l; counted = c; back = b; late = late }
 
--- From and to have six bits each, the two marks one each, gain and loss 24 bits each.
+-- From and to have six bits each, the two marks counted and back one each, gain and loss 24 bits each; the mark late has the bit above them.
 unfoldable pub unpack : ℕ → Edge
 unpack w =
-    record { from = w % 64; to = w / 64 % 64; gain = w / 16384 % 16777216; loss = w / 274877906944 % 16777216; counted = eqb (w / 4096 % 2) 1; back = eqb (w / 8192 % 2) 1 }
+    record { from = w % 64; to = w / 64 % 64; gain = w / 16384 % 16777216; loss = w / 274877906944 % 16777216; counted = eqb (w / 4096 % 2) 1; back = eqb (w / 8192 % 2) 1; late = eqb (w / 4611686018427387904 % 2) 1 }
 
 -- The edge list that words stand for.
 unfoldable pub graph : List ℕ → List Edge

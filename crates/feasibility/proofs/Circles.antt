@@ -1,12 +1,12 @@
 -- Walking back along the edges that were noted.
 use mathlib.Core.Path.{_≡_, refl, sym}
-use mathlib.Core.List.{List, Memᴰ·map}
+use mathlib.Core.List.{List}
 use Prim.Native.Nat.{ℕ, suc, _+_, _-_, _*_, _≤_, _<_}
 use native.Mathlib.Omega.{arith}
 use lib.ListN.{length, getD}
 use Rattle.definitions.specs.Links.{Walk, members}
 use Rattle.edges.specs.Words.{graph, unpack}
-use Rattle.laws.proofs.Lists.{mem-at}
+use Rattle.edges.proofs.Places.{graph-at}
 use Rattle.theory.proofs.Walks.{join, walk-edge, walk-from, walk-none, walk-to}
 use Rattle.feasibility.specs.Search.{Circle}
 
@@ -24,10 +24,9 @@ back-start es x n b = record { inside = omega arith; below = b; light = omega ar
 -- One edge more, before the walk.
 module _ (es : List ℕ) (x n k v gains losses i : ℕ) {from gain loss : ℕ} (B : Back es x n k v gains losses) (some : 1 ≤ i) (few : i ≤ length es) (enters : unpack (getD es (i - 1) 0) .to ≡ v) (f : from ≡ unpack (getD es (i - 1) 0) .from) (g : gain ≡ unpack (getD es (i - 1) 0) .gain) (l : loss ≡ unpack (getD es (i - 1) 0) .loss) where
   back-walk : Walk (members (graph es)) from x (suc k) (gains + gain) (losses + loss)
-  unfolding graph
   back-walk =
       let e = unpack (getD es (i - 1) 0) in
-      let edge = walk-edge {E = members (graph es)} e (Memᴰ·map unpack (mem-at es (i - 1) 0 (omega arith))) in
+      let edge = walk-edge {E = members (graph es)} e (graph-at es (i - 1) (omega arith)) in
       walk-from f (walk-to (join (walk-to edge enters refl refl refl) (B .walk)) refl (omega arith) (omega arith) (omega arith))
 
   pub back-more : k < n → from < 64 → gain < 16777216 → loss < 16777216 → Back es x n (k + 1) from (gains + gain) (losses + loss)

@@ -33,7 +33,7 @@ or-none false y h = h
 module _ (e : Edge) (row via : List ℕ) (m c : ℕ) (long : length row ≡ 64) (noted : length via ≡ 64) (value : c ≡ cut-hand (cell row) e) where
   pub pushed-stored : (m′ k : ℕ) → e .to < 64 → cell row (e .to) < c → ((j : ℕ) → test-bit m′ j ≡ (test-bit m j || eqb j (e .to))) → Pushed (Only e) (e .from) row (set row (e .to) c) (set via (e .to) k) m m′
   pushed-stored m′ k b l bits =
-      record { long = length-set row (e .to) c ∙ long; noted = length-set via (e .to) k ∙ noted; handed = record { up = R .up; hands = λ q x o f. rw o (R .hands refl); sound = λ t st below v. R .sound t (st e refl) below v; marks = λ v q. bits v ∙ or-left (eqb v (e .to)) q; marked = λ v q. other v (eqb-false v (e .to) (or-none (test-bit m v) (eqb v (e .to)) (sym (bits v) ∙ q))) }; grows = λ v h q. grown v (eqb-true v (e .to) (or-new (test-bit m v) (eqb v (e .to)) (sym (bits v) ∙ h) q)) }
+      record { long = length-set row (e .to) c ∙ long; noted = length-set via (e .to) k ∙ noted; handed = record { up = R .up; hands = λ q x o f. rw o (R .hands refl); sound = λ t st below v. R .sound t (λ q. st e refl) below v; marks = λ v q. bits v ∙ or-left (eqb v (e .to)) q; marked = λ v q. other v (eqb-false v (e .to) (or-none (test-bit m v) (eqb v (e .to)) (sym (bits v) ∙ q))) }; grows = λ v h q. grown v (eqb-true v (e .to) (or-new (test-bit m v) (eqb v (e .to)) (sym (bits v) ∙ h) q)) }
     where
       here : cell (set row (e .to) c) (e .to) ≡ c
       here = getD-set-same row (e .to) c 0 (omega arith)
@@ -45,7 +45,7 @@ module _ (e : Edge) (row via : List ℕ) (m c : ℕ) (long : length row ≡ 64) 
       larger = omega (arith, here)
 
       R : Relaxed e true (cell row) (cell (set row (e .to) c)) true
-      R = used-on e (cell row) (cell (set row (e .to) c)) true true larger other (λ q. absurd (both-ways refl q))
+      R = used-on e (cell row) (cell (set row (e .to) c)) true true refl larger other (λ q. absurd (both-ways refl q))
 
       grown : (v : ℕ) → v ≡ e .to → cell row v < cell (set row (e .to) c) v
       grown v h = omega (arith, here, ap (cell row) h, ap (cell (set row (e .to) c)) h)

@@ -156,11 +156,3 @@ module _ (es : List ℕ) (n : ℕ) (some : 1 ≤ n) (few : n ≤ 64) {k : ℕ} {
 pub circle-found : (es : List ℕ) (n : ℕ) → 1 ≤ n → Circle (members (graph es)) → Shape n (members (graph es)) → Rooted n (members (graph es)) → false ≡ stable (graph es) (rounds (graph es) n (source-row n 0))
 circle-found es n some C shape rooted =
     sym (not-passing (stable (graph es) (rounds (graph es) n (source-row n 0))) (λ t. let c = stable-nonpositive-iff some shape rooted .0 t .closed (C .walk) in omega (arith, c, C .above)))
-
--- One cell more below the largest number.
-pub cells-more : (row : List ℕ) (v : ℕ) → ((u : ℕ) → u < v → cell row u < 4294967295) → cell row v < 4294967295 → (u : ℕ) → u < v + 1 → cell row u < 4294967295
-cells-more row v below here u b = by (same-or-not u v)
-  where
-    by : (u ≡ v) ⊎ (u ≢ v) → cell row u < 4294967295
-    by (inl e) = omega (arith, ap (cell row) e)
-    by (inr e) = below u (omega arith)

@@ -10,7 +10,7 @@ use lib.ListN.{length, getD, set, replicate, getD-replicate}
 use borrow.Author.Tests.{eq-eqb, eqb-true, ltb-true, lt-ltb, ne-eqb}
 use Rattle.definitions.specs.Anchors.{WellPosed}
 use Rattle.definitions.specs.Basics.{all-below, test-bit}
-use Rattle.definitions.specs.Links.{Edge, Graph, _⊑_, members, usable}
+use Rattle.definitions.specs.Links.{Edge, Graph, LateInto, _⊑_, members, usable}
 use Rattle.definitions.specs.Plan.{offset-row}
 use Rattle.definitions.specs.Rounds.{cell, extend}
 use Rattle.definitions.specs.Waits.{wait-edge}
@@ -27,11 +27,12 @@ use Rattle.seeding.specs.Seeds.{SeededAll, WaitsBelow}
 use Rattle.seeding.proofs.Seeding.{seeded-then}
 use Rattle.sweeps.specs.Graphs.{Both}
 use Rattle.theory.specs.Graphs.{Gains, Well}
-use Rattle.theory.specs.Sweeps.{Seeds, Settles, Sweeps, hand, more, none}
+use Rattle.theory.specs.Sweeps.{Leads, Seeds, Settles, Sweeps, hand, more, none}
 use Rattle.theory.proofs.FirstRows.{zeros-at}
 use Rattle.theory.proofs.Relaxation.{extend-mono}
 use Rattle.theory.proofs.Sweeping.{offsets-seeded, offsets-settle, offsets-small, offsets-swept, sweeps-rest}
-use Rattle.theory.proofs.WaitLists.{usable-all}
+use Rattle.theory.proofs.Usables.{forward-usable, members-usable, usable-members}
+use Rattle.theory.proofs.Walks.{counted-forward}
 use Rattle.heaviest.specs.Settling.{Above, First, FirstMarks, SettlingAll, Within}
 
 -- Below a settled column that is small, nothing that an edge hands on is cut.
@@ -108,16 +109,17 @@ module _ {E : ℕ → Graph} {n : ℕ} {d₀ : List (List ℕ)} {f₀ : List ℕ
   pub settling-end : {k : ℕ} {d : List (List ℕ)} {f : List ℕ} → k ≤ n → n ≤ k → SettlingAll E n k d₀ d f₀ f → SettlingAll E n n d₀ d f₀ f
   settling-end {k} {d} {f} b h P = let e : k ≡ n = omega arith in rw e at P
 
--- The edges of the words and of the waits, as one list and as the sweeps go over them.
+-- The edges of the words and of the waits, as one list and as the sweeps go over them: for each anchor those that it may use.
 module _ (es maps waiting : List ℕ) (n : ℕ) (within : Within n maps) (turned : (v k : ℕ) → row-bit waiting k v ≡ (ltb v n && row-bit maps v k)) where
   both-waits : (e : Edge) → WaitsFor (e .from) (getD waiting (e .from) 0) e → List·Memᴰ e (wait-edges n maps)
   both-waits e w =
       let t = and-split (ltb (w .target) n) (row-bit maps (w .target) (e .from)) (sym (turned (w .target) (e .from)) ∙ w .waits) in
       wait-edges-has n maps e (record { anchor = e .from; target = w .target; anchor-below = within (w .target) (e .from) (t .1); target-below = ltb-true (w .target) n (t .0); stands = t .1; same = w .same })
 
-  pub both-list : (a : ℕ) → Both es waiting a ⊑ members (graph es ++ wait-edges n maps)
-  both-list a e (inl m) = Memᴰ·append-left (wait-edges n maps) m
-  both-list a e (inr w) = Memᴰ·append-right (graph es) (both-waits e w)
+  pub both-list : (a : ℕ) → Both es waiting a ⊑ members (usable (graph es ++ wait-edges n maps) a)
+  both-list a e (inl m) = usable-members (graph es ++ wait-edges n maps) a e (Memᴰ·append-left (wait-edges n maps) (m .0), m .1)
+  both-list a e (inr w) =
+      usable-members (graph es ++ wait-edges n maps) a e (Memᴰ·append-right (graph es) (both-waits e w), λ l. both-ways (l .0) (ap (λ (x : Edge). x .late) (w .same)))
 
   list-waits : (e : Edge) → List·Memᴰ e (wait-edges n maps) → (e .from < n) × WaitsFor (e .from) (getD waiting (e .from) 0) e
   list-waits e m =
@@ -127,12 +129,14 @@ module _ (es maps waiting : List ℕ) (n : ℕ) (within : Within n maps) (turned
         record { target = w .target; waits = ap (λ (x : ℕ). row-bit waiting x (w .target)) o ∙ turned (w .target) (w .anchor) ∙ and-join (lt-ltb (w .target) n (w .target-below)) (w .stands); same = w .same ∙ ap (λ (x : ℕ). wait-edge (record { anchor = x; target = w .target })) (sym o) },
       )
 
-  list-by : (a : ℕ) (e : Edge) → List·Memᴰ e (graph es) ⊎ List·Memᴰ e (wait-edges n maps) → Both es waiting a e
-  list-by a e (inl m) = inl m
-  list-by a e (inr m) = inr (list-waits e m .1)
+  list-by : (a : ℕ) (e : Edge) → ¬ LateInto e a → List·Memᴰ e (graph es) ⊎ List·Memᴰ e (wait-edges n maps) → Both es waiting a e
+  list-by a e u (inl m) = inl (m, u)
+  list-by a e u (inr m) = inr (list-waits e m .1)
 
-  pub list-both : (a : ℕ) → members (graph es ++ wait-edges n maps) ⊑ Both es waiting a
-  list-both a e m = list-by a e (List·Memᴰ·append-cases (graph es) m)
+  pub list-both : (a : ℕ) → members (usable (graph es ++ wait-edges n maps) a) ⊑ Both es waiting a
+  list-both a e m =
+      let r = members-usable (graph es ++ wait-edges n maps) a e m in
+      list-by a e (r .1) (List·Memᴰ·append-cases (graph es) (r .0))
 
   seeded-by : (e : Edge) → List·Memᴰ e (graph es) ⊎ List·Memᴰ e (wait-edges n maps) → List·Memᴰ e (graph es) ⊎ WaitsBelow n waiting e
   seeded-by e (inl m) = inl m
@@ -179,14 +183,15 @@ module _ (es maps waiting : List ℕ) (n : ℕ) (few : n ≤ 64) (within : Withi
     abbrev t : ℕ → ℕ
     t = cell (offset-row n g a)
 
-    used : (P : List Edge → Type 0) → P (usable g a) → P g
-    used P h = subst P (usable-all g a) h
+    settles : Settles (members (usable g a)) t
+    settles = offsets-settle well posed a inside
 
-    settles : Settles (members g) t
-    settles = used (λ us. Settles (members us) t) (offsets-settle well posed a inside)
+    seeds : Seeds (members (usable g a)) a t
+    seeds = offsets-seeded well posed a inside
 
-    seeds : Seeds (members g) a t
-    seeds = used (λ us. Seeds (members us) a t) (offsets-seeded well posed a inside)
+    -- A counted edge is no return, and so is never late.
+    leading : (e : Edge) → List·Memᴰ e g → Leads a e → List·Memᴰ e (usable g a)
+    leading e m l = usable-members g a e (m, forward-usable (well .shape) a e m (counted-forward (well .shape) e m (l .counts)))
 
     first-below : (v : ℕ) → column d₀ a v ≤ t v
     first-below v = by (same-or-not a 0) (same-or-not v 0)
@@ -198,10 +203,10 @@ module _ (es maps waiting : List ℕ) (n : ℕ) (few : n ≤ 64) (within : Withi
 
     above : Above (Both es waiting a) (column d a) t
     above =
-        record { settles = λ e m. settles e (both-list es maps waiting n within turned a e m); above = seeded .each a .sound t (λ e m l. seeds .after e m l) first-below; small = λ e m. omega (arith, offsets-small well posed a inside gains few (e .to) (well .shape .to-below e (both-list es maps waiting n within turned a e m))) }
+        record { settles = λ e m. settles e (both-list es maps waiting n within turned a e m); above = seeded .each a .sound t (λ e m l. seeds .after e (leading e m l) l) first-below; small = λ e m. omega (arith, offsets-small well posed a inside gains few (e .to) (well .shape .to-below e (members-usable g a e (both-list es maps waiting n within turned a e m) .0))) }
 
-    begun : Seeds (members g) a (column d a)
-    begun = record { source = λ h. omega (arith, first-one a 0 h refl, seeded .each a .up 0); after = seeded .each a .begun }
+    begun : Seeds (members (usable g a)) a (column d a)
+    begun = record { source = λ h. omega (arith, first-one a 0 h refl, seeded .each a .up 0); after = λ e m l. seeded .each a .begun e (members-usable g a e m .0) l }
 
     covered : Covered (Both es waiting a) (column d a) (marks f a)
     covered e m q = omega (arith, extend-zero (column d a (e .from)) (e .gain) (e .loss) (seeded .each a .marked (first-marked a) (e .from) q))
@@ -210,24 +215,14 @@ module _ (es maps waiting : List ℕ) (n : ℕ) (few : n ≤ 64) (within : Withi
         extend-zero zero p l h = unfold extend in refl
         extend-zero (suc c) p l h = absurd (omega arith)
 
-    swept : Sweeps (members g) (column d a) n (column d′ a)
+    swept : Sweeps (members (usable g a)) (column d a) n (column d′ a)
     swept =
         sweeps-as (list-both es maps waiting n within turned a)
-        (settled .each a .sweeps covered (λ e m. well .shape .from-below e (both-list es maps waiting n within turned a e m)) t above)
+        (settled .each a .sweeps covered (λ e m. well .shape .from-below e (members-usable g a e (both-list es maps waiting n within turned a e m) .0)) t above)
       where
         sweeps-as : {E F : Graph} {r s : ℕ → ℕ} {k : ℕ} → F ⊑ E → Sweeps E r k s → Sweeps F r k s
         sweeps-as i (none h up) = none h up
         sweeps-as i (more m w h) = more (sweeps-as i m) (record { up = w .up; hands = λ e x. w .hands e (i e x) }) h
 
     pub walks-found : (v : ℕ) → entry d′ v a ≡ cell (offset-row n (graph es ++ wait-edges n maps) a) v
-    walks-found v =
-        let back : (P : List Edge → Type 0) → P g → P (usable g a) = λ P h. subst P (sym (usable-all g a)) h in
-        offsets-swept
-        well
-        posed
-        a
-        inside
-        (back (λ us. Seeds (members us) a (column d a)) begun)
-        (back (λ us. Sweeps (members us) (column d a) n (column d′ a)) swept)
-        (settled .each a .sound t (above .settles) (above .above))
-        v
+    walks-found v = offsets-swept well posed a inside begun swept (settled .each a .sound t (above .settles) (above .above)) v

@@ -80,7 +80,8 @@ fn settle(
 // At [v][a] the cell of step v for anchor a, over the edges and the waits that maps hold. The order decides speed alone.
 pub fn walks(es: &[u64], maps: &[u64; 64], order: &[u8; 64], n: usize) -> [[u32; 64]; 64]
     requires { ⌜ (n ≤ 64) × (length (now es) ≤ 2048) ⌝ }
-    ensures { λ d. ⌜ (Within n (now (maps .entry)) → Well n (members (graph (now (es .entry)) ++ wait-edges n (now (maps .entry)))) → WellPosed (members (graph (now (es .entry)) ++ wait-edges n (now (maps .entry)))) → Gains (members (graph (now (es .entry)) ++ wait-edges n (now (maps .entry)))) 65535 → (a v : ℕ) → a < n → v < n → entry d v a ≡ cell (offset-row n (graph (now (es .entry)) ++ wait-edges n (now (maps .entry))) a) v) ⌝ }
+    ensures square { λ d. ⌜ Square d ⌝ }
+    ensures cells { λ d. ⌜ (Within n (now (maps .entry)) → Well n (members (graph (now (es .entry)) ++ wait-edges n (now (maps .entry)))) → WellPosed (members (graph (now (es .entry)) ++ wait-edges n (now (maps .entry)))) → Gains (members (graph (now (es .entry)) ++ wait-edges n (now (maps .entry)))) 65535 → (a v : ℕ) → a < n → v < n → entry d v a ≡ cell (offset-row n (graph (now (es .entry)) ++ wait-edges n (now (maps .entry))) a) v) ⌝ }
 {
     let lists = lists(es);
     let waiting = transpose(maps, n);

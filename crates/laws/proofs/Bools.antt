@@ -3,6 +3,8 @@ use mathlib.Core.Path.{_≡_, refl, sym, ap, _∙_}
 use mathlib.Core.Bool.{Bool, true, false, cond, _&&_, _||_, true≢false, false≢true}
 use mathlib.Core.Logic.{_⊎_, inl, inr, _≢_, _↔_}
 use Prim.Native.Nat.{ℕ}
+use lib.Dec.{eqb}
+use borrow.Author.Tests.{eq-eqb, eqb-true}
 use native.Mathlib.Decide.{ℕ-discrete}
 
 unfoldable pub bool-cases : (b : Bool) → (b ≡ true) ⊎ (b ≡ false)
@@ -41,6 +43,10 @@ pub or-right : (a : Bool) {b : Bool} → b ≡ true → (a || b) ≡ true
 or-right true h = refl
 or-right false h = h
 
+pub or-neither : (a b : Bool) → ((a || b) ≡ false) ↔ ((a ≡ false) × (b ≡ false))
+or-neither true b = (λ h. absurd (true≢false h), λ h. h .0)
+or-neither false b = (λ h. (refl, h), λ h. h .1)
+
 -- A test that cannot pass fails.
 pub not-passing : (b : Bool) → b ≢ true → b ≡ false
 not-passing true h = absurd (h refl)
@@ -58,6 +64,10 @@ pub same-test : (a b : Bool) → (a ≡ true → b ≡ true) → (b ≡ true →
 same-test true b f g = sym (f refl)
 same-test false true f g = g refl
 same-test false false f g = refl
+
+-- Numbers compared either way round.
+pub eqb-turned : (x y : ℕ) → eqb x y ≡ eqb y x
+eqb-turned x y = same-test (eqb x y) (eqb y x) (λ h. eq-eqb y x (sym (eqb-true x y h))) (λ h. eq-eqb x y (sym (eqb-true y x h)))
 
 -- A test that says whether P holds decides P.
 pub test-decides : {P : Type 0} {b : Bool} → ((b ≡ true) ↔ P) → Dec P

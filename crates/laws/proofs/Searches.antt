@@ -1,6 +1,6 @@
--- More laws of `any` and `any-below`: one element more, tests that agree, a condition taken out.
-use mathlib.Core.Path.{_≡_, refl, ap, _∙_}
-use mathlib.Core.Bool.{Bool, true, false, _&&_, _||_}
+-- More laws of `any`, `any-below` and `all-below`: two lists, one element more, tests that agree.
+use mathlib.Core.Path.{_≡_, refl, sym, ap, _∙_}
+use mathlib.Core.Bool.{Bool, true, false, _&&_, _||_, or-assoc}
 use mathlib.Core.List.{List, [], _∷_, _++_, List·Memᴰ, List·Memᴰ·head, List·Memᴰ·tail, map}
 use Prim.Native.Nat.{ℕ, zero, suc, _+_, _<_}
 use native.Mathlib.Omega.{arith}
@@ -13,15 +13,15 @@ pub or-none : (b : Bool) → (b || false) ≡ b
 or-none true = refl
 or-none false = refl
 
-or-assoc : (a b c : Bool) → (a || (b || c)) ≡ ((a || b) || c)
-or-assoc true b c = refl
-or-assoc false b c = refl
+-- Two lists, one after the other; and one element more, at the end.
+pub any-append : {A : Type 0} (test : A → Bool) (xs ys : List A) → any test (xs ++ ys) ≡ (any test xs || any test ys)
+unfolding any
+any-append test [] ys = refl
+any-append test (x ∷ xs) ys = ap (λ (b : Bool). test x || b) (any-append test xs ys) ∙ sym (or-assoc (test x) (any test xs) (any test ys))
 
--- One element more, at the end.
 pub any-snoc : {A : Type 0} (test : A → Bool) (xs : List A) (x : A) → any test (xs ++ x ∷ []) ≡ (any test xs || test x)
 unfolding any
-any-snoc test [] x = or-none (test x)
-any-snoc test (y ∷ xs) x = ap (λ (b : Bool). test y || b) (any-snoc test xs x) ∙ or-assoc (test y) (any test xs) (test x)
+any-snoc test xs x = any-append test xs (x ∷ []) ∙ ap (λ (b : Bool). any test xs || b) (or-none (test x))
 
 -- Tests that agree on the members, or on the numbers below n, give the same answer.
 pub any-same : {A : Type 0} (t u : A → Bool) (xs : List A) → ((x : A) → List·Memᴰ x xs → t x ≡ u x) → any t xs ≡ any u xs
@@ -50,6 +50,14 @@ any-below-more test n h t = ap (any-below test) (add-one n) ∙ ap (λ (b : Bool
 pub any-below-nothing : (test : ℕ → Bool) → any-below test 0 ≡ false
 unfolding any-below
 any-below-nothing test = refl
+
+pub all-below-more : (test : ℕ → Bool) (n : ℕ) → all-below test n ≡ true → test n ≡ true → all-below test (n + 1) ≡ true
+unfolding all-below
+all-below-more test n h t = ap (all-below test) (add-one n) ∙ ap (λ (b : Bool). b && test n) h ∙ t
+
+pub all-below-nothing : (test : ℕ → Bool) → all-below test 0 ≡ true
+unfolding all-below
+all-below-nothing test = refl
 
 -- One element more of a list that is worked on from its front.
 pub map-take-more : {A B : Type 0} (f : A → B) (l : List A) (i : ℕ) (z : A) → i < length l → map f (take (i + 1) l) ≡ map f (take i l) ++ f (getD l i z) ∷ []

@@ -1,37 +1,101 @@
 -- What the parser of a link record finds at a place of the bytes, case by case. Each law is the parser's text, computed at the bytes that are there.
-use mathlib.Core.Path.{_≡_, refl}
-use mathlib.Core.Bool.{Bool, true, false, _||_}
-use mathlib.Core.List.{List}
+use mathlib.Core.Path.{_≡_, refl, sym, ap, subst, _∙_}
+use mathlib.Core.Bool.{Bool, true, false, not, _&&_, _||_}
+use mathlib.Core.Logic.{_⊎_, inl, inr}
+use mathlib.Core.List.{List, [], _∷_}
 use Prim.Native.Nat.{ℕ, _+_, _≤_, _<_}
 use native.Mathlib.Omega.{arith}
-use lib.Dec.{ltb}
+use lib.Dec.{T, leb, ltb}
 use lib.ListN.{length, getD, drop}
-use borrow.Author.Tests.{le-ltb, eq-eqb, ne-eqb, le-leb, lt-leb}
-use Rattle.definitions.specs.Basics.{test-bit, given, refused, when-given}
-use Rattle.definitions.specs.Bytes.{_>>=_, give, demand, byte, ticks-if, link-map, endpoints, rises, bound-from, link}
+use mir.Val.{hasKey}
+use types.Run.{OneOf, hit}
+use borrow.Author.Tests.{leb-true, not-true, le-ltb, eq-eqb, ne-eqb, lt-leb}
+use Rattle.definitions.specs.Basics.{all, all-below, test-bit, given, refused, when-given}
+use Rattle.definitions.specs.Bytes.{_>>=_, give, demand, byte, ticks-if, link-map, sequenced, endpoints, rises, bound-from, link}
 use Rattle.definitions.specs.declared.Previous.{Previous}
 use Rattle.definitions.specs.declared.Previous.the-variants.{Pair}
 use Rattle.definitions.specs.declared.Bound.{Bound}
+use Rattle.laws.proofs.Bools.{both-ways, and-split, or-split, not-passing}
+use Rattle.laws.proofs.Tests.{all-below-each}
 use Rattle.laws.proofs.Parsers.{when-given-twice, drop-byte, drop-end}
 use Rattle.fields.specs.Parts.{bound}
-use Rattle.link_record.specs.Parts.{link-fields, link-pair}
+use Rattle.link_record.specs.Parts.{link-latest, link-fields, link-pair}
 
--- Maps that a link record may have, and may not.
-pub map-allowed : (m : ℕ) → 1 ≤ m → m ≤ 7 → link-map m ≡ true
-unfolding link-map
-map-allowed m h k = rw (le-leb 1 m h, le-leb m 7 k)
+-- What a map is taken for: allowed; or 26, bit 4 without bit 0. Any other is 4.
+abbrev pub allowed : ℕ → Bool
+allowed m = link-map m && sequenced m
+
+abbrev pub unsequenced : ℕ → Bool
+unsequenced m = link-map m && not (sequenced m)
+
+-- A value among a list of keys passes a test that each of them passes. Induction on the list.
+keys-pass : (test : ℕ → Bool) (ks : List ℕ) (m : ℕ) → all test ks ≡ true → OneOf ks m → test m ≡ true
+unfolding all
+keys-pass test [] m h k = absurd k
+keys-pass test (k₀ ∷ []) m h e = ap test e ∙ and-split (test k₀) true h .0
+keys-pass test (k₀ ∷ (k₁ ∷ ks)) m h (inl e) = ap test e ∙ and-split (test k₀) (all test (k₁ ∷ ks)) h .0
+keys-pass test (k₀ ∷ (k₁ ∷ ks)) m h (inr k) = keys-pass test (k₁ ∷ ks) m (and-split (test k₀) (all test (k₁ ∷ ks)) h .1) k
+
+-- The maps with bits 0 and 4, and those with bit 4 and without bit 0.
+abbrev pub finish-maps : List ℕ
+finish-maps = 17 ∷ 19 ∷ 21 ∷ 23 ∷ []
+
+abbrev pub alone-maps : List ℕ
+alone-maps = 16 ∷ 18 ∷ 20 ∷ 22 ∷ []
+
+pub map-finish : (m : ℕ) → OneOf finish-maps m → allowed m ≡ true
+unfolding all link-map sequenced test-bit
+map-finish m k = keys-pass allowed finish-maps m refl k
+
+pub map-alone : (m : ℕ) → OneOf alone-maps m → unsequenced m ≡ true
+unfolding all link-map sequenced test-bit
+map-alone m k = keys-pass unsequenced alone-maps m refl k
+
+-- The maps without bit 4: a test computed for each.
+pub map-low : (m : ℕ) → 1 ≤ m → m < 8 → allowed m ≡ true
+unfolding all-below link-map sequenced test-bit
+map-low m from to = rw (le-ltb m 1 from) at (all-below-each (λ k. ltb k 1 || allowed k) 8 refl m to)
 
 pub map-empty : (m : ℕ) → m < 1 → link-map m ≡ false
 unfolding link-map
-map-empty m h = rw (lt-leb 1 m h)
+map-empty m h = rw (lt-leb 1 m h, lt-leb 16 m (omega arith))
 
-pub map-unknown : (m : ℕ) → 7 < m → link-map m ≡ false
+-- No map from 24 on is known; from 8 on only those of the two lists: again a test computed for each.
+pub map-small : (m : ℕ) → link-map m ≡ true → m < 24
 unfolding link-map
-map-unknown m h = rw (le-leb 1 m (omega arith), lt-leb m 7 h)
+map-small m h = go (or-split (leb 1 m && leb m 7) (leb 16 m && leb m 23) h)
+  where
+    go : (leb 1 m && leb m 7 ≡ true) ⊎ (leb 16 m && leb m 23 ≡ true) → m < 24
+    go (inl e) = let to : m ≤ 7 = leb-true m 7 (and-split (leb 1 m) (leb m 7) e .1) in omega arith
+    go (inr e) = let to : m ≤ 23 = leb-true m 23 (and-split (leb 16 m) (leb m 23) e .1) in omega arith
+
+known-maps : (m : ℕ) → m < 24 → (ltb m 8 || (hasKey finish-maps m || (hasKey alone-maps m || not (link-map m)))) ≡ true
+unfolding all-below link-map
+known-maps m to = all-below-each (λ k. ltb k 8 || (hasKey finish-maps k || (hasKey alone-maps k || not (link-map k)))) 24 refl m to
+
+pub map-unknown : (m : ℕ) → 8 ≤ m → (OneOf finish-maps m → ⊥) → (OneOf alone-maps m → ⊥) → link-map m ≡ false
+map-unknown m from none none-2 = not-passing (link-map m) (λ known. go known (or-split _ _ (rw (le-ltb m 8 from) at (known-maps m (map-small m known)))))
+  where
+    go-2 : link-map m ≡ true → (hasKey alone-maps m ≡ true) ⊎ (not (link-map m) ≡ true) → ⊥
+    go-2 known (inl k) = none-2 (hit alone-maps m (subst T (sym k) tt))
+    go-2 known (inr n) = both-ways known (not-true (link-map m) n)
+
+    go : link-map m ≡ true → (hasKey finish-maps m ≡ true) ⊎ ((hasKey alone-maps m || not (link-map m)) ≡ true) → ⊥
+    go known (inl k) = none (hit finish-maps m (subst T (sym k) tt))
+    go known (inr n) = go-2 known (or-split (hasKey alone-maps m) (not (link-map m)) n)
 
 -- The fields of a link record, one after the other.
 module _ (m i j : ℕ) (t : List ℕ) where
-  pub fields-there : {least most : Bound} {rest end : List ℕ} → bound (test-bit m 1) t ≡ given (record { value = least; rest = rest }) → bound (test-bit m 2) rest ≡ given (record { value = most; rest = end }) → link-fields m i j t ≡ given (record { value = record { from = i; to = j; sequencing = test-bit m 0; minimum = least; maximum = most }; rest = end })
+  module _ (least most : Bound) where
+    pub latest-there : {latest : Bound} {end : List ℕ} → bound (test-bit m 4) t ≡ given (record { value = latest; rest = end }) → link-latest m i j least most t ≡ given (record { value = record { from = i; to = j; sequencing = test-bit m 0; minimum = least; maximum = most; latest = latest }; rest = end })
+    unfolding link-latest when-given
+    latest-there e = rw e
+
+    pub latest-refused : {k : ℕ} → bound (test-bit m 4) t ≡ refused k → link-latest m i j least most t ≡ refused k
+    unfolding link-latest when-given
+    latest-refused e = rw e
+
+  pub fields-there : {least most : Bound} {rest end : List ℕ} → bound (test-bit m 1) t ≡ given (record { value = least; rest = rest }) → bound (test-bit m 2) rest ≡ given (record { value = most; rest = end }) → link-fields m i j t ≡ link-latest m i j least most end
   unfolding link-fields when-given
   fields-there e f = rw (e, f)
 
@@ -66,6 +130,10 @@ module _ (n : ℕ) (previous : Previous) (s : List ℕ) (at : ℕ) where
   unfolding link byte demand when-given
   link-refused h e = rw (drop-byte s at h, e)
 
+  pub link-alone : at < length s → unsequenced (getD s at 0) ≡ true → link n previous (drop at s) ≡ refused 26
+  unfolding link byte demand when-given
+  link-alone h e = let m = and-split (link-map (getD s at 0)) (not (sequenced (getD s at 0))) e in rw (drop-byte s at h, m .0, not-true (sequenced (getD s at 0)) (m .1))
+
   pub pair-none : (m : ℕ) → length s ≤ at → link-pair n previous m (drop at s) ≡ refused 1
   unfolding link-pair byte when-given
   pair-none m h = rw (drop-end s at h)
@@ -88,10 +156,10 @@ module _ (n : ℕ) (previous : Previous) (s : List ℕ) (at : ℕ) where
     pair-there e f = rw (drop-byte s at (omega arith), drop-byte s (at + 1) h, e, f)
 
 -- The definitions' own text of the fields is `link-fields`, whose bounds are read one by one.
-fields-as-defined : (m i j : ℕ) (s : List ℕ) → (ticks-if (test-bit m 1) >>= λ least. ticks-if (test-bit m 2) >>= λ most. give (record { from = i; to = j; sequencing = test-bit m 0; minimum = bound-from (test-bit m 1) least; maximum = bound-from (test-bit m 2) most })) s ≡ link-fields m i j s
-unfolding link-fields bound when-given
+fields-as-defined : (m i j : ℕ) (s : List ℕ) → (ticks-if (test-bit m 1) >>= λ least. ticks-if (test-bit m 2) >>= λ most. ticks-if (test-bit m 4) >>= λ latest. give (record { from = i; to = j; sequencing = test-bit m 0; minimum = bound-from (test-bit m 1) least; maximum = bound-from (test-bit m 2) most; latest = bound-from (test-bit m 4) latest })) s ≡ link-fields m i j s
+unfolding link-fields link-latest bound when-given
 fields-as-defined m i j s = simp when-given-twice
 
-pub link-there : (n : ℕ) (previous : Previous) (s : List ℕ) (at : ℕ) → at < length s → link-map (getD s at 0) ≡ true → link n previous (drop at s) ≡ link-pair n previous (getD s at 0) (drop (at + 1) s)
+pub link-there : (n : ℕ) (previous : Previous) (s : List ℕ) (at : ℕ) → at < length s → allowed (getD s at 0) ≡ true → link n previous (drop at s) ≡ link-pair n previous (getD s at 0) (drop (at + 1) s)
 unfolding link link-pair byte demand when-given
-link-there n previous s at h e = rw (drop-byte s at h, e) (simp fields-as-defined)
+link-there n previous s at h e = let m = and-split (link-map (getD s at 0)) (sequenced (getD s at 0)) e in rw (drop-byte s at h, m .0, m .1) (simp fields-as-defined)

@@ -2,8 +2,9 @@
 ghost use mathlib.Core.Path.{_≡_};
 ghost use lib.ListN.{drop};
 ghost use Rattle.definitions.specs.Bytes.{endpoints, rises, link};
-ghost use Rattle.link_record.specs.Parts.{link-fields, link-pair};
+ghost use Rattle.link_record.specs.Parts.{link-latest, link-fields, link-pair};
 ghost use Rattle.link_record.specs.Answers.{link-read};
+use definitions::Bound;
 use definitions::Link;
 use definitions::Previous;
 use definitions::Refusal;
@@ -45,22 +46,33 @@ fn pair_rises(previous: Previous, i: u8, j: u8) -> bool
     }
 }
 
+// The last field of a link record with the map m, its bounds from the start of i read.
+fn read_latest(s: &[u8], at: usize, m: u64, i: u8, j: u8, least: Bound, most: Bound) -> LinkRead
+    ensures { λ r. ⌜ link-read (now (s .entry)) r ≡ link-latest m i j least most (drop at (now (s .entry))) ⌝ }
+{
+    match fields::read_bound(s, at, bitmaps::has(m, 4)) {
+        BoundRead::Item(latest, end) => LinkRead::Item(
+            Link {
+                from: i,
+                to: j,
+                sequencing: bitmaps::has(m, 0),
+                minimum: least,
+                maximum: most,
+                latest: latest,
+            },
+            end,
+        ),
+        BoundRead::Refused(k) => LinkRead::Refused(k),
+    }
+}
+
 // The fields of a link record with the map m.
 fn read_fields(s: &[u8], at: usize, m: u64, i: u8, j: u8) -> LinkRead
     ensures { λ r. ⌜ link-read (now (s .entry)) r ≡ link-fields m i j (drop at (now (s .entry))) ⌝ }
 {
     match fields::read_bound(s, at, bitmaps::has(m, 1)) {
         BoundRead::Item(least, next) => match fields::read_bound(s, next, bitmaps::has(m, 2)) {
-            BoundRead::Item(most, end) => LinkRead::Item(
-                Link {
-                    from: i,
-                    to: j,
-                    sequencing: bitmaps::has(m, 0),
-                    minimum: least,
-                    maximum: most,
-                },
-                end,
-            ),
+            BoundRead::Item(most, after) => read_latest(s, after, m, i, j, least, most),
             BoundRead::Refused(k) => LinkRead::Refused(k),
         },
         BoundRead::Refused(k) => LinkRead::Refused(k),
@@ -89,7 +101,7 @@ fn read_pair(s: &[u8], at: usize, n: usize, previous: Previous, m: u64) -> LinkR
     read_fields(s, second + 1, m, i, j)
 }
 
-// A link record: its map is judged first.
+// A link record: its map is judged first, 4 and then 26, bit 4 without bit 0.
 pub fn read_link(s: &[u8], at: usize, n: usize, previous: Previous) -> LinkRead
     ensures { λ r. ⌜ link-read (now (s .entry)) r ≡ link n previous (drop at (now (s .entry))) ⌝ }
 {
@@ -98,7 +110,8 @@ pub fn read_link(s: &[u8], at: usize, n: usize, previous: Previous) -> LinkRead
     }
     let m = s[at];
     match m {
-        1..=7 => read_pair(s, at + 1, n, previous, m as u64),
+        1..=7 | 17 | 19 | 21 | 23 => read_pair(s, at + 1, n, previous, m as u64),
+        16 | 18 | 20 | 22 => LinkRead::Refused(Refusal::Unsequenced),
         _ => LinkRead::Refused(Refusal::BadMap),
     }
 }

@@ -26,6 +26,7 @@ pub fn blank_link() -> Link
         sequencing: false,
         minimum: Bound::Absent,
         maximum: Bound::Absent,
+        latest: Bound::Absent,
     }
 }
 

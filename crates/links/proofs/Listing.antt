@@ -10,7 +10,7 @@ use lib.ListN.{length, take, getD, List·getD-eq-default, length-take}
 use lib.Seq.{take-suc, getD-take}
 use borrow.Author.Tests.{ltb-true, ltb-false}
 use Rattle.definitions.specs.Bytes.{blank-operation}
-use Rattle.definitions.specs.Links.{Edge, Constraint, sequencing, minimum, maximum, sequencing-of, minimum-of, maximum-of, link-constraints, constraints, delay-at, edge-of, edges}
+use Rattle.definitions.specs.Links.{Edge, Constraint, sequencing, minimum, maximum, sequencing-of, minimum-of, maximum-of, finish-maximum-of, link-constraints, constraints, delay-at, edge-of, edges}
 use Rattle.definitions.specs.declared.Delay.{Delay}
 use Rattle.definitions.specs.declared.Operation.{Operation}
 use Rattle.definitions.specs.declared.Bound.{Bound}
@@ -18,7 +18,7 @@ use Rattle.definitions.specs.declared.Bound.the-variants.{Absent, Ticks}
 use Rattle.definitions.specs.declared.Link.{Link}
 use Rattle.edges.specs.Words.{graph}
 use Rattle.edges.specs.Words.{Fit}
-use Rattle.links.specs.Sheets.{Pushed, Listed, Ends, sequencing-edges, minimum-edges, maximum-edges, link-edges, delay-within}
+use Rattle.links.specs.Sheets.{Pushed, Listed, Ends, sequencing-edges, minimum-edges, maximum-edges, finish-edges, link-edges, delay-within}
 use Rattle.links.proofs.Pushing.{link-few}
 
 pub flatMap-append : {A B : Type 0} (f : A → List B) (s t : List A) → flatMap f (s ++ t) ≡ flatMap f s ++ flatMap f t
@@ -42,6 +42,11 @@ unfolding edges maximum-of maximum-edges edge-of
 maximum-map os i j (Ticks m) = refl
 maximum-map os i j Absent = refl
 
+finish-map : (os : List Operation) (i j : ℕ) (b : Bound) → edges os (finish-maximum-of i j b) ≡ finish-edges (delay-at os i) i j b
+unfolding edges finish-maximum-of finish-edges edge-of
+finish-map os i j (Ticks m) = refl
+finish-map os i j Absent = refl
+
 edges-append : (os : List Operation) (s t : List Constraint) → edges os (s ++ t) ≡ edges os s ++ edges os t
 unfolding edges
 edges-append os s t = map-append (edge-of os) s t
@@ -49,11 +54,14 @@ edges-append os s t = map-append (edge-of os) s t
 edges-three : (os : List Operation) (s t u : List Constraint) → edges os ((s ++ t) ++ u) ≡ (edges os s ++ edges os t) ++ edges os u
 edges-three os s t u = edges-append os (s ++ t) u ∙ ap (λ (x : List Edge). x ++ edges os u) (edges-append os s t)
 
+edges-four : (os : List Operation) (s t u v : List Constraint) → edges os (((s ++ t) ++ u) ++ v) ≡ ((edges os s ++ edges os t) ++ edges os u) ++ edges os v
+edges-four os s t u v = edges-append os ((s ++ t) ++ u) v ∙ ap (λ (x : List Edge). x ++ edges os v) (edges-three os s t u)
+
 pub link-map : (os : List Operation) (l : Link) → edges os (link-constraints l) ≡ link-edges (delay-at os (l .from)) l
 unfolding link-constraints link-edges
 link-map os l =
-    edges-three os (sequencing-of (l .from) (l .to) (l .sequencing)) (minimum-of (l .from) (l .to) (l .minimum)) (maximum-of (l .from) (l .to) (l .maximum))
-    ∙ rw (sequencing-map os (l .from) (l .to) (l .sequencing), minimum-map os (l .from) (l .to) (l .minimum), maximum-map os (l .from) (l .to) (l .maximum))
+    edges-four os (sequencing-of (l .from) (l .to) (l .sequencing)) (minimum-of (l .from) (l .to) (l .minimum)) (maximum-of (l .from) (l .to) (l .maximum)) (finish-maximum-of (l .from) (l .to) (l .latest))
+    ∙ rw (sequencing-map os (l .from) (l .to) (l .sequencing), minimum-map os (l .from) (l .to) (l .minimum), maximum-map os (l .from) (l .to) (l .maximum), finish-map os (l .from) (l .to) (l .latest))
 
 -- One record more.
 constraints-more : (s : List Link) (l : Link) → constraints (s ++ l ∷ []) ≡ constraints s ++ link-constraints l

@@ -13,7 +13,7 @@ use Rattle.definitions.specs.declared.Delay.{Delay}
 use Rattle.definitions.specs.declared.Bound.{Bound}
 use Rattle.definitions.specs.declared.Bound.the-variants.{Absent, Ticks}
 use Rattle.definitions.specs.declared.Link.{Link}
-use Rattle.links.specs.Sheets.{Pushed, sequencing-edges, minimum-edges, maximum-edges, link-edges}
+use Rattle.links.specs.Sheets.{Pushed, sequencing-edges, minimum-edges, maximum-edges, finish-edges, link-edges}
 
 pub graph-append : (s t : List ℕ) → graph (s ++ t) ≡ graph s ++ graph t
 unfolding graph
@@ -36,7 +36,7 @@ module _ (H : Type 0) where
   push-both {es} {fs} {s} {t} {u} {c} P Q =
       record { long = Q .long ∙ P .long; counts = omega (arith, P .counts, Q .counts, length-append es fs); same = λ a. Q .same a ∙ ap (λ (x : List Edge). x ++ fs) (P .same a) ∙ append-assoc (graph (take c s)) es fs }
 
--- Each of the three lists of a record has one edge at most.
+-- Each of the four lists of a record has one edge at most.
 pub sequencing-few : (d : Delay) (i j : ℕ) (b : Bool) → length (sequencing-edges d i j b) ≤ 1
 unfolding sequencing-edges
 sequencing-few d i j true = omega arith
@@ -52,17 +52,23 @@ unfolding maximum-edges
 maximum-few i j (Ticks m) = omega arith
 maximum-few i j Absent = omega arith
 
-few-three : (xs ys zs : List Edge) → length xs ≤ 1 → length ys ≤ 1 → length zs ≤ 1 → length ((xs ++ ys) ++ zs) ≤ 3
-few-three xs ys zs h k l = omega (arith, length-append (xs ++ ys) zs, length-append xs ys)
+pub finish-few : (d : Delay) (i j : ℕ) (b : Bound) → length (finish-edges d i j b) ≤ 1
+unfolding finish-edges
+finish-few d i j (Ticks m) = omega arith
+finish-few d i j Absent = omega arith
 
-pub link-few : (d : Delay) (l : Link) → length (link-edges d l) ≤ 3
+few-four : (xs ys zs us : List Edge) → length xs ≤ 1 → length ys ≤ 1 → length zs ≤ 1 → length us ≤ 1 → length (((xs ++ ys) ++ zs) ++ us) ≤ 4
+few-four xs ys zs us h k l m = omega (arith, length-append ((xs ++ ys) ++ zs) us, length-append (xs ++ ys) zs, length-append xs ys)
+
+pub link-few : (d : Delay) (l : Link) → length (link-edges d l) ≤ 4
 unfolding link-edges
 link-few d l =
-    few-three
+    few-four
     (sequencing-edges d (l .from) (l .to) (l .sequencing))
     (minimum-edges (l .from) (l .to) (l .minimum))
     (maximum-edges (l .from) (l .to) (l .maximum))
-    (sequencing-few d (l .from) (l .to) (l .sequencing)) (minimum-few (l .from) (l .to) (l .minimum)) (maximum-few (l .from) (l .to) (l .maximum))
+    (finish-edges d (l .from) (l .to) (l .latest))
+    (sequencing-few d (l .from) (l .to) (l .sequencing)) (minimum-few (l .from) (l .to) (l .minimum)) (maximum-few (l .from) (l .to) (l .maximum)) (finish-few d (l .from) (l .to) (l .latest))
 
 -- There is room after a push of one edge at most.
 pub room : {H : Type 0} {es : List Edge} {s t : List ℕ} {c d : ℕ} (k : ℕ) → Pushed H es s t c d → length es ≤ 1 → c + suc k ≤ length s → d + k ≤ length t

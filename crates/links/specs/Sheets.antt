@@ -4,7 +4,7 @@ use mathlib.Core.Bool.{Bool, true, false}
 use mathlib.Core.List.{List, [], _∷_, _++_, List·Memᴰ}
 use Prim.Native.Nat.{ℕ, _+_, _*_, _≤_}
 use lib.ListN.{length, take}
-use Rattle.definitions.specs.Links.{Edge, sequencing-edge, edges, constraints}
+use Rattle.definitions.specs.Links.{Edge, sequencing-edge, finish-edge, edges, constraints}
 use Rattle.definitions.specs.declared.Delay.{Delay}
 use Rattle.definitions.specs.declared.Delay.the-variants.{Fixed}
 use Rattle.definitions.specs.declared.Bound.{Bound}
@@ -13,21 +13,25 @@ use Rattle.definitions.specs.declared.Operation.{Operation}
 use Rattle.definitions.specs.declared.Link.{Link}
 use Rattle.edges.specs.Words.{edge, graph, Fit}
 
--- The edges of a record for (i, j), where the delay of i is d: after, at least, at most.
+-- The edges of a record for (i, j), where the delay of i is d: after, at least, at most, at most from the finish.
 unfoldable pub sequencing-edges : Delay → ℕ → ℕ → Bool → List Edge
 sequencing-edges d i j true = sequencing-edge d i j ∷ []
 sequencing-edges d i j false = []
 
 unfoldable pub minimum-edges : ℕ → ℕ → Bound → List Edge
-minimum-edges i j (Ticks m) = edge i j m 0 false false ∷ []
+minimum-edges i j (Ticks m) = edge i j m 0 false false false ∷ []
 minimum-edges i j Absent = []
 
 unfoldable pub maximum-edges : ℕ → ℕ → Bound → List Edge
-maximum-edges i j (Ticks u) = edge j i 0 u false true ∷ []
+maximum-edges i j (Ticks u) = edge j i 0 u false true false ∷ []
 maximum-edges i j Absent = []
 
+unfoldable pub finish-edges : Delay → ℕ → ℕ → Bound → List Edge
+finish-edges d i j (Ticks u) = finish-edge d i j u ∷ []
+finish-edges d i j Absent = []
+
 unfoldable pub link-edges : Delay → Link → List Edge
-link-edges d l = sequencing-edges d (l .from) (l .to) (l .sequencing) ++ minimum-edges (l .from) (l .to) (l .minimum) ++ maximum-edges (l .from) (l .to) (l .maximum)
+link-edges d l = sequencing-edges d (l .from) (l .to) (l .sequencing) ++ minimum-edges (l .from) (l .to) (l .minimum) ++ maximum-edges (l .from) (l .to) (l .maximum) ++ finish-edges d (l .from) (l .to) (l .latest)
 
 -- The delay of operation i among the first n: 0 for one that is not there.
 unfoldable pub delay-within : Bool → Operation → Delay
@@ -46,5 +50,5 @@ Ends ls = (l : Link) → List·Memᴰ l ls → Fit (l .from) (l .to)
 
 -- The first count words stand for the edges of k link records. Words past them are free: nothing is said of them.
 pub record Listed (os : List Operation) (ls : List Link) (k : ℕ) (words : List ℕ) (count : ℕ) : Type 0 where
-  pub few : count ≤ 3 * k
+  pub few : count ≤ 4 * k
   pub same : Ends ls → graph (take count words) ≡ edges os (constraints ls)

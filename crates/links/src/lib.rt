@@ -9,9 +9,9 @@ ghost use mathlib.Core.Path.{_≡_};
 ghost use mathlib.Core.Bool.{true, false};
 ghost use Prim.Native.Nat.{_+_, _<_, _≤_};
 ghost use lib.ListN.{take};
-ghost use Rattle.definitions.specs.Links.{sequencing-edge};
+ghost use Rattle.definitions.specs.Links.{sequencing-edge, finish-edge};
 ghost use Rattle.edges.specs.Words.{edge, unpack, Fit};
-ghost use Rattle.links.specs.Sheets.{sequencing-edges, minimum-edges, maximum-edges, link-edges, delay-within, Pushed, Listed};
+ghost use Rattle.links.specs.Sheets.{sequencing-edges, minimum-edges, maximum-edges, finish-edges, link-edges, delay-within, Pushed, Listed};
 
 fn ticks_of(x: u16) -> u32
     ensures { λ r. ⌜ (r ≡ x) × (r < 65536) ⌝ }
@@ -19,26 +19,43 @@ fn ticks_of(x: u16) -> u32
     x as u32
 }
 
-// The words of an after, an at-least and an at-most link on (from, to).
+// The words of an after, an at-least and an at-most link on (from, to), and of one at most from the finish.
 fn sequencing_word(delay: Delay, from: u8, to: u8) -> u64
     ensures { λ r. ⌜ (Fit from to → unpack r ≡ sequencing-edge delay from to) ⌝ }
 {
     match delay {
-        Delay::Open => pack(from, to, 0, 0, from != 0, false),
-        Delay::Fixed(ticks) => pack(from, to, ticks_of(ticks), 0, false, false),
+        Delay::Open => pack(from, to, 0, 0, from != 0, false, false),
+        Delay::Fixed(ticks) => pack(from, to, ticks_of(ticks), 0, false, false, false),
     }
 }
 
 fn minimum_word(from: u8, to: u8, least: u16) -> u64
-    ensures { λ r. ⌜ (Fit from to → unpack r ≡ edge from to least 0 false false) ⌝ }
+    ensures { λ r. ⌜ (Fit from to → unpack r ≡ edge from to least 0 false false false) ⌝ }
 {
-    pack(from, to, ticks_of(least), 0, false, false)
+    pack(from, to, ticks_of(least), 0, false, false, false)
 }
 
 fn maximum_word(from: u8, to: u8, most: u16) -> u64
-    ensures { λ r. ⌜ (Fit from to → unpack r ≡ edge to from 0 most false true) ⌝ }
+    ensures { λ r. ⌜ (Fit from to → unpack r ≡ edge to from 0 most false true false) ⌝ }
 {
-    pack(to, from, 0, ticks_of(most), false, true)
+    pack(to, from, 0, ticks_of(most), false, true, false)
+}
+
+fn finish_word(delay: Delay, from: u8, to: u8, most: u16) -> u64
+    ensures { λ r. ⌜ (Fit from to → unpack r ≡ finish-edge delay from to most) ⌝ }
+{
+    match delay {
+        Delay::Open => pack(to, from, 0, ticks_of(most), false, true, from != 0),
+        Delay::Fixed(ticks) => pack(
+            to,
+            from,
+            0,
+            ticks_of(ticks) + ticks_of(most),
+            false,
+            true,
+            false,
+        ),
+    }
 }
 
 // The edges of one link record, written at count; each says the count after it.
@@ -89,17 +106,40 @@ fn push_maximum(words: &mut [u64], count: usize, from: u8, to: u8, bound: Bound)
     }
 }
 
+fn push_finish(
+    words: &mut [u64],
+    count: usize,
+    from: u8,
+    to: u8,
+    delay: Delay,
+    bound: Bound,
+) -> usize
+    requires { do ⌜ count < (← ⟦words.len()⟧) ⌝ }
+    ensures { λ r. ⌜ Pushed (Fit from to) (finish-edges delay from to bound) (now (words .entry)) (now (words .exit)) count r ⌝ }
+{
+    match bound {
+        Bound::Ticks(most) => {
+            let w = finish_word(delay, from, to, most);
+            words[count] = w;
+            count + 1
+        }
+        Bound::Absent => count,
+    }
+}
+
 fn push_link(words: &mut [u64], count: usize, link: Link, delay: Delay) -> usize
-    requires { do ⌜ count + 3 ≤ (← ⟦words.len()⟧) ⌝ }
+    requires { do ⌜ count + 4 ≤ (← ⟦words.len()⟧) ⌝ }
     ensures { λ r. ⌜ Pushed (Fit (link .from) (link .to)) (link-edges delay link) (now (words .entry)) (now (words .exit)) count r ⌝ }
 {
     let from = link.from;
     let to = link.to;
     let least = link.minimum;
     let most = link.maximum;
+    let latest = link.latest;
     let first = push_sequencing(words, count, from, to, delay, link.sequencing);
     let second = push_minimum(words, first, from, to, least);
-    push_maximum(words, second, from, to, most)
+    let third = push_maximum(words, second, from, to, most);
+    push_finish(words, third, from, to, delay, latest)
 }
 
 // The index of an operation: its own number where that is below 64.
@@ -123,7 +163,7 @@ fn delay_within(inside: bool, operation: Operation) -> Delay
 // The edges of a sheet, as the first count words. What the words past them hold is not said.
 pub struct EdgeWords {
     pub count: usize,
-    pub words: [u64; 1536],
+    pub words: [u64; 2048],
 }
 
 // The one function that turns a sheet into its edges.
@@ -133,7 +173,7 @@ pub fn edges_of(sheet: Sheet) -> EdgeWords
 {
     let n = sheet.n;
     let r = sheet.r;
-    let mut words = [0u64; 1536];
+    let mut words = [0u64; 2048];
     let mut count = 0;
     let mut k = 0;
     while k < r {

@@ -10,7 +10,7 @@ ghost use Rattle.numbers.specs.Codes.{call-code, code};
 
 // The refusal's number.
 pub fn refusal_number(k: Refusal) -> u32
-    ensures { λ r. ⌜ (r ≡ number k) × (r ≤ 18) ⌝ }
+    ensures { λ r. ⌜ (r ≡ number k) × (r ≤ 28) ⌝ }
 {
     match k {
         Refusal::Truncated => 1,
@@ -31,6 +31,8 @@ pub fn refusal_number(k: Refusal) -> u32
         Refusal::AlreadyBegun => 16,
         Refusal::CannotFinish => 17,
         Refusal::ClockEnd => 18,
+        Refusal::Unsequenced => 26,
+        Refusal::Unserializable => 28,
     }
 }
 

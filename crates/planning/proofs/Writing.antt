@@ -19,7 +19,7 @@ use Rattle.definitions.specs.declared.Refusal.the-variants.{TooShort, BadDelays
 use Rattle.definitions.specs.declared.Verdict.{Verdict}
 use Rattle.definitions.specs.declared.Verdict.the-variants.{Refused}
 use Rattle.demands.proofs.Judging.{judge-given}
-use Rattle.demands.proofs.Sheets.{passes-well}
+use Rattle.demands.proofs.Sheets.{passes-well, serializable-iff}
 use Rattle.laws.proofs.Bools.{or-left, or-right}
 use Rattle.theory.specs.Graphs.{Gains, Shape}
 use Rattle.theory.proofs.PlanTables.{plan-table-length}
@@ -71,9 +71,11 @@ module _ {n : ℕ} {g : List Edge} {allow : Bool} {found : Analysis} (analysed :
   pub plannable : 1 ≤ n → Shape n (members g) → Gains (members g) 65535 → is-given (verdict-of (found .verdict)) ≡ true → Plannable n g (found .reach) (found .maps)
   plannable some shape gains h =
       let r = given-value (verdict-of (found .verdict)) h in
-      let passes = judge-given n g allow (r .0) .0 (sym (analysed .judges) ∙ r .1) .0 in
-      let serial = analysed .found (cond (needs-waits n g) 1 0) (judge-given n g true (cond (needs-waits n g) 1 0) .1 (passes, never (needs-waits n g), refl)) in
-      record { well = passes-well (omega arith) shape passes; gains = gains; reaches = serial .reaches; waits = serial .maps }
+      let judged = judge-given n g allow (r .0) .0 (sym (analysed .judges) ∙ r .1) in
+      let passes = judged .0 in
+      let well = passes-well (omega arith) shape passes in
+      let serial = analysed .found (cond (needs-waits n g) 1 0) (judge-given n g true (cond (needs-waits n g) 1 0) .1 (passes, judged .1, never (needs-waits n g), refl)) in
+      record { well = well; serial = serializable-iff (omega arith) shape (well .rooted) .0 (judged .1); gains = gains; reaches = serial .reaches; waits = serial .maps }
     where
       never : (b : Bool) → (b && not true) ≡ false
       never true = refl

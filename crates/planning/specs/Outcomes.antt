@@ -7,9 +7,9 @@ use Rattle.definitions.specs.Answers.{judge-edges, too-short}
 use Rattle.definitions.specs.Basics.{Outcome, given, refused, refuse-if, when-given}
 use Rattle.definitions.specs.Links.{Edge, members}
 use Rattle.definitions.specs.Plan.{delays-wrong}
-use Rattle.definitions.specs.Waits.{wait-maps}
+use Rattle.definitions.specs.Waits.{serialized, wait-maps}
 use Rattle.definitions.specs.declared.Operation.{Operation}
-use Rattle.theory.specs.Graphs.{Gains, Well}
+use Rattle.theory.specs.Graphs.{Gains, Serializable, Well}
 use Rattle.waits.specs.Reaching.{Reaches}
 
 abbrev pub is-given : Outcome ℕ → Bool
@@ -26,6 +26,7 @@ starts-outcome n g allow os list out = when-given (judge-edges n g allow) (λ v.
 -- The edges of an accepted sheet, with what reaches what and the waits.
 pub record Plannable (n : ℕ) (g : List Edge) (reach maps : List ℕ) : Type 0 where
   pub well : Well n (members g)
+  pub serial : Serializable (members (serialized n g))
   pub gains : Gains (members g) 65535
   pub reaches : Reaches n g reach
   pub waits : maps ≡ wait-maps n g

@@ -1,22 +1,25 @@
 -- Laws of rounds of pushes: lengths, what an edge hands on, rows only grow, and a round that changes nothing ends them.
-use mathlib.Core.Path.{_∙_, _≡_, ap, refl, sym}
-use mathlib.Core.Bool.{Bool, _&&_, _||_, cond, false, false≢true, not, true, true≢false}
+use mathlib.Core.Path.{_∙_, _≡_, ap, ap₂, refl, sym}
+use mathlib.Core.Bool.{Bool, _&&_, _||_, and-true, cond, false, false≢true, not, true, true≢false}
 use mathlib.Core.Logic.{_≢_, _⊎_, inl, inr}
 use mathlib.Core.List.{List, List·Memᴰ, List·Memᴰ·cases-cons, List·Memᴰ·head, List·Memᴰ·not-nil, List·Memᴰ·tail, [], _∷_}
-use Prim.Native.Nat.{_<_, _^_, _≤_, suc, zero, ℕ}
+use Prim.Native.Nat.{_+_, _-_, _<_, _^_, _≤_, suc, zero, ℕ}
 use native.Mathlib.Omega.{arith}
 use native.Mathlib.Decide.{decLe}
-use lib.Bits.{bitOr}
+use native.Mathlib.Nat.{lt-of-lt-of-le}
+use lib.Bits.{bitAnd, bitOr}
+use lib.Pow.{pow-lt, pow-mono}
 use lib.Dec.{eqb}
 use lib.ListN.{length, length-set, set}
 use lib.Seq.{getD-set-other, getD-set-same, set-getD}
 use borrow.Author.Tests.{eq-eqb, eqb-false, eqb-true, ne-eqb, not-false, not-true}
 use Rattle.definitions.specs.Basics.{test-bit}
-use Rattle.definitions.specs.Links.{Edge}
-use Rattle.laws.proofs.Bools.{and-join, and-split, or-left, or-right, or-split, same-or-not}
-use Rattle.laws.proofs.Maps.{test-insert, test-or}
+use Rattle.definitions.specs.Links.{Edge, LateInto, late-into}
+use Rattle.laws.proofs.Bools.{and-join, and-split, both-ways, eqb-turned, not-passing, or-left, or-right, or-split, same-or-not}
+use Rattle.laws.proofs.Maps.{add-is-union, below-pow, same-map, test-and, test-insert, test-minus, test-or, test-pow}
 use Rattle.theory.proofs.Relaxation.{Fits}
-use Rattle.reach.specs.Pushes.{changes, handed, push, push-round, push-rounds, pushed, round-changes, row}
+use Rattle.theory.proofs.Usables.{late-into-iff}
+use Rattle.reach.specs.Pushes.{begun, changes, handed, push, push-round, push-rounds, pushed, round-changes, row, without}
 
 -- Bit a stands in row v.
 abbrev pub Holds : List ℕ → ℕ → ℕ → Type 0
@@ -26,26 +29,26 @@ Holds rows a v = test-bit (row rows v) a ≡ true
 abbrev pub Starts : Edge → ℕ → Type 0
 Starts e a = (e .counted ≡ true) × (e .from ≢ 0) × (a ≡ e .from)
 
--- What an edge hands on: by the two values of its test.
-pub handed-keeps : (m : ℕ) (e : Edge) (a : ℕ) → test-bit m a ≡ true → test-bit (handed m e) a ≡ true
-unfolding handed
-handed-keeps m e a h = go (e .counted && not (eqb (e .from) 0))
+-- What an edge begins and keeps: by the two values of its test.
+begun-keeps : (m : ℕ) (e : Edge) (a : ℕ) → test-bit m a ≡ true → test-bit (begun m e) a ≡ true
+unfolding begun
+begun-keeps m e a h = go (e .counted && not (eqb (e .from) 0))
   where
     go : (t : Bool) → test-bit (cond t (bitOr m (2 ^ e .from)) m) a ≡ true
     go true = test-insert m (e .from) a ∙ or-left (eqb a (e .from)) h
     go false = h
 
-pub handed-starts : (m : ℕ) (e : Edge) {a : ℕ} → Starts e a → test-bit (handed m e) a ≡ true
-unfolding handed
-handed-starts m e {a} s = go (e .counted && not (eqb (e .from) 0)) (and-join (s .0) (ap not (ne-eqb (e .from) 0 (s .1))))
+begun-starts : (m : ℕ) (e : Edge) {a : ℕ} → Starts e a → test-bit (begun m e) a ≡ true
+unfolding begun
+begun-starts m e {a} s = go (e .counted && not (eqb (e .from) 0)) (and-join (s .0) (ap not (ne-eqb (e .from) 0 (s .1))))
   where
     go : (t : Bool) → t ≡ true → test-bit (cond t (bitOr m (2 ^ e .from)) m) a ≡ true
     go true q = test-insert m (e .from) a ∙ or-right (test-bit m a) (eq-eqb a (e .from) (s .2))
     go false q = absurd (false≢true q)
 
-pub handed-only : (m : ℕ) (e : Edge) (a : ℕ) → test-bit (handed m e) a ≡ true → (test-bit m a ≡ true) ⊎ Starts e a
-unfolding handed
-handed-only m e a = go (e .counted && not (eqb (e .from) 0)) refl
+begun-only : (m : ℕ) (e : Edge) (a : ℕ) → test-bit (begun m e) a ≡ true → (test-bit m a ≡ true) ⊎ Starts e a
+unfolding begun
+begun-only m e a = go (e .counted && not (eqb (e .from) 0)) refl
   where
     counted : (e .counted && not (eqb (e .from) 0)) ≡ true → (test-bit m a ≡ true) ⊎ (eqb a (e .from) ≡ true) → (test-bit m a ≡ true) ⊎ Starts e a
     counted q (inl h) = inl h
@@ -56,6 +59,69 @@ handed-only m e a = go (e .counted && not (eqb (e .from) 0)) refl
     go : (t : Bool) → (e .counted && not (eqb (e .from) 0)) ≡ t → test-bit (cond t (bitOr m (2 ^ e .from)) m) a ≡ true → (test-bit m a ≡ true) ⊎ Starts e a
     go true q h = counted q (or-split (test-bit m a) (eqb a (e .from)) (sym (test-insert m (e .from) a) ∙ h))
     go false q h = inl h
+
+-- The difference has the members of the map but k, since it and the intersection with k share none and make up the map.
+without-bit : (m k a : ℕ) → test-bit (without m k) a ≡ (test-bit m a && not (eqb a k))
+unfolding without
+without-bit m k a = ap (λ (x : ℕ). test-bit x a) (sym same) ∙ rest a
+  where
+    n : ℕ
+    n = m + suc k
+
+    left : ℕ
+    left = bitAnd m (2 ^ n - 1 - 2 ^ k)
+
+    one : ℕ
+    one = bitAnd m (2 ^ k)
+
+    rest : (j : ℕ) → test-bit left j ≡ (test-bit m j && not (eqb j k))
+    rest j =
+        test-minus n m (2 ^ k) j (lt-of-lt-of-le (below-pow m) (pow-mono {j = n} (omega arith))) (pow-lt {j = n} (omega arith))
+        ∙ ap (λ (t : Bool). test-bit m j && not t) (test-pow k j)
+
+    member : (j : ℕ) → test-bit one j ≡ (test-bit m j && eqb j k)
+    member j = test-and m (2 ^ k) j ∙ ap (λ (t : Bool). test-bit m j && t) (test-pow k j)
+
+    apart : (s t : Bool) → ((s && not t) && (s && t)) ≡ false
+    apart true true = refl
+    apart true false = refl
+    apart false t = refl
+
+    whole : (s t : Bool) → ((s && not t) || (s && t)) ≡ s
+    whole true true = refl
+    whole true false = refl
+    whole false t = refl
+
+    sum : left + one ≡ m
+    sum =
+        add-is-union left one (λ j. ap₂ _&&_ (rest j) (member j) ∙ apart (test-bit m j) (eqb j k))
+        ∙ same-map (bitOr left one) m (λ j. test-or left one j ∙ ap₂ _||_ (rest j) (member j) ∙ whole (test-bit m j) (eqb j k))
+
+    same : left ≡ m - bitAnd m (2 ^ k)
+    same = omega (arith, sum)
+
+-- What an edge hands on: what it begins and keeps, but for its end where it is late.
+pub handed-bit : (m : ℕ) (e : Edge) (a : ℕ) → test-bit (handed m e) a ≡ (test-bit (begun m e) a && not (late-into a e))
+unfolding handed late-into
+handed-bit m e a = go (e .late)
+  where
+    go : (t : Bool) → test-bit (cond t (without (begun m e) (e .to)) (begun m e)) a ≡ (test-bit (begun m e) a && not (t && eqb (e .to) a))
+    go true = without-bit (begun m e) (e .to) a ∙ ap (λ (t : Bool). test-bit (begun m e) a && not t) (eqb-turned a (e .to))
+    go false = sym (and-true (test-bit (begun m e) a))
+
+handed-on : (m : ℕ) (e : Edge) (a : ℕ) → test-bit (begun m e) a ≡ true → ¬ LateInto e a → test-bit (handed m e) a ≡ true
+handed-on m e a h u = handed-bit m e a ∙ and-join h (ap not (not-passing (late-into a e) (λ t. u (late-into-iff e a .0 t))))
+
+pub handed-keeps : (m : ℕ) (e : Edge) (a : ℕ) → test-bit m a ≡ true → ¬ LateInto e a → test-bit (handed m e) a ≡ true
+handed-keeps m e a h = handed-on m e a (begun-keeps m e a h)
+
+pub handed-starts : (m : ℕ) (e : Edge) {a : ℕ} → Starts e a → ¬ LateInto e a → test-bit (handed m e) a ≡ true
+handed-starts m e {a} s = handed-on m e a (begun-starts m e s)
+
+pub handed-only : (m : ℕ) (e : Edge) (a : ℕ) → test-bit (handed m e) a ≡ true → ((test-bit m a ≡ true) ⊎ Starts e a) × (¬ LateInto e a)
+handed-only m e a h =
+    let r = and-split (test-bit (begun m e) a) (not (late-into a e)) (sym (handed-bit m e a) ∙ h) in
+    (begun-only m e a (r .0), λ l. both-ways (late-into-iff e a .1 l) (not-true (late-into a e) (r .1)))
 
 -- One push.
 pub push-length : (rows : List ℕ) (e : Edge) → length (push rows e) ≡ length rows
@@ -117,15 +183,15 @@ unfolding push-round
 round-grows [] rows f a v h = h
 round-grows (x ∷ es) rows f a v h = round-grows es (push rows x) (fits-push rows f) a v (push-grows rows x (fits-first rows f) a v h)
 
--- In a round each edge hands on at least what its start held before the round.
-pub round-hands : (es : List Edge) (rows : List ℕ) → Fits es rows → (e : Edge) → List·Memᴰ e es → (a : ℕ) → Holds rows a (e .from) ⊎ Starts e a → Holds (push-round es rows) a (e .to)
+-- In a round each edge hands on at least what its start held before the round, to the anchors that may use it.
+pub round-hands : (es : List Edge) (rows : List ℕ) → Fits es rows → (e : Edge) → List·Memᴰ e es → (a : ℕ) → ¬ LateInto e a → Holds rows a (e .from) ⊎ Starts e a → Holds (push-round es rows) a (e .to)
 unfolding push-round
-round-hands [] rows f e m a h = absurd (List·Memᴰ·not-nil m)
-round-hands (x ∷ es) rows f e m a h = go (List·Memᴰ·cases-cons m) (round-hands es (push rows x) (fits-push rows f) e)
+round-hands [] rows f e m a u h = absurd (List·Memᴰ·not-nil m)
+round-hands (x ∷ es) rows f e m a u h = go (List·Memᴰ·cases-cons m) (round-hands es (push rows x) (fits-push rows f) e)
   where
     on : Holds rows a (e .from) ⊎ Starts e a → test-bit (handed (row rows (e .from)) e) a ≡ true
-    on (inl i) = handed-keeps (row rows (e .from)) e a i
-    on (inr s) = handed-starts (row rows (e .from)) e s
+    on (inl i) = handed-keeps (row rows (e .from)) e a i u
+    on (inr s) = handed-starts (row rows (e .from)) e s u
 
     later : Holds rows a (e .from) ⊎ Starts e a → Holds (push rows x) a (e .from) ⊎ Starts e a
     later (inl i) = inl (push-grows rows x (fits-first rows f) a (e .from) i)
@@ -134,9 +200,9 @@ round-hands (x ∷ es) rows f e m a h = go (List·Memᴰ·cases-cons m) (round-h
     here : e ≡ x → Holds (push rows x) a (e .to)
     here q = rw (sym q) (push-hands rows e (rw q (fits-first rows f)) a (on h))
 
-    go : (e ≡ x) ⊎ List·Memᴰ e es → (List·Memᴰ e es → (b : ℕ) → Holds (push rows x) b (e .from) ⊎ Starts e b → Holds (push-round es (push rows x)) b (e .to)) → Holds (push-round es (push rows x)) a (e .to)
+    go : (e ≡ x) ⊎ List·Memᴰ e es → (List·Memᴰ e es → (b : ℕ) → ¬ LateInto e b → Holds (push rows x) b (e .from) ⊎ Starts e b → Holds (push-round es (push rows x)) b (e .to)) → Holds (push-round es (push rows x)) a (e .to)
     go (inl q) below = round-grows es (push rows x) (fits-push rows f) a (e .to) (here q)
-    go (inr i) below = below i a (later h)
+    go (inr i) below = below i a u (later h)
 
 -- Rounds.
 pub rounds-length : (es : List Edge) (k : ℕ) (rows : List ℕ) → length (push-rounds es k rows) ≡ length rows

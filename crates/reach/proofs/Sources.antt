@@ -1,4 +1,4 @@
--- What stands in the rows after n rounds: exactly the anchors from whose end a walk comes there.
+-- What stands in the rows after n rounds: exactly the anchors from whose end a walk comes there, over the edges that it may use.
 use mathlib.Core.Path.{_∙_, _≡_, ap, refl, subst, sym}
 use mathlib.Core.Bool.{true}
 use mathlib.Core.Logic.{_⊎_, inl, inr}
@@ -7,7 +7,7 @@ use Prim.Native.Nat.{_<_, _≤_, suc, zero, ℕ}
 use native.Mathlib.Omega.{arith}
 use lib.ListN.{length, replicate}
 use Rattle.definitions.specs.Basics.{test-bit}
-use Rattle.definitions.specs.Links.{After, Edge, Graph, Walk, _⊑_, members, step, stop}
+use Rattle.definitions.specs.Links.{After, Edge, Graph, LateInto, UsableFrom, Walk, _⊑_, members, step, stop, usable}
 use Rattle.definitions.specs.Rounds.{after-reaches}
 use Rattle.edges.specs.Words.{graph, unpack}
 use Rattle.laws.proofs.Bools.{both-ways, not-passing, same-test}
@@ -15,15 +15,16 @@ use Rattle.laws.proofs.Maps.{same-map, test-zero}
 use Rattle.theory.specs.Graphs.{Shape}
 use Rattle.theory.proofs.FirstRows.{zeros-at, zeros-length}
 use Rattle.theory.proofs.Pigeonhole.{brief}
-use Rattle.theory.proofs.Reachability.{after-reaches-iff}
 use Rattle.theory.proofs.Relaxation.{Fits}
+use Rattle.theory.proofs.Usables.{usable-shape}
+use Rattle.theory.proofs.WaitLists.{usable-reaches-iff}
 use Rattle.theory.proofs.Walks.{after-edge, after-from, after-join, some-after, walk-edge}
 use Rattle.reach.specs.Pushes.{Reached, handed, push, push-round, push-rounds, pushed-rows, row}
 use Rattle.reach.proofs.Rows.{Holds, Starts, fits-push, fits-rounds, handed-only, push-only, round-hands, rounds-grow, rounds-length}
 
--- Soundness: every anchor of every row has a walk from its end to the row's vertex. A push keeps that: what it adds is a walk that its edge makes longer, or begins.
+-- Soundness: every anchor of every row has a walk from its end to the row's vertex, in its own graph. A push keeps that: what it adds is a walk that its edge makes longer, or begins.
 abbrev Sound : Graph → List ℕ → Type 0
-Sound E rows = (a v : ℕ) → Holds rows a v → After E a v
+Sound E rows = (a v : ℕ) → Holds rows a v → After (UsableFrom E a) a v
 
 after-longer : {E : Graph} {a : ℕ} (e : Edge) → E e → After E a (e .from) → After E a (e .to)
 after-longer e m w = some-after (after-join (w .walk) (walk-edge e m))
@@ -34,13 +35,15 @@ after-begun e m s = some-after (after-from (s .2) (after-edge e m (s .0) (s .1))
 push-sound : {E : Graph} (rows : List ℕ) (e : Edge) → e .to < length rows → E e → Sound E rows → Sound E (push rows e)
 push-sound {E} rows e b m S a v h = go (push-only rows e b a v h)
   where
-    arrives : Holds rows a (e .from) ⊎ Starts e a → After E a (e .to)
-    arrives (inl i) = after-longer e m (S a (e .from) i)
-    arrives (inr s) = after-begun e m s
+    arrives : ¬ LateInto e a → Holds rows a (e .from) ⊎ Starts e a → After (UsableFrom E a) a (e .to)
+    arrives u (inl i) = after-longer e (m, u) (S a (e .from) i)
+    arrives u (inr s) = after-begun e (m, u) s
 
-    go : Holds rows a v ⊎ ((v ≡ e .to) × (test-bit (handed (row rows (e .from)) e) a ≡ true)) → After E a v
+    go : Holds rows a v ⊎ ((v ≡ e .to) × (test-bit (handed (row rows (e .from)) e) a ≡ true)) → After (UsableFrom E a) a v
     go (inl i) = S a v i
-    go (inr i) = subst (λ (u : ℕ). After E a u) (sym (i .0)) (arrives (handed-only (row rows (e .from)) e a (i .1)))
+    go (inr i) =
+        let r = handed-only (row rows (e .from)) e a (i .1) in
+        subst (λ (u : ℕ). After (UsableFrom E a) a u) (sym (i .0)) (arrives (r .1) (r .0))
 
 round-sound : {E : Graph} (es : List Edge) (rows : List ℕ) → Fits es rows → members es ⊑ E → Sound E rows → Sound E (push-round es rows)
 unfolding push-round
@@ -54,11 +57,11 @@ rounds-sound es zero rows f S = S
 rounds-sound es (suc k) rows f S = round-sound es (push-rounds es k rows) (fits-rounds k rows f) (λ e m. m) (rounds-sound es k rows f S)
 
 -- Completeness: the first round puts the anchor into the row of the first edge's end, and each further round follows one edge more. By induction on the walk after the first edge.
-walk-found : {es : List Edge} {a y k p q : ℕ} (rows : List ℕ) → Fits es rows → (e : Edge) → List·Memᴰ e es → Starts e a → Walk (members es) (e .to) y k p q → Holds (push-rounds es (suc k) rows) a y
+walk-found : {es : List Edge} {a y k p q : ℕ} (rows : List ℕ) → Fits es rows → (e : Edge) → UsableFrom (members es) a e → Starts e a → Walk (UsableFrom (members es) a) (e .to) y k p q → Holds (push-rounds es (suc k) rows) a y
 unfolding push-rounds
-walk-found {es} {a} rows f e m s (stop h hk hp hq) = rw (sym h, hk) (round-hands es rows f e m a (inr s))
+walk-found {es} {a} rows f e m s (stop h hk hp hq) = rw (sym h, hk) (round-hands es rows f e (m .0) a (m .1) (inr s))
 walk-found {es} {a} rows f e m s (step {k = j} w g i b o hk hp hq) =
-    rw (sym o, hk) (round-hands es (push-rounds es (suc j) rows) (fits-rounds (suc j) rows f) g i a (inl (rw b (walk-found rows f e m s w))))
+    rw (sym o, hk) (round-hands es (push-rounds es (suc j) rows) (fits-rounds (suc j) rows f) g (i .0) a (i .1) (inl (rw b (walk-found rows f e m s w))))
 
 -- Rows without anchors, from which the rounds start.
 blank-fits : (es : List Edge) → ((e : Edge) → List·Memᴰ e es → e .to < 64) → Fits es (replicate 64 0)
@@ -77,32 +80,32 @@ after-end-below {n} {E} {a} {v} shape w = go (w .walk .rest)
 
 -- The rows of n rounds, over edges whose ends have a row.
 module _ {n : ℕ} {es : List Edge} (shape : Shape n (members es)) (fits : (e : Edge) → List·Memᴰ e es → e .to < 64) where
-  pushed-after : (a v : ℕ) → Holds (pushed-rows n es) a v → After (members es) a v
+  pushed-after : (a v : ℕ) → Holds (pushed-rows n es) a v → After (UsableFrom (members es) a) a v
   unfolding pushed-rows
   pushed-after = rounds-sound es n (replicate 64 0) (blank-fits es fits) (blank-sound (members es))
 
   -- The walk after the first edge is cut to fewer than n edges, and so n rounds find it.
-  after-pushed : (a v : ℕ) → After (members es) a v → Holds (pushed-rows n es) a v
+  after-pushed : (a v : ℕ) → After (UsableFrom (members es) a) a v → Holds (pushed-rows n es) a v
   unfolding pushed-rows
   after-pushed a v w =
       let u = w .walk in
-      let s = brief shape (shape .to-below (u .edge) (u .mem)) (record { k = u .k; p = u .g; q = u .l; walk = u .rest }) in
+      let s = brief (usable-shape shape a) (shape .to-below (u .edge) (u .mem .0)) (record { k = u .k; p = u .g; q = u .l; walk = u .rest }) in
       rounds-grow es (suc (s .k)) n (replicate 64 0) (blank-fits es fits) (omega (arith, s .few)) a v
       (walk-found (replicate 64 0) (blank-fits es fits) (u .edge) (u .mem) (u .counts, λ z. u .not-source (sym (u .leaves) ∙ z), sym (u .leaves)) (s .walk))
 
   -- Both say whether there is such a walk, so they are the same test.
-  pub pushed-test : (a v : ℕ) → test-bit (row (pushed-rows n es) v) a ≡ after-reaches n es a v
+  pub pushed-test : (a v : ℕ) → test-bit (row (pushed-rows n es) v) a ≡ after-reaches n (usable es a) a v
   pushed-test a v =
       same-test
       (test-bit (row (pushed-rows n es) v) a)
-      (after-reaches n es a v)
-      (λ h. after-reaches-iff shape a v .1 (pushed-after a v h))
-      (λ h. after-pushed a v (after-reaches-iff shape a v .0 h))
+      (after-reaches n (usable es a) a v)
+      (λ h. usable-reaches-iff shape a v .1 (pushed-after a v h))
+      (λ h. after-pushed a v (usable-reaches-iff shape a v .0 h))
 
   -- Rows from n on have no bit.
   pub pushed-blank : (v : ℕ) → n ≤ v → row (pushed-rows n es) v ≡ 0
   pushed-blank v b =
-      same-map (row (pushed-rows n es) v) 0 (λ a. not-passing (test-bit (row (pushed-rows n es) v) a) (λ h. never (after-end-below shape (pushed-after a v h))) ∙ sym (test-zero a))
+      same-map (row (pushed-rows n es) v) 0 (λ a. not-passing (test-bit (row (pushed-rows n es) v) a) (λ h. never (after-end-below (usable-shape shape a) (pushed-after a v h))) ∙ sym (test-zero a))
     where
       never : v < n → ⊥
       never c = omega arith

@@ -12,30 +12,34 @@ use lib.ListN.{drop, drop-of-length-le, getD, length, replicate, set}
 use lib.Seq.{drop-cons}
 use borrow.Author.Tests.{eq-eqb, ne-eqb}
 use Rattle.definitions.specs.Basics.{test-bit}
-use Rattle.definitions.specs.Links.{Edge}
+use Rattle.definitions.specs.Links.{Edge, late-into}
 use Rattle.edges.specs.Words.{graph, unpack}
 use Rattle.laws.proofs.Bools.{and-join}
 use Rattle.laws.proofs.Maps.{same-map, test-insert, test-or}
 use Rattle.theory.proofs.FirstRows.{zeros-length}
-use Rattle.reach.specs.Pushes.{Reached, changes, handed, push, push-round, push-rounds, pushed, pushed-rows, round-changes, row}
-use Rattle.reach.proofs.Rows.{push-length, round-length, round-unchanged, rounds-settled}
+use Rattle.reach.specs.Pushes.{Reached, begun, changes, handed, push, push-round, push-rounds, pushed, pushed-rows, round-changes, row}
+use Rattle.reach.proofs.Rows.{handed-bit, push-length, round-length, round-unchanged, rounds-settled}
 use Rattle.reach.proofs.Sources.{reached}
 
--- What an edge hands on, branch by branch.
-handed-by : (m : ℕ) (e : Edge) (t : Bool) → (e .counted && not (eqb (e .from) 0)) ≡ t → handed m e ≡ cond t (bitOr m (2 ^ e .from)) m
-unfolding handed
-handed-by m e t h = ap (λ (s : Bool). cond s (bitOr m (2 ^ e .from)) m) h
+-- What an edge keeps and begins, branch by branch.
+begun-by : (m : ℕ) (e : Edge) (t : Bool) → (e .counted && not (eqb (e .from) 0)) ≡ t → begun m e ≡ cond t (bitOr m (2 ^ e .from)) m
+unfolding begun
+begun-by m e t h = ap (λ (s : Bool). cond s (bitOr m (2 ^ e .from)) m) h
 
-pub handed-anchor : (m r f : ℕ) (e : Edge) → e .counted ≡ true → f ≡ e .from → f ≢ 0 → ((j : ℕ) → test-bit r j ≡ (test-bit m j || eqb j f)) → r ≡ handed m e
-handed-anchor m r f e c q z h =
+pub begun-anchor : (m r f : ℕ) (e : Edge) → e .counted ≡ true → f ≡ e .from → f ≢ 0 → ((j : ℕ) → test-bit r j ≡ (test-bit m j || eqb j f)) → r ≡ begun m e
+begun-anchor m r f e c q z h =
     same-map r (bitOr m (2 ^ f)) (λ j. h j ∙ sym (test-insert m f j)) ∙ ap (λ (x : ℕ). bitOr m (2 ^ x)) q
-    ∙ sym (handed-by m e true (and-join c (ap not (ne-eqb (e .from) 0 (λ i. z (q ∙ i))))))
+    ∙ sym (begun-by m e true (and-join c (ap not (ne-eqb (e .from) 0 (λ i. z (q ∙ i))))))
 
-pub handed-source : (m f : ℕ) (e : Edge) → f ≡ e .from → f ≡ 0 → m ≡ handed m e
-handed-source m f e q z = sym (handed-by m e false (ap (λ (t : Bool). e .counted && not t) (eq-eqb (e .from) 0 (sym q ∙ z)) ∙ and-false (e .counted)))
+pub begun-source : (m f : ℕ) (e : Edge) → f ≡ e .from → f ≡ 0 → m ≡ begun m e
+begun-source m f e q z = sym (begun-by m e false (ap (λ (t : Bool). e .counted && not t) (eq-eqb (e .from) 0 (sym q ∙ z)) ∙ and-false (e .counted)))
 
-pub handed-uncounted : (m : ℕ) (e : Edge) → e .counted ≡ false → m ≡ handed m e
-handed-uncounted m e c = sym (handed-by m e false (ap (λ (t : Bool). t && not (eqb (e .from) 0)) c))
+pub begun-uncounted : (m : ℕ) (e : Edge) → e .counted ≡ false → m ≡ begun m e
+begun-uncounted m e c = sym (begun-by m e false (ap (λ (t : Bool). t && not (eqb (e .from) 0)) c))
+
+-- What it hands on: those of them that may use it.
+pub handed-usable : (m all r : ℕ) (e : Edge) → all ≡ begun m e → ((a : ℕ) → test-bit r a ≡ (test-bit all a && not (late-into a e))) → r ≡ handed m e
+handed-usable m all r e q h = same-map r (handed m e) (λ a. h a ∙ ap (λ (x : ℕ). test-bit x a && not (late-into a e)) q ∙ sym (handed-bit m e a))
 
 -- The union that the code forms is the row that the edge leaves.
 module _ (rows : List ℕ) (e : Edge) (to from h u : ℕ) (qt : to ≡ e .to) (qf : from ≡ e .from) (qh : h ≡ handed (row rows from) e) (qu : (j : ℕ) → test-bit u j ≡ (test-bit (row rows to) j || test-bit h j)) where

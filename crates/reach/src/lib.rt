@@ -4,15 +4,16 @@ use bitmaps::union;
 use edges::edge_from;
 use edges::edge_to;
 use edges::is_counted;
+use edges::usable_by;
 ghost use mathlib.Core.Path.{_≡_};
 ghost use mathlib.Core.Bool.{_||_};
 ghost use lib.ListN.{length};
 ghost use Rattle.edges.specs.Words.{graph, unpack};
-ghost use Rattle.reach.specs.Pushes.{Reached, changes, handed, push, push-round, round-changes};
+ghost use Rattle.reach.specs.Pushes.{Reached, begun, changes, handed, push, push-round, round-changes};
 
-// What an edge hands on of the anchors m at its start.
-fn handed(m: u64, w: u64) -> u64
-    ensures { λ r. ⌜ r ≡ handed m (unpack w) ⌝ }
+// The anchors m at an edge's start, with the start itself where the edge is counted.
+fn begun(m: u64, w: u64) -> u64
+    ensures { λ r. ⌜ r ≡ begun m (unpack w) ⌝ }
 {
     let from = edge_from(w);
     if is_counted(w) {
@@ -21,6 +22,14 @@ fn handed(m: u64, w: u64) -> u64
         }
     }
     m
+}
+
+// What an edge hands on of the anchors m at its start: not its end, where it is late.
+fn handed(m: u64, w: u64) -> u64
+    ensures { λ r. ⌜ r ≡ handed m (unpack w) ⌝ }
+{
+    let all = begun(m, w);
+    usable_by(all, w)
 }
 
 // One edge hands on. Says whether its end's row changed.

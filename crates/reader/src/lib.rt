@@ -1,4 +1,4 @@
-// A sheet is read from its bytes: the records, or the first fault, refusals 1 to 7.
+// A sheet is read from its bytes: the records, or the first fault, refusals 1 to 7 and 26.
 ghost use mathlib.Core.Path.{_≡_};
 ghost use Prim.Native.Nat.{_≤_};
 ghost use lib.ListN.{length, drop};

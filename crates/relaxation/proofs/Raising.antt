@@ -80,9 +80,9 @@ unused e r s used raised h same =
     record { up = λ v. omega (arith, same v); hands = λ q. absurd (both-ways q h); sound = λ t k below v. omega (arith, same v, below v); other = λ v o. same v; kept = λ q v. same v }
 
 -- An edge on a column: what it hands on is at its end.
-pub used-on : (e : Edge) (r s : ℕ → ℕ) (used raised : Bool) → s (e .to) ≡ max (r (e .to)) (cut-hand r e) → ((v : ℕ) → v ≢ e .to → s v ≡ r v) → (raised ≡ false → s (e .to) ≡ r (e .to)) → Relaxed e used r s raised
-used-on e r s used raised here other kept =
-    record { up = λ v. up v (same-or-not v (e .to)); hands = λ q. omega arith; sound = λ t k below v. sound t k below v (same-or-not v (e .to)); other = other; kept = λ q v. still q v (same-or-not v (e .to)) }
+pub used-on : (e : Edge) (r s : ℕ → ℕ) (used raised : Bool) → used ≡ true → s (e .to) ≡ max (r (e .to)) (cut-hand r e) → ((v : ℕ) → v ≢ e .to → s v ≡ r v) → (raised ≡ false → s (e .to) ≡ r (e .to)) → Relaxed e used r s raised
+used-on e r s used raised is here other kept =
+    record { up = λ v. up v (same-or-not v (e .to)); hands = λ q. omega arith; sound = λ t k below v. sound t (k is) below v (same-or-not v (e .to)); other = other; kept = λ q v. still q v (same-or-not v (e .to)) }
   where
     up : (v : ℕ) → (v ≡ e .to) ⊎ (v ≢ e .to) → r v ≤ s v
     up v (inl h) = omega (arith, ap r h, ap s h)
@@ -149,6 +149,7 @@ module _ (e : Edge) (m : ℕ) (d₀ : List (List ℕ)) where
         (column d′ a)
         (test-bit m a)
         (test-bit moved′ a)
+        (R .todo a member .0)
         (raised .here ∙ ap (λ (x : ℕ). max x c) (same (e .to)) ∙ ap (max (entry d₀ (e .to) a)) (value ∙ ap (λ (x : ℕ). min (extend x (e .gain) (e .loss)) 4294967295) (same (e .from))))
         (λ v h. raised .other v a (inl h) ∙ same v)
         (λ q. raised-still raised (grew-by (test-bit moved a) grew (eq-eqb a a refl) (sym (moves a) ∙ q)) ∙ same (e .to))

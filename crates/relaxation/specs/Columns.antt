@@ -38,11 +38,11 @@ pub record Raised (v a c : ℕ) (d d′ : List (List ℕ)) (raised : Bool) : Typ
 abbrev pub cut-hand : (ℕ → ℕ) → Edge → ℕ
 cut-hand r e = min (hand r e) 4294967295
 
--- One edge on one column: where it is `used` it hands on. Nothing is raised but at its end, nor above a column where it has handed on.
+-- One edge on one column: where it is `used` it hands on, and elsewhere it changes nothing. Nothing is raised but at its end, nor above a column where it has handed on.
 pub record Relaxed (e : Edge) (used : Bool) (r s : ℕ → ℕ) (raised : Bool) : Type 0 where
   pub up : (v : ℕ) → r v ≤ s v
   pub hands : used ≡ true → cut-hand r e ≤ s (e .to)
-  pub sound : (t : ℕ → ℕ) → hand t e ≤ t (e .to) → ((v : ℕ) → r v ≤ t v) → (v : ℕ) → s v ≤ t v
+  pub sound : (t : ℕ → ℕ) → (used ≡ true → hand t e ≤ t (e .to)) → ((v : ℕ) → r v ≤ t v) → (v : ℕ) → s v ≤ t v
   pub other : (v : ℕ) → v ≢ e .to → s v ≡ r v
   pub kept : raised ≡ false → (v : ℕ) → s v ≡ r v
 

@@ -3,10 +3,11 @@ use edges::edge_from;
 use edges::edge_gain;
 use edges::edge_loss;
 use edges::edge_to;
+use edges::usable_by;
 ghost use mathlib.Core.Path.{_≡_};
 ghost use Prim.Native.Nat.{_<_, min};
 ghost use lib.ListN.{length};
-ghost use Rattle.definitions.specs.Links.{Edge};
+ghost use Rattle.definitions.specs.Links.{Edge, UsableFrom};
 ghost use Rattle.definitions.specs.Rounds.{extend};
 ghost use Rattle.edges.specs.Words.{unpack};
 ghost use Rattle.relaxation.specs.Columns.{Square, Raised, RelaxedAll, HandedAll, Only};
@@ -58,16 +59,17 @@ fn relax(d: &mut [[u32; 64]; 64], from: usize, to: usize, gain: u64, loss: u64, 
     moved
 }
 
-// One edge for the anchors in m, with marks at its end for those whose cells grew.
+// One edge for the anchors in m that may use it, with marks at its end for those whose cells grew.
 pub fn push_word(d: &mut [[u32; 64]; 64], fresh: &mut [u64; 64], w: u64, m: u64)
     requires { ⌜ Square (now d) × (length (now fresh) ≡ 64) ⌝ }
-    ensures { λ r. ⌜ HandedAll (λ a. Only (unpack w)) (unpack w .from) m (now (d .entry)) (now (d .exit)) (now (fresh .entry)) (now (fresh .exit)) ⌝ }
+    ensures { λ r. ⌜ HandedAll (λ a. UsableFrom (Only (unpack w)) a) (unpack w .from) m (now (d .entry)) (now (d .exit)) (now (fresh .entry)) (now (fresh .exit)) ⌝ }
 {
     let from = edge_from(w);
     let to = edge_to(w);
     let gain = edge_gain(w);
     let loss = edge_loss(w);
-    let moved = relax(d, from, to, gain, loss, m);
+    let used = usable_by(m, w);
+    let moved = relax(d, from, to, gain, loss, used);
     let map = bitmaps::union(fresh[to], moved);
     fresh[to] = map;
 }

@@ -10,7 +10,7 @@ use Prim.Native.Nat.{ℕ, zero, suc, _+_, _≤_, _<_}
 use native.Mathlib.Omega.{arith}
 use Rattle.definitions.specs.Basics.{test-bit}
 use Rattle.definitions.specs.Bytes.{Records}
-use Rattle.definitions.specs.Links.{Constraint, sequencing, minimum, maximum, delay-at, duration-with, duration, Keeps}
+use Rattle.definitions.specs.Links.{Constraint, sequencing, minimum, maximum, finish-maximum, delay-at, duration-with, duration, Keeps}
 use Rattle.definitions.specs.Answers.{count-of}
 use Rattle.definitions.specs.declared.State.{State}
 use Rattle.definitions.specs.declared.Delay.{Delay}
@@ -19,19 +19,13 @@ use Rattle.laws.proofs.Bools.{bool-cases, cond-true, cond-false}
 use Rattle.demands.specs.Demands.{Accepted, sheet-decides, our-start, wait-link}
 use Rattle.demands.proofs.Edges.{Ends, sheet-ends}
 use Rattle.demands.proofs.Meaning.{wait-of}
-use Rattle.demands.proofs.OurStarts.{accepted-fits, kept-for}
-use Rattle.runs.specs.Runs.{Started, Finished, start-tick, reported, DecidersFinished, StateFor, AfterHolds, AtLeastHolds, AtMostHolds, Holds, Certified}
+use Rattle.demands.proofs.OurStarts.{accepted-fits, kept-for, open-duration}
+use Rattle.runs.specs.Runs.{Started, Finished, start-tick, finish-tick, reported, DecidersFinished, StateFor, AfterHolds, AtLeastHolds, NotMissed, AtMostHolds, FinishHolds, Holds, Certified}
 use Rattle.runs.proofs.Sheets.{our-start-above}
 use Rattle.runs.proofs.Invariants.{Timely, Invariant, reported-source, deciders-or-one, all-finished, planned-agrees}
 use Rattle.runs.proofs.Calls.{still}
 
 -- The duration of a step is taken from the delays only where it is open and not step 0.
-open-duration : (d : ℕ → ℕ) (i : ℕ) (x : Delay) → i ≢ 0 → x ≡ Open → duration-with d i x ≡ d i
-unfolding duration-with
-open-duration d zero x z e = absurd (z refl)
-open-duration d (suc i) Open z e = refl
-open-duration d (suc i) (Fixed t) z e = let c : _≡_ {A = ℕ} 0 1 = cc in absurd (omega arith)
-
 same-duration : (d d′ : ℕ → ℕ) (i : ℕ) (x : Delay) → (i ≢ 0 → x ≡ Open → d i ≡ d′ i) → duration-with d i x ≡ duration-with d′ i x
 unfolding duration-with
 same-duration d d′ i (Fixed t) h = refl
@@ -102,17 +96,35 @@ module _ {s : List ℕ} {allow : Bool} {q : Records} {w : ℕ} (accepted : Accep
       let line : start-tick st i + m ≤ start-tick st j = omega (arith, same-start i begun, same-start j h) in
       record { started = begun; order = omega arith; line = line }
 
-  at-most-holds : (i j u : ℕ) → j < count-of q → our-start q outlasting j ≤ our-start q outlasting i + u → Started st i → AtMostHolds st i j u
-  at-most-holds i j u b l h = go (bool-cases (test-bit (st .started) j))
+  -- A limit: our starts keep it, and a step that has not started is put after the tick.
+  not-missed : (j last : ℕ) → j < count-of q → our-start q outlasting j ≤ last → NotMissed st j last
+  not-missed j last b l = go (bool-cases (test-bit (st .started) j))
     where
-      go : (test-bit (st .started) j ≡ true) ⊎ (test-bit (st .started) j ≡ false) → AtMostHolds st i j u
-      go (inl t) = inl (t, omega (arith, same-start i h, same-start j t))
-      go (inr f) = inr (f, omega (arith, later-start j b f, same-start i h))
+      go : (test-bit (st .started) j ≡ true) ⊎ (test-bit (st .started) j ≡ false) → NotMissed st j last
+      go (inl t) = inl (t, omega (arith, same-start j t))
+      go (inr f) = inr (f, omega (arith, later-start j b f))
+
+  at-most-holds : (i j u : ℕ) → j < count-of q → our-start q outlasting j ≤ our-start q outlasting i + u → Started st i → AtMostHolds st i j u
+  at-most-holds i j u b l h = not-missed j (start-tick st i + u) b (omega (arith, same-start i h))
+
+  -- From the finish: a step that has finished lasts in our starts as long as it did.
+  finish-holds : (i j u : ℕ) → j < count-of q → (x : Delay) → our-start q outlasting j ≤ our-start q outlasting i + duration-with outlasting i x + u → FinishHolds st i j u x
+  unfolding duration-with
+  finish-holds i j u b (Fixed ticks) l = λ h. not-missed j (start-tick st i + ticks + u) b (omega (arith, same-start i h))
+  finish-holds zero j u b Open l = λ h. not-missed j (finish-tick st 0 + u) b (omega (arith, same-start 0 (facts .source .0), facts .source .2, facts .source .3))
+  finish-holds (suc i) j u b Open l = λ h.
+      not-missed
+      j
+      (finish-tick st (suc i) + u)
+      b
+      (omega (arith, same-start (suc i) (facts .finished-started (suc i) h), outlasting-finished (suc i) h, facts .in-order (suc i) h))
 
   holds : (c : Constraint) → Ends (count-of q) c → Keeps (q .steps) outlasting (our-start q outlasting) c → Holds q st c
+  unfolding duration
   holds (sequencing i j) e k = after-holds i j (e .0) k
   holds (minimum i j m) e k = at-least-holds i j m (e .0) k
   holds (maximum i j u) e k = at-most-holds i j u (e .1) k
+  holds (finish-maximum i j u) e k = finish-holds i j u (e .1) (delay-at (q .steps) i) k
 
   pub certified : Certified q st
   certified =

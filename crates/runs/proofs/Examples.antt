@@ -1,4 +1,4 @@
--- The hypotheses of the theorems are met: runs of the stand sheet and of two hands, computed.
+-- The hypotheses of the theorems are met: runs of the stand sheet, of two hands and of three sheets of request L11, computed.
 use mathlib.Core.Path.{_≡_, refl, sym, _∙_}
 use mathlib.Core.Bool.{Bool, true, false, cond, not, _||_, false≢true}
 use mathlib.Core.Logic.{_⊎_, inl, inr, _↔_}
@@ -14,7 +14,7 @@ use Rattle.definitions.specs.Links.{delay-at}
 use Rattle.definitions.specs.Plan.{plan-table}
 use Rattle.definitions.specs.Answers.{count-of, serialized-of, judged}
 use Rattle.definitions.specs.Dispatcher.{Progress, begin, Call, beginning, ticking, finishing, called, state-after}
-use Rattle.definitions.specs.Worked.{every-definition, stand, two-hands, idle}
+use Rattle.definitions.specs.Worked.{every-definition, stand, two-hands, exposure, hand-over, held-back, idle}
 use Rattle.definitions.specs.declared.State.{State}
 use Rattle.definitions.specs.declared.Delay.{Delay}
 use Rattle.definitions.specs.declared.Delay.the-variants.{Open, Fixed}
@@ -101,10 +101,25 @@ hands-computed : Computed two-hands 1 5 6
 unfolding every-definition called judged is-open says-open
 hands-computed = record { small = refl; reads = refl; accepts = refl; opens = refl; begin-given = refl; begin-called = refl; table = refl }
 
+exposure-computed : Computed exposure 0 3 2
+unfolding every-definition called judged is-open says-open
+exposure-computed = record { small = refl; reads = refl; accepts = refl; opens = refl; begin-given = refl; begin-called = refl; table = refl }
+
+over-computed : Computed hand-over 1 4 6
+unfolding every-definition called judged is-open says-open
+over-computed = record { small = refl; reads = refl; accepts = refl; opens = refl; begin-given = refl; begin-called = refl; table = refl }
+
+back-computed : Computed held-back 0 3 2
+unfolding every-definition called judged is-open says-open
+back-computed = record { small = refl; reads = refl; accepts = refl; opens = refl; begin-given = refl; begin-called = refl; table = refl }
+
 pub examples : RunsMet
 unfolding every-definition called
 examples = record {
   stand-at-once = worked-run stand-computed (finishing 2 ∷ ticking ∷ ticking ∷ ticking ∷ finishing 2 ∷ []) (0 ∷ 0 ∷ 0 ∷ 1 ∷ 3 ∷ []) refl refl;
   stand-hand-ten = worked-run stand-computed (ticking ∷ ticking ∷ ticking ∷ ticking ∷ ticking ∷ ticking ∷ ticking ∷ ticking ∷ ticking ∷ ticking ∷ finishing 2 ∷ ticking ∷ ticking ∷ []) (0 ∷ 0 ∷ 0 ∷ 10 ∷ 12 ∷ []) refl refl;
   two-hands-wait = worked-run hands-computed (finishing 1 ∷ ticking ∷ ticking ∷ ticking ∷ finishing 2 ∷ []) (0 ∷ 0 ∷ 0 ∷ 3 ∷ 3 ∷ []) refl refl;
+  exposure-in-time = worked-run exposure-computed (ticking ∷ ticking ∷ ticking ∷ finishing 1 ∷ []) (0 ∷ 0 ∷ 3 ∷ []) refl refl;
+  hand-over-waits = worked-run over-computed (ticking ∷ ticking ∷ finishing 2 ∷ ticking ∷ ticking ∷ ticking ∷ finishing 1 ∷ []) (0 ∷ 2 ∷ 0 ∷ 5 ∷ []) refl refl;
+  held-back-in-time = worked-run back-computed (ticking ∷ ticking ∷ ticking ∷ ticking ∷ ticking ∷ ticking ∷ ticking ∷ finishing 1 ∷ ticking ∷ ticking ∷ ticking ∷ []) (0 ∷ 6 ∷ 10 ∷ []) refl refl;
 }

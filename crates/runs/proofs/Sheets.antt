@@ -20,10 +20,11 @@ use Rattle.theory.proofs.Reachability.{in-anchor-set-iff}
 use Rattle.theory.proofs.DecidingSets.{decides-iff}
 use Rattle.theory.proofs.Plans.{plan-well, plan-posed}
 use Rattle.theory.proofs.AnchorOrder.{anchor-induct}
-use Rattle.theory.proofs.Walks.{chain-after, member-below}
+use Rattle.theory.proofs.Usables.{consistent-acyclic}
+use Rattle.theory.proofs.Walks.{member-below}
 use Rattle.demands.specs.Demands.{Accepted, in-start-set, sheet-offset, sheet-decides, our-start, term}
 use Rattle.demands.proofs.Meaning.{meant-for}
-use Rattle.demands.proofs.OurStarts.{accepted-fits, accepted-well}
+use Rattle.demands.proofs.OurStarts.{accepted-fits, accepted-serial, accepted-well}
 use Rattle.demands.proofs.Planning.{deciding-for, plan-for, start-rule-for}
 use Rattle.runs.specs.Runs.{IsLent}
 use Rattle.runs.proofs.StartSets as StartSets
@@ -38,11 +39,11 @@ module _ {s : List ℕ} {allow : Bool} {q : Records} {w : ℕ} (accepted : Accep
   -- The sheet with its waits in can be scheduled for all delays, and is sound.
   well : Well (count-of q) (members (serialized-of q))
   unfolding serialized-of
-  well = plan-well (accepted-well accepted)
+  well = plan-well (accepted-well accepted) (accepted-serial accepted)
 
   posed : WellPosed (members (serialized-of q))
   unfolding serialized-of
-  posed = plan-posed (accepted-well accepted)
+  posed = plan-posed (accepted-well accepted) (accepted-serial accepted)
 
   member : (a v : ℕ) → (in-start-set q a v ≡ true) ↔ InAnchorSet (members (serialized-of q)) a v
   member = in-anchor-set-iff (well .shape)
@@ -78,7 +79,7 @@ module _ {s : List ℕ} {allow : Bool} {q : Records} {w : ℕ} (accepted : Accep
   start-member-trans a b v h k = member a v .1 (StartSets.member-trans well (member a b .0 h) (member b v .0 k))
 
   pub start-set-induct : (P : ℕ → Type 0) → ((v : ℕ) → v < count-of q → ((a : ℕ) → a < count-of q → a ≢ 0 → in-start-set q a v ≡ true → P a) → P v) → (v : ℕ) → v < count-of q → P v
-  start-set-induct P each = anchor-induct (count-of q) (Forward (members (serialized-of q))) (λ a u. well .acyclic a (chain-after u)) P (λ v b ih. each v b (λ a c z h. ih a c (chained z (member a v .0 h))))
+  start-set-induct P each = anchor-induct (count-of q) (Forward (members (serialized-of q))) (consistent-acyclic (well .shape) (well .consistent)) P (λ v b ih. each v b (λ a c z h. ih a c (chained z (member a v .0 h))))
     where
       chained : {a v : ℕ} → a ≢ 0 → InAnchorSet (members (serialized-of q)) a v → After (Forward (members (serialized-of q))) a v
       chained z (is-source e) = absurd (z e)

@@ -16,11 +16,12 @@ use Rattle.theory.proofs.DecidingSets.{decides-iff, deciding-some}
 use Rattle.theory.proofs.Irredundance.{decides-or-not}
 use Rattle.theory.proofs.Reachability.{dec-member, in-anchor-set-iff}
 use Rattle.theory.proofs.StartTimes.{start-times-rule, start-times-source}
+use Rattle.theory.proofs.Usables.{consistent-acyclic}
 use Rattle.theory.proofs.Walks.{after-start-below, after-trans, chain-after, member-to, source-first}
 
 module _ {n : ℕ} {es : List Edge} (well : Well n (members es)) where
   forward-acyclic : Acyclic (Forward (members es))
-  forward-acyclic a w = well .acyclic a (chain-after w)
+  forward-acyclic = consistent-acyclic (well .shape) (well .consistent)
 
   -- No chain of forward links leads to step 0.
   pub source-alone : {a : ℕ} → InAnchorSet (members es) a 0 → a ≡ 0

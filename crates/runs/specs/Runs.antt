@@ -10,14 +10,15 @@ use Prim.Native.Nat.{ℕ, _+_, _-_, _*_, _≤_, _<_}
 use lib.ListN.{getD, take, length, replicate}
 use Rattle.definitions.specs.Basics.{all-below, test-bit, given, refused}
 use Rattle.definitions.specs.Bytes.{Records}
-use Rattle.definitions.specs.Links.{Constraint, sequencing, minimum, maximum, constraints, delay-at, duration}
+use Rattle.definitions.specs.Links.{Constraint, sequencing, minimum, maximum, finish-maximum, constraints, delay-at, duration}
 use Rattle.definitions.specs.Waits.{WaitPair}
 use Rattle.definitions.specs.Plan.{plan-table, undecided}
 use Rattle.definitions.specs.Answers.{count-of, serialized-of, planned}
 use Rattle.definitions.specs.Dispatcher.{entry, Progress, sweep, begin, ticked, tick, ended, finish, Call, beginning, ticking, finishing, called, state-after, map-after}
-use Rattle.definitions.specs.Worked.{stand, two-hands, idle}
+use Rattle.definitions.specs.Worked.{stand, two-hands, exposure, hand-over, held-back, idle}
 use Rattle.definitions.specs.declared.State.{State}
-use Rattle.definitions.specs.declared.Delay.the-variants.{Open}
+use Rattle.definitions.specs.declared.Delay.{Delay}
+use Rattle.definitions.specs.declared.Delay.the-variants.{Open, Fixed}
 use Rattle.demands.specs.Demands.{Accepted, in-start-set, sheet-decides, our-start, sheet-waits, wait-link}
 
 -- ## The rule of one call
@@ -175,14 +176,25 @@ pub record AtLeastHolds (st : State) (i j m : ℕ) : Type 0 where
   pub order : start-tick st i ≤ start-tick st j
   pub line : start-tick st i + m ≤ start-tick st j
 
+-- A limit is not missed: j has started by its last tick, or has not started and that tick is still to come.
+abbrev pub NotMissed : State → ℕ → ℕ → Type 0
+NotMissed st j last = (Started st j × (start-tick st j ≤ last)) ⊎ ((test-bit (st .started) j ≡ false) × (st .tick < last))
+
 -- At most u: where i has started, j has started at most u later, or has not started and the tick is below start(i) + u.
 abbrev pub AtMostHolds : State → ℕ → ℕ → ℕ → Type 0
-AtMostHolds st i j u = (Started st j × (start-tick st j ≤ start-tick st i + u)) ⊎ ((test-bit (st .started) j ≡ false) × (st .tick < start-tick st i + u))
+AtMostHolds st i j u = NotMissed st j (start-tick st i + u)
+
+-- At most u from the finish (request L11): if i has finished, j has started by finish(i) + u, or has not started and the tick is below finish(i) + u. Step 0 has finished at tick 0; a fixed step finishes its
+-- duration after its start.
+abbrev pub FinishHolds : State → ℕ → ℕ → ℕ → Delay → Type 0
+FinishHolds st i j u Open = Finished st i → NotMissed st j (finish-tick st i + u)
+FinishHolds st i j u (Fixed ticks) = Started st i → NotMissed st j (start-tick st i + ticks + u)
 
 abbrev pub Holds : Records → State → Constraint → Type 0
 Holds q st (sequencing i j) = Started st j → AfterHolds q st i j
 Holds q st (minimum i j m) = Started st j → AtLeastHolds st i j m
 Holds q st (maximum i j u) = Started st i → AtMostHolds st i j u
+Holds q st (finish-maximum i j u) = FinishHolds st i j u (delay-at (q .steps) i)
 
 -- At every state of every run of every accepted sheet, every link and every wait holds. Nothing is asked of the durations: a hand may take any time at all. Proof: certificate.
 pub record Certified (q : Records) (st : State) : Type 0 where
@@ -216,8 +228,12 @@ pub record WorkedRun (bytes : List ℕ) (verdict n unbounded : ℕ) (calls : Lis
   pub ticks : take n (after-begin bytes n unbounded calls .start) ≡ starts
 
 -- "Run of it: Begin gives 7; Finish 2 gives 0; ticks give 8, 0, 16. A second Finish 2: 17." A run in which the hand takes 10: "Stand sheet, hand 10: starts 0, 0, 0, 10, 12." And a run of two hands, in which step 3
--- waits for hand 2. Proof: runs-met.
+-- waits for hand 2. Of request L11: the exposure starts when the hand is done, 3 ticks in; of the hand-over, hand 1 starts when hand 2 is done, and step 3 when hand 1 is; and
+-- the hand that is held back is done at 7, while step 2 waits for tick 10. Proof: runs-met.
 pub record RunsMet : Type 0 where
   pub stand-at-once : WorkedRun (stand 2) 0 5 4 (finishing 2 ∷ ticking ∷ ticking ∷ ticking ∷ finishing 2 ∷ []) (0 ∷ 0 ∷ 0 ∷ 1 ∷ 3 ∷ [])
   pub stand-hand-ten : WorkedRun (stand 2) 0 5 4 (ticking ∷ ticking ∷ ticking ∷ ticking ∷ ticking ∷ ticking ∷ ticking ∷ ticking ∷ ticking ∷ ticking ∷ finishing 2 ∷ ticking ∷ ticking ∷ []) (0 ∷ 0 ∷ 0 ∷ 10 ∷ 12 ∷ [])
   pub two-hands-wait : WorkedRun two-hands 1 5 6 (finishing 1 ∷ ticking ∷ ticking ∷ ticking ∷ finishing 2 ∷ []) (0 ∷ 0 ∷ 0 ∷ 3 ∷ 3 ∷ [])
+  pub exposure-in-time : WorkedRun exposure 0 3 2 (ticking ∷ ticking ∷ ticking ∷ finishing 1 ∷ []) (0 ∷ 0 ∷ 3 ∷ [])
+  pub hand-over-waits : WorkedRun hand-over 1 4 6 (ticking ∷ ticking ∷ finishing 2 ∷ ticking ∷ ticking ∷ ticking ∷ finishing 1 ∷ []) (0 ∷ 2 ∷ 0 ∷ 5 ∷ [])
+  pub held-back-in-time : WorkedRun held-back 0 3 2 (ticking ∷ ticking ∷ ticking ∷ ticking ∷ ticking ∷ ticking ∷ ticking ∷ finishing 1 ∷ ticking ∷ ticking ∷ ticking ∷ []) (0 ∷ 6 ∷ 10 ∷ [])

@@ -15,7 +15,7 @@ use Rattle.definitions.specs.declared.Delay.{Delay}
 use Rattle.definitions.specs.declared.Delay.the-variants.{Open, Fixed}
 use Rattle.definitions.specs.declared.Operation.{Operation}
 use Rattle.laws.proofs.Tests.{any-below-none}
-use Rattle.theory.specs.Graphs.{Gains, Well}
+use Rattle.theory.specs.Graphs.{Gains, Serializable, Well}
 use Rattle.theory.proofs.Plans.{plan-start-limit-64}
 
 limit-most : (i : ℕ) (delay : Delay) → delay-limit i delay ≤ 16777215
@@ -44,8 +44,8 @@ module _ (os : List Operation) (list : List ℕ) (right : delays-wrong os list �
   pub delays-source : 0 < length os → delays list 0 ≡ 0
   delays-source b = omega (arith, within-limit 0 b, limit-source (delay-at os 0))
 
-module _ {n : ℕ} {es : List Edge} (well : Well n (members es)) (gains : Gains (members es) 65535) (few : n ≤ 64) where
+module _ {n : ℕ} {es : List Edge} (well : Well n (members es)) (serial : Serializable (members (serialized n es))) (gains : Gains (members es) 65535) (few : n ≤ 64) where
   -- No start is near 2 ^ 32.
   pub plan-starts-fit : (os : List Operation) (list : List ℕ) → length os ≡ n → n ≤ length list → delays-wrong os list ≡ false → (v : ℕ) → v < n → cell (start-times n (serialized n es) (delays list)) v < 4294967296
   plan-starts-fit os list e long right v b =
-      omega (arith, plan-start-limit-64 well gains few (delays list) (delays-source os list right (omega arith) (omega (arith, well .some))) (λ a c. delays-within os list right (omega arith) a (omega arith)) v b)
+      omega (arith, plan-start-limit-64 well serial gains few (delays list) (delays-source os list right (omega arith) (omega (arith, well .some))) (λ a c. delays-within os list right (omega arith) a (omega arith)) v b)

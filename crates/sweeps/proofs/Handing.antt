@@ -2,7 +2,7 @@
 use mathlib.Core.Path.{_≡_, refl, sym, ap, _∙_}
 use mathlib.Core.Bool.{Bool, true, false, not, _&&_}
 use mathlib.Core.Logic.{_⊎_, inl, inr, _≢_}
-use mathlib.Core.List.{List, Memᴰ·cast, Memᴰ·map, Memᴰ·of-map}
+use mathlib.Core.List.{List, Memᴰ·cast}
 use Prim.Native.Nat.{ℕ, suc, _+_, _-_, _≤_, _<_, min}
 use native.Mathlib.Omega.{arith}
 use native.Mathlib.Decide.{decLe}
@@ -12,12 +12,12 @@ use borrow.Author.Tests.{eq-eqb, ne-eqb}
 use Rattle.adjacency.specs.Lists.{Lists, last-from}
 use Rattle.adjacency.proofs.Laws.{last-below, last-leaves, last-skips}
 use Rattle.definitions.specs.Basics.{test-bit}
-use Rattle.definitions.specs.Links.{Edge, Graph, _⊑_, members}
+use Rattle.definitions.specs.Links.{Edge, Graph, LateInto, UsableFrom, _⊑_, members}
 use Rattle.definitions.specs.Rounds.{extend}
 use Rattle.definitions.specs.Waits.{wait-edge}
 use Rattle.edges.specs.Words.{graph, unpack}
+use Rattle.edges.proofs.Places.{graph-at, graph-place}
 use Rattle.laws.proofs.Bools.{and-split, both-ways, same-or-not}
-use Rattle.laws.proofs.Lists.{mem-at, mem-place}
 use Rattle.laws.proofs.Maps.{test-zero}
 use Rattle.relaxation.specs.Columns.{Handed, HandedAll, Only, Square, WaitsFor, column, cut-hand, marks}
 use Rattle.theory.proofs.Relaxation.{extend-mono}
@@ -43,19 +43,19 @@ handed-both {E} {F} {G} {u} {used} {r} {s} {t} i j split H K =
     by q e o (inl m) = omega (arith, H .hands q e m o, K .up (e .to))
     by q e o (inr m) = omega (arith, K .hands q e m o, cut-mono e r s (H .up (e .from)))
 
-pub handed-all : {E F G : Graph} {u u′ m : ℕ} {d d′ d″ : List (List ℕ)} {f f′ f″ : List ℕ} → u′ ≡ u → E ⊑ G → F ⊑ G → ((e : Edge) → G e → e .from ≡ u → E e ⊎ F e) → HandedAll (λ a. E) u m d d′ f f′ → HandedAll (λ a. F) u′ m d′ d″ f′ f″ → HandedAll (λ a. G) u m d d″ f f″
+pub handed-all : {E F G : ℕ → Graph} {u u′ m : ℕ} {d d′ d″ : List (List ℕ)} {f f′ f″ : List ℕ} → u′ ≡ u → ((a : ℕ) → E a ⊑ G a) → ((a : ℕ) → F a ⊑ G a) → ((a : ℕ) (e : Edge) → G a e → e .from ≡ u → E a e ⊎ F a e) → HandedAll E u m d d′ f f′ → HandedAll F u′ m d′ d″ f′ f″ → HandedAll G u m d d″ f f″
 handed-all {F = F} {u = u} {m = m} {d′ = d′} {d″ = d″} {f′ = f′} {f″ = f″} same i j split H K =
-    record { square = K .square; long = K .long; each = λ a. let K′ : Handed F u (test-bit m a) (column d′ a) (column d″ a) (marks f′ a) (marks f″ a) = rw same at (K .each a) in handed-both i j split (H .each a) K′ }
+    record { square = K .square; long = K .long; each = λ a. let K′ : Handed (F a) u (test-bit m a) (column d′ a) (column d″ a) (marks f′ a) (marks f″ a) = rw same at (K .each a) in handed-both (i a) (j a) (split a) (H .each a) K′ }
 
 -- The same edges under another name.
-pub handed-as : {E G : Graph} {u m : ℕ} {d d′ : List (List ℕ)} {f f′ : List ℕ} → E ⊑ G → G ⊑ E → HandedAll (λ a. E) u m d d′ f f′ → HandedAll (λ a. G) u m d d′ f f′
+pub handed-as : {E G : ℕ → Graph} {u m : ℕ} {d d′ : List (List ℕ)} {f f′ : List ℕ} → ((a : ℕ) → E a ⊑ G a) → ((a : ℕ) → G a ⊑ E a) → HandedAll E u m d d′ f f′ → HandedAll G u m d d′ f f′
 handed-as i j H =
-    record { square = H .square; long = H .long; each = λ a. let h = H .each a in record { up = h .up; hands = λ q e m o. h .hands q e (j e m) o; sound = λ t st below. h .sound t (λ e m. st e (i e m)) below; marks = h .marks; marked = h .marked } }
+    record { square = H .square; long = H .long; each = λ a. let h = H .each a in record { up = h .up; hands = λ q e m o. h .hands q e (j a e m) o; sound = λ t st below. h .sound t (λ e m. st e (i a e m)) below; marks = h .marks; marked = h .marked } }
 
 -- Nothing has been done while no edge of the graph leaves u.
-pub handed-none : {E : Graph} {u m : ℕ} (d : List (List ℕ)) (f : List ℕ) → Square d → length f ≡ 64 → ((e : Edge) → E e → e .from ≢ u) → HandedAll (λ a. E) u m d d f f
+pub handed-none : {E : ℕ → Graph} {u m : ℕ} (d : List (List ℕ)) (f : List ℕ) → Square d → length f ≡ 64 → ((a : ℕ) (e : Edge) → E a e → e .from ≢ u) → HandedAll E u m d d f f
 handed-none d f S l away =
-    record { square = S; long = l; each = λ a. record { up = λ v. omega arith; hands = λ q e m o. absurd (away e m o); sound = λ t st below v. below v; marks = λ v q. q; marked = λ v q. refl } }
+    record { square = S; long = l; each = λ a. record { up = λ v. omega arith; hands = λ q e m o. absurd (away a e m o); sound = λ t st below v. below v; marks = λ v q. q; marked = λ v q. refl } }
 
 -- The edges at place k or a later one of the list.
 pub record Behind (es : List ℕ) (k : ℕ) (e : Edge) : Type 0 where
@@ -63,6 +63,11 @@ pub record Behind (es : List ℕ) (k : ℕ) (e : Edge) : Type 0 where
   pub behind : k ≤ place
   pub inside : place < length es
   pub same : e ≡ unpack (getD es place 0)
+
+-- What an anchor may use of one of two graphs.
+usable-split : (E F : Graph) {a : ℕ} {e : Edge} → ¬ LateInto e a → E e ⊎ F e → UsableFrom E a e ⊎ UsableFrom F a e
+usable-split E F timely (inl m) = inl (m, timely)
+usable-split E F timely (inr m) = inr (m, timely)
 
 -- From edge k - 1 of the list of u to the one before it in that list, no edge leaves u.
 pub behind-split : (es : List ℕ) (u k k′ : ℕ) → k′ ≡ last-from es u (k - 1) → (e : Edge) → e .from ≡ u → Behind es k′ e → Behind es k e ⊎ Only (unpack (getD es (k - 1) 0)) e
@@ -76,28 +81,23 @@ behind-split es u k k′ next e o b = by (decLe k (b .place)) (decLe (k - 1) (b 
     by (no c) (no s) = absurd (last-skips es u (k - 1) (b .place) (omega (arith, b .behind)) (omega arith) (ap (λ (x : Edge). x .from) (sym (b .same)) ∙ o))
 
 pub behind-mem : (es : List ℕ) (k : ℕ) → Behind es k ⊑ members (graph es)
-unfolding graph
-behind-mem es k e b = Memᴰ·cast (b .same) (Memᴰ·map unpack (mem-at es (b .place) 0 (b .inside)))
+behind-mem es k e b = Memᴰ·cast (b .same) (graph-at es (b .place) (b .inside))
 
 pub mem-behind : (es : List ℕ) (k : ℕ) → k ≡ 0 → members (graph es) ⊑ Behind es k
-unfolding graph
-mem-behind es k z e i =
-    let r = Memᴰ·of-map unpack es i in
-    let P = mem-place es 0 (r .1) in
-    record { place = P .index; behind = omega arith; inside = P .inside; same = sym (r .2) ∙ ap unpack (sym (P .here)) }
+mem-behind es k z e i = let p = graph-place es e i in record { place = p .0; behind = omega arith; inside = p .1; same = sym (p .2) }
 
 -- The loop over the list of a step: k is one more than the index of the edge that comes next, and those behind it have handed on.
 pub record Listing (es : List ℕ) (u m : ℕ) (d₀ d : List (List ℕ)) (f₀ f : List ℕ) (k : ℕ) : Type 0 where
   pub few : k ≤ length es
   pub leaves : (i : ℕ) → k ≡ suc i → unpack (getD es i 0) .from ≡ u
-  pub handed : HandedAll (λ a. Behind es k) u m d₀ d f₀ f
+  pub handed : HandedAll (λ a. UsableFrom (Behind es k) a) u m d₀ d f₀ f
 
 module _ (es : List ℕ) (u m : ℕ) (d₀ : List (List ℕ)) (f₀ : List ℕ) where
   pub listing-start : (k : ℕ) → Square d₀ → length f₀ ≡ 64 → k ≡ last-from es u (length es) → Listing es u m d₀ d₀ f₀ f₀ k
   listing-start k S l h =
-      record { few = omega (arith, last-below es u (length es)); leaves = λ i e. last-leaves es u (length es) i (sym h ∙ e) .0; handed = handed-none d₀ f₀ S l (λ e b o. last-skips es u (length es) (b .place) (omega (arith, b .behind)) (b .inside) (ap (λ (x : Edge). x .from) (sym (b .same)) ∙ o)) }
+      record { few = omega (arith, last-below es u (length es)); leaves = λ i e. last-leaves es u (length es) i (sym h ∙ e) .0; handed = handed-none d₀ f₀ S l (λ a e b o. last-skips es u (length es) (b .0 .place) (omega (arith, b .0 .behind)) (b .0 .inside) (ap (λ (x : Edge). x .from) (sym (b .0 .same)) ∙ o)) }
 
-  module _ (d d′ : List (List ℕ)) (f f′ : List ℕ) (k k′ : ℕ) (some : 1 ≤ k) (L : Listing es u m d₀ d f₀ f k) (H : HandedAll (λ a. Only (unpack (getD es (k - 1) 0))) (unpack (getD es (k - 1) 0) .from) m d d′ f f′) (next : k′ ≡ last-from es u (k - 1)) where
+  module _ (d d′ : List (List ℕ)) (f f′ : List ℕ) (k k′ : ℕ) (some : 1 ≤ k) (L : Listing es u m d₀ d f₀ f k) (H : HandedAll (λ a. UsableFrom (Only (unpack (getD es (k - 1) 0))) a) (unpack (getD es (k - 1) 0) .from) m d d′ f f′) (next : k′ ≡ last-from es u (k - 1)) where
     below : k′ ≤ k - 1
     below = omega (arith, last-below es u (k - 1))
 
@@ -106,7 +106,7 @@ module _ (es : List ℕ) (u m : ℕ) (d₀ : List (List ℕ)) (f₀ : List ℕ) 
 
     pub listing-turn : Listing es u m d₀ d′ f₀ f′ k′
     listing-turn =
-        record { few = omega (arith, below, L .few); leaves = λ i e. last-leaves es u (k - 1) i (sym next ∙ e) .0; handed = handed-all own (λ e b. record { place = b .place; behind = omega (arith, below, b .behind); inside = b .inside; same = b .same }) (λ e o. record { place = k - 1; behind = below; inside = omega (arith, L .few); same = o }) (λ e b o. behind-split es u k k′ next e o b) (L .handed) H }
+        record { few = omega (arith, below, L .few); leaves = λ i e. last-leaves es u (k - 1) i (sym next ∙ e) .0; handed = handed-all own (λ a e b. (record { place = b .0 .place; behind = omega (arith, below, b .0 .behind); inside = b .0 .inside; same = b .0 .same }, b .1)) (λ a e o. (record { place = k - 1; behind = below; inside = omega (arith, L .few); same = o .0 }, o .1)) (λ a e b o. usable-split (Behind es k) (Only (unpack (getD es (k - 1) 0))) (b .1) (behind-split es u k k′ next e o (b .0))) (L .handed) H }
 
     pub listing-less : k′ < k
     listing-less = omega (arith, below)
@@ -120,8 +120,8 @@ module _ (es : List ℕ) (u m : ℕ) (d₀ : List (List ℕ)) (f₀ : List ℕ) 
       ∙ A .nexts (k - 1) (omega (arith, L .few))
       ∙ ap (λ (v : ℕ). last-from es v (k - 1)) (L .leaves (k - 1) (omega arith))
 
-  pub listing-end : (d : List (List ℕ)) (f : List ℕ) (k : ℕ) → k ≡ 0 → Listing es u m d₀ d f₀ f k → HandedAll (λ a. members (graph es)) u m d₀ d f₀ f
-  listing-end d f k z L = handed-as (behind-mem es k) (mem-behind es k z) (L .handed)
+  pub listing-end : (d : List (List ℕ)) (f : List ℕ) (k : ℕ) → k ≡ 0 → Listing es u m d₀ d f₀ f k → HandedAll (λ a. UsableFrom (members (graph es)) a) u m d₀ d f₀ f
+  listing-end d f k z L = handed-as (λ a e b. (behind-mem es k e (b .0), b .1)) (λ a e b. (mem-behind es k z e (b .0), b .1)) (L .handed)
 
 -- The loop over what waits for u: those that are left have not been handed to.
 pub record Told (u m left : ℕ) (e : Edge) : Type 0 where
@@ -167,14 +167,19 @@ waits-told left z e w =
 
 module _ (waiting u m : ℕ) (d₀ : List (List ℕ)) (f₀ : List ℕ) where
   pub told-start : Square d₀ → length f₀ ≡ 64 → HandedAll (λ a. Told u waiting waiting) u m d₀ d₀ f₀ f₀
-  told-start S l = handed-none d₀ f₀ S l (λ e t o. both-ways (t .waits) (t .told))
+  told-start S l = handed-none d₀ f₀ S l (λ a e t o. both-ways (t .waits) (t .told))
 
-  pub told-turn : (d d′ : List (List ℕ)) (f f′ : List ℕ) (left left′ i : ℕ) (w : Edge) → w ≡ wait-edge (record { anchor = u; target = i }) → ((j : ℕ) → test-bit left j ≡ true → test-bit waiting j ≡ true) → test-bit left i ≡ true → ((j : ℕ) → test-bit left′ j ≡ (test-bit left j && not (eqb j i))) → HandedAll (λ a. Told u waiting left) u m d₀ d f₀ f → HandedAll (λ a. Only w) (w .from) m d d′ f f′ → HandedAll (λ a. Told u waiting left′) u m d₀ d′ f₀ f′
+  pub told-turn : (d d′ : List (List ℕ)) (f f′ : List ℕ) (left left′ i : ℕ) (w : Edge) → w ≡ wait-edge (record { anchor = u; target = i }) → ((j : ℕ) → test-bit left j ≡ true → test-bit waiting j ≡ true) → test-bit left i ≡ true → ((j : ℕ) → test-bit left′ j ≡ (test-bit left j && not (eqb j i))) → HandedAll (λ a. Told u waiting left) u m d₀ d f₀ f → HandedAll (λ a. UsableFrom (Only w) a) (w .from) m d d′ f f′ → HandedAll (λ a. Told u waiting left′) u m d₀ d′ f₀ f′
   told-turn d d′ f f′ left left′ i w is within member leaves H K =
-      handed-all (ap (λ (x : Edge). x .from) is) (told-before left left′ i leaves) (told-new left left′ i leaves w is within member) (λ e t o. told-split left left′ i leaves w is e t) H K
+      handed-all (ap (λ (x : Edge). x .from) is) (λ a. told-before left left′ i leaves) (λ a e o. told-new left left′ i leaves w is within member e (o .0)) (λ a e t o. usable a e (told-split left left′ i leaves w is e t)) H K
+    where
+      -- A wait is never late.
+      usable : (a : ℕ) (e : Edge) → Told u waiting left e ⊎ Only w e → Told u waiting left e ⊎ UsableFrom (Only w) a e
+      usable a e (inl t) = inl t
+      usable a e (inr o) = inr (o, λ l. both-ways (l .0) (ap (λ (x : Edge). x .late) (o ∙ is)))
 
   pub told-end : (d : List (List ℕ)) (f : List ℕ) (left : ℕ) → left ≡ 0 → HandedAll (λ a. Told u waiting left) u m d₀ d f₀ f → HandedAll (λ a. WaitsFor u waiting) u m d₀ d f₀ f
-  told-end d f left z H = handed-as told-waits (waits-told left z) H
+  told-end d f left z H = handed-as (λ a. told-waits) (λ a. waits-told left z) H
 
 -- What is left of a map with a member taken out was in it.
 pub left-within : (waiting left left′ i : ℕ) → ((j : ℕ) → test-bit left j ≡ true → test-bit waiting j ≡ true) → ((j : ℕ) → test-bit left′ j ≡ (test-bit left j && not (eqb j i))) → (j : ℕ) → test-bit left′ j ≡ true → test-bit waiting j ≡ true

@@ -2,14 +2,14 @@
 use mathlib.Core.Path.{_≡_, refl, sym, ap, subst, _∙_}
 use mathlib.Core.Bool.{Bool, true, false}
 use mathlib.Core.Logic.{_⊎_, inl, inr, _≢_}
-use mathlib.Core.List.{List, List·Memᴰ}
+use mathlib.Core.List.{List}
 use Prim.Native.Nat.{ℕ, _-_, _≤_, _<_}
 use native.Mathlib.Omega.{arith}
 use native.Mathlib.Decide.{decLe}
 use lib.ListN.{length, getD, set}
 use lib.Seq.{getD-set-other}
 use Rattle.definitions.specs.Basics.{test-bit}
-use Rattle.definitions.specs.Links.{Edge, Graph, members}
+use Rattle.definitions.specs.Links.{Edge, Graph, UsableFrom, members}
 use Rattle.edges.specs.Words.{graph}
 use Rattle.laws.proofs.Bools.{bool-cases, same-or-not}
 use Rattle.laws.proofs.Maps.{test-zero}
@@ -56,18 +56,18 @@ pub visited-idle : {E : ℕ → Graph} (u : ℕ) (d : List (List ℕ)) (f : List
 visited-idle u d f S l z = record { square = S; long = l; each = λ a. swept-idle (ap (λ (x : ℕ). test-bit x a) z ∙ test-zero a) }
 
 -- A visit: the edges out of u, and then what waits for it.
-module _ (es waiting : List ℕ) (u : ℕ) (d d′ d″ : List (List ℕ)) (f f′ f″ : List ℕ) (H : HandedAll (λ a. members (graph es)) u (getD f u 0) d d′ (set f u 0) f′) (K : HandedAll (λ a. WaitsFor u (getD waiting u 0)) u (getD f u 0) d′ d″ f′ f″) where
-  waits-own : (e : Edge) → WaitsFor u (getD waiting u 0) e → Both es waiting 0 e
-  waits-own e w =
+module _ (es waiting : List ℕ) (u : ℕ) (d d′ d″ : List (List ℕ)) (f f′ f″ : List ℕ) (H : HandedAll (λ a. UsableFrom (members (graph es)) a) u (getD f u 0) d d′ (set f u 0) f′) (K : HandedAll (λ a. WaitsFor u (getD waiting u 0)) u (getD f u 0) d′ d″ f′ f″) where
+  waits-own : (a : ℕ) (e : Edge) → WaitsFor u (getD waiting u 0) e → Both es waiting a e
+  waits-own a e w =
       let o : e .from ≡ u = ap (λ (x : Edge). x .from) (w .same) in
       inr (subst (λ (x : ℕ). WaitsFor x (getD waiting x 0) e) (sym o) w)
 
-  split : (e : Edge) → Both es waiting 0 e → e .from ≡ u → List·Memᴰ e (graph es) ⊎ WaitsFor u (getD waiting u 0) e
-  split e (inl m) o = inl m
-  split e (inr w) o = inr (subst (λ (x : ℕ). WaitsFor x (getD waiting x 0) e) o w)
+  split : (a : ℕ) (e : Edge) → Both es waiting a e → e .from ≡ u → UsableFrom (members (graph es)) a e ⊎ WaitsFor u (getD waiting u 0) e
+  split a e (inl m) o = inl m
+  split a e (inr w) o = inr (subst (λ (x : ℕ). WaitsFor x (getD waiting x 0) e) o w)
 
   whole : HandedAll (Both es waiting) u (getD f u 0) d d″ (set f u 0) f″
-  whole = handed-all refl (λ e m. inl m) waits-own split H K
+  whole = handed-all refl (λ a e m. inl m) waits-own split H K
 
   pub visited : SweptAll (Both es waiting) (λ v. v ≡ u) d d″ f f″
   visited =

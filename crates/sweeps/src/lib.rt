@@ -5,7 +5,7 @@ ghost use mathlib.Core.Path.{_≡_};
 ghost use Prim.Native.Nat.{_<_, _≤_};
 ghost use lib.ListN.{length};
 ghost use Rattle.adjacency.specs.Lists.{Lists};
-ghost use Rattle.definitions.specs.Links.{members};
+ghost use Rattle.definitions.specs.Links.{UsableFrom, members};
 ghost use Rattle.edges.specs.Words.{graph};
 ghost use Rattle.relaxation.specs.Columns.{Square, HandedAll, SweptAll, WaitsFor};
 ghost use Rattle.sweeps.specs.Graphs.{Both};
@@ -17,7 +17,7 @@ fn index(x: u16) -> usize
     x as usize
 }
 
-// The edges out of u, for the anchors in m.
+// The edges out of u, for the anchors in m that may use them.
 fn push_edges(
     d: &mut [[u32; 64]; 64],
     fresh: &mut [u64; 64],
@@ -27,7 +27,7 @@ fn push_edges(
     m: u64,
 )
     requires { ⌜ (u < 64) × (length (now es) ≤ 2048) × Lists (now es) (now lists) × Square (now d) × (length (now fresh) ≡ 64) ⌝ }
-    ensures { λ r. ⌜ HandedAll (λ a. members (graph (now (es .entry)))) u m (now (d .entry)) (now (d .exit)) (now (fresh .entry)) (now (fresh .exit)) ⌝ }
+    ensures { λ r. ⌜ HandedAll (λ a. UsableFrom (members (graph (now (es .entry)))) a) u m (now (d .entry)) (now (d .exit)) (now (fresh .entry)) (now (fresh .exit)) ⌝ }
 {
     let mut k = index(lists[u]);
     while k != 0 {

@@ -4,11 +4,11 @@ use mathlib.Core.Logic.{_⊎_, inl, inr}
 use mathlib.Core.List.{List, List·Memᴰ, List·Memᴰ·cases-cons, List·Memᴰ·not-nil, [], _∷_}
 use Prim.Native.Nat.{_<_, _≤_, suc, zero, ℕ}
 use native.Mathlib.Omega.{arith}
-use Rattle.definitions.specs.Links.{After, Graph}
-use Rattle.theory.specs.Graphs.{Acyclic, Relative, Schedule, Shape}
+use Rattle.definitions.specs.Links.{After, Forward, Graph}
+use Rattle.theory.specs.Graphs.{Acyclic, Relative, Schedule, Shape, Timely}
 use Rattle.theory.proofs.Pigeonhole.{free, free-none, free-take}
 use Rattle.theory.proofs.RelativeSchedules.{least-at}
-use Rattle.theory.proofs.Walks.{after-trans, chain-after}
+use Rattle.theory.proofs.Walks.{after-trans}
 
 -- A list of vertices that all stand behind v: v is none of them, and what stands before v stands before them and v.
 abbrev pub Behind : (ℕ → ℕ → Type 0) → List ℕ → ℕ → Type 0
@@ -42,7 +42,6 @@ module _ (n : ℕ) (E : Graph) (acyclic : Acyclic E) where
   pub anchored-induct : (P : ℕ → Type 0) → ((a : ℕ) → a < n → ((v : ℕ) → v < n → After E a v → P v) → P a) → (a : ℕ) → a < n → P a
   anchored-induct = induct n (λ v a. After E a v) (λ c b a w v. after-trans v w) acyclic
 
--- The relative schedule is the least. By induction along anchors: its start at v is a term of an anchor before v, and any schedule keeps that term.
-pub least-acyclic : {n : ℕ} {E : Graph} {d S t : ℕ → ℕ} {off : ℕ → ℕ → ℕ} → Shape n E → Acyclic E → Relative n E d S off → Schedule E d t → (v : ℕ) → v < n → S v ≤ t v
-least-acyclic {n} {E} {d} {S} {t} shape acyclic rel s =
-    anchor-induct n E acyclic (λ v. S v ≤ t v) (λ v b ih. least-at shape rel s v b (λ a c w. ih a c (chain-after w)))
+-- Where no return is late the relative schedule is the least. By induction along anchors: its start at v is a term of an anchor before v, and any schedule keeps that term.
+pub least-acyclic : {n : ℕ} {E : Graph} {d S t : ℕ → ℕ} {off : ℕ → ℕ → ℕ} → Shape n E → Timely E → Acyclic (Forward E) → Relative n E d S off → Schedule E d t → (v : ℕ) → v < n → S v ≤ t v
+least-acyclic {n} {E} {d} {S} {t} shape timely acyclic rel s = anchor-induct n (Forward E) acyclic (λ v. S v ≤ t v) (least-at shape timely rel s)

@@ -9,17 +9,18 @@ use lib.Dec.{eqb, leb}
 use borrow.Author.Tests.{eqb-false, le-leb, leb-true, ne-eqb, not-true}
 use Rattle.definitions.specs.Anchors.{InAnchorSet, WellPosed, chain, in-anchor-set}
 use Rattle.definitions.specs.Basics.{any-below, largest}
-use Rattle.definitions.specs.Links.{Edge, Forward, members, usable}
+use Rattle.definitions.specs.Links.{Edge, Forward, members}
 use Rattle.definitions.specs.Plan.{decides, offset, overrides, start-times}
 use Rattle.definitions.specs.Rounds.{cell}
 use Rattle.laws.proofs.Bools.{and-join, and-split, both-ways, not-passing, same-or-not}
 use Rattle.laws.proofs.Tests.{any-below-has, any-below-none, largest-above, largest-attained, largest-below, none-any-below}
-use Rattle.theory.specs.Graphs.{Acyclic, Decides, Overrides, Relative, RelativeOn, Shape, Well, sole-delay}
+use Rattle.theory.specs.Graphs.{Acyclic, Decides, Overrides, Relative, Shape, Well, sole-delay}
 use Rattle.theory.proofs.Irredundance.{deciding-attains, offset-triangle, strictly-largest}
 use Rattle.theory.proofs.Reachability.{dec-member, in-anchor-set-iff}
 use Rattle.theory.proofs.SoleDelays.{sole-delay-other, sole-delay-own, sole-delay-source}
-use Rattle.theory.proofs.StartTimes.{relative-all, start-times-relative}
-use Rattle.theory.proofs.Walks.{after-trans, chain-after, member-below}
+use Rattle.theory.proofs.StartTimes.{start-times-relative}
+use Rattle.theory.proofs.Usables.{consistent-acyclic}
+use Rattle.theory.proofs.Walks.{after-trans, member-below}
 
 module _ {n : ℕ} {es : List Edge} (shape : Shape n (members es)) where
   pub overrides-iff : (a v b : ℕ) → (overrides n es a v b ≡ true) ↔ Overrides (members es) (offset n es) a v b
@@ -58,7 +59,7 @@ module _ {n : ℕ} {es : List Edge} (shape : Shape n (members es)) where
 -- Enough: the largest term over the deciding members is the start.
 module _ {n : ℕ} {es : List Edge} (well : Well n (members es)) (posed : WellPosed (members es)) where
   forward-acyclic : Acyclic (Forward (members es))
-  forward-acyclic a w = well .acyclic a (chain-after w)
+  forward-acyclic = consistent-acyclic (well .shape) (well .consistent)
 
   pub deciding-enough : (d : ℕ → ℕ) → d 0 ≡ 0 → (v : ℕ) → v < n → cell (start-times n es d) v ≡ largest (λ a. decides n es a v) (λ a. cell (start-times n es d) a + d a + offset n es a v) n
   deciding-enough d d0 v b =
@@ -73,7 +74,7 @@ module _ {n : ℕ} {es : List Edge} (well : Well n (members es)) (posed : WellPo
       value : ℕ → ℕ
       value a = cell (start-times n es d) a + d a + offset n es a v
 
-      rel : RelativeOn n (members es) (λ a. members (usable es a)) d (cell (start-times n es d)) (offset n es)
+      rel : Relative n (members es) d (cell (start-times n es d)) (offset n es)
       rel = start-times-relative well posed d d0
 
   -- So some member decides.
@@ -88,9 +89,9 @@ module _ {n : ℕ} {es : List Edge} (well : Well n (members es)) (posed : WellPo
   deciding-strict a v b D =
       strictly-largest
       (well .shape)
-      (λ y w. well .acyclic y (chain-after w))
+      (consistent-acyclic (well .shape) (well .consistent))
       rel
-      (λ c y u h k i j. offset-triangle (j .walk .not-source) (rel .offsets c y h (chain i)) (rel .offsets y u k (chain j)) (rel .offsets c u k (chain (after-trans i j))))
+      (λ c y u h k i j. offset-triangle (well .shape) (consistent-acyclic (well .shape) (well .consistent)) posed i (j .walk .not-source) (rel .offsets c y h (chain i)) (rel .offsets y u k (chain j)) (rel .offsets c u k (chain (after-trans i j))))
       b
       (decides-iff (well .shape) a v b .0 D)
       limit
@@ -99,7 +100,7 @@ module _ {n : ℕ} {es : List Edge} (well : Well n (members es)) (posed : WellPo
       small
     where
       rel : Relative n (members es) (sole-delay x a) (cell (start-times n es (sole-delay x a))) (offset n es)
-      rel = relative-all (start-times-relative well posed (sole-delay x a) (sole-delay-source x a))
+      rel = start-times-relative well posed (sole-delay x a) (sole-delay-source x a)
 
   -- So every part P of the anchor set that has the start among its terms, for the delays that show a, contains a.
   pub deciding-needed : (P : ℕ → Type 0) (a v : ℕ) → v < n → ((b : ℕ) → P b → InAnchorSet (members es) b v) → ((b : ℕ) × P b × (cell (start-times n es (sole-delay x a)) v ≡ cell (start-times n es (sole-delay x a)) b + sole-delay x a b + offset n es b v)) → decides n es a v ≡ true → P a

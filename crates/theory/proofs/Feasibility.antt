@@ -8,7 +8,7 @@ use native.Mathlib.Omega.{arith}
 use native.Mathlib.Nat.{mul-le-mul-right, suc-mul}
 use Rattle.definitions.specs.Anchors.{is-source}
 use Rattle.definitions.specs.Basics.{all-below, any}
-use Rattle.definitions.specs.Links.{After, AfterWalk, Edge, Graph, Walk, forwards, members, step, stop}
+use Rattle.definitions.specs.Links.{After, AfterWalk, Edge, Graph, UsableFrom, Walk, forwards, members, step, stop, usable}
 use Rattle.definitions.specs.Plan.{Span, after, source}
 use Rattle.definitions.specs.Rounds.{after-reaches, cell, extend, reaches, rounds, source-row, stable}
 use Rattle.laws.proofs.Bools.{both-ways, not-passing}
@@ -16,11 +16,13 @@ use Rattle.laws.proofs.Tests.{all-below-by, all-below-each, any-none, none-any}
 use Rattle.theory.specs.Graphs.{ForwardAcyclic, Gains, KeepsEdge, Losses, NonPositive, Rooted, Schedule, Shape, Well, sole-delay}
 use Rattle.theory.proofs.FirstRows.{source-start}
 use Rattle.theory.proofs.Pigeonhole.{brief, shorten, walk-gain, walk-loss}
-use Rattle.theory.proofs.Reachability.{after-reaches-iff, forwards-mem, forwards-shape, joined-reaches, mem-forwards, reaches-joined}
+use Rattle.theory.proofs.Reachability.{forwards-mem, forwards-shape, joined-reaches, mem-forwards, reaches-joined}
 use Rattle.theory.proofs.Relaxation.{Covers, Grounded, Stable, Start, covers-up, fixpoint-stable, grounded, rounds-fixed, rounds-length, rounds-offset, rounds-rise, rounds-under, stable-iff, stable-walk}
-use Rattle.theory.proofs.Serialization.{schedule-nonpositive}
-use Rattle.theory.proofs.SoleDelays.{sole-delay-own}
-use Rattle.theory.proofs.Walks.{after-bound, after-start-below, joined-mono, walk-from, walk-mono, walk-to}
+use Rattle.theory.proofs.Slack.{after-slack, schedule-nonpositive, slack-same, slack-zero}
+use Rattle.theory.proofs.SoleDelays.{sole-delay-other, sole-delay-own}
+use Rattle.theory.proofs.Usables.{usable-shape, usable-sub}
+use Rattle.theory.proofs.WaitLists.{usable-reaches-iff}
+use Rattle.theory.proofs.Walks.{after-start-below, joined-mono, schedule-mono, walk-from, walk-mono, walk-to}
 
 -- A stable row says of each edge what start times must keep: its cells less 1 are such times.
 extend-keeps : (r s g l : ℕ) → 1 ≤ r → extend r g l ≤ s → r - 1 + g ≤ s - 1 + l
@@ -37,7 +39,7 @@ stable-schedule {n} {es} shape row st full z = record { starts = omega arith; ke
 
     keeps-each : (e : Edge) → List·Memᴰ e es → KeepsEdge (λ v. 0) (λ v. cell row v - 1) e
     keeps-each e m =
-        omega (arith, extend-keeps (cell row (e .from)) (cell row (e .to)) (e .gain) (e .loss) (full (e .from) (shape .from-below e m)) (st e m), none (e .counted))
+        omega (arith, extend-keeps (cell row (e .from)) (cell row (e .to)) (e .gain) (e .loss) (full (e .from) (shape .from-below e m)) (st e m), none (e .counted), none (e .late))
 
 module _ {n : ℕ} {es : List Edge} (some : 0 < n) (shape : Shape n (members es)) (rooted : Rooted n (members es)) where
   -- For the source every graph is well-posed, and so grounded.
@@ -117,9 +119,9 @@ module _ {n : ℕ} {es : List Edge} (some : 0 < n) (shape : Shape n (members es)
   )
 
   -- A graph that passes the tests for 10 and 11 can be scheduled.
-  pub well-by : stable es (rounds es n (source-row n 0)) ≡ true → ((a : ℕ) → a < n → after-reaches n es a a ≡ false) → Well n (members es)
+  pub well-by : stable es (rounds es n (source-row n 0)) ≡ true → ((a : ℕ) → a < n → after-reaches n (usable es a) a a ≡ false) → Well n (members es)
   well-by st once =
-      record { some = some; shape = shape; rooted = rooted; acyclic = λ a w. both-ways (after-reaches-iff shape a a .1 w) (once a (after-start-below shape w)); never = stable-nonpositive-iff .0 st }
+      record { some = some; shape = shape; rooted = rooted; consistent = λ a w. both-ways (usable-reaches-iff shape a a .1 w) (once a (after-start-below (usable-shape shape a) w)); never = stable-nonpositive-iff .0 st }
 
 -- Every step has a chain from step 0, as a test.
 pub rooted-iff : {n : ℕ} {es : List Edge} → 0 < n → Shape n (members es) → (all-below (reaches n (forwards es) 0) n ≡ true) ↔ Rooted n (members es)
@@ -157,20 +159,24 @@ forward-acyclic-iff {n} {es} shape = (acyclic, test)
         let J = reaches-joined (forwards-shape shape) (forwards-shape shape .to-below e m) (e .from) t in
         once (e .to) (J .k) _ _ (walk-mono (mem-forwards es) (step (J .walk) e m refl refl refl refl refl))))
 
--- Refusal 11. A closed walk that begins with a counted edge out of a is cut to at most n edges. It loses at most n times the largest loss, and so no start times let a last longer than that.
-pub closed-after-unschedulable : {n l a : ℕ} {E : Graph} {d t : ℕ → ℕ} → Shape n E → Losses E l → After E a a → n * l < d a → ¬ Schedule E d t
-closed-after-unschedulable {n} {l} {a} {E} shape losses w h s =
+-- Refusal 11. A closed walk from the end of a is cut to at most n edges. It loses at most n times the largest loss and leans on no other delay, and so no start times let a alone last longer than that.
+pub closed-after-unschedulable : {n l x a : ℕ} {E : Graph} {t : ℕ → ℕ} → Shape n E → Losses E l → After (UsableFrom E a) a a → n * l < x → ¬ Schedule E (sole-delay x a) t
+closed-after-unschedulable {n} {l} {x} {a} {E} shape losses w h s =
     let u = w .walk in
-    let b = brief shape (shape .to-below (u .edge) (u .mem)) (record { k = u .k; p = u .g; q = u .l; walk = u .rest }) in
-    let v : AfterWalk E a a (u .edge .gain + b .p) (u .edge .loss + b .q) = record { not-source = u .not-source; edge = u .edge; mem = u .mem; leaves = u .leaves; counts = u .counts; k = b .k; g = b .p; l = b .q; rest = b .walk; gains = refl; losses = refl } in
+    let b = brief (usable-shape shape a) (shape .to-below (u .edge) (u .mem .0)) (record { k = u .k; p = u .g; q = u .l; walk = u .rest }) in
+    let v : AfterWalk (UsableFrom E a) a a (u .edge .gain + b .p) (u .edge .loss + b .q) = record { not-source = u .not-source; edge = u .edge; mem = u .mem; leaves = u .leaves; counts = u .counts; k = b .k; g = b .p; l = b .q; rest = b .walk; gains = refl; losses = refl } in
     omega (
       arith,
-      after-bound s v,
-      walk-loss losses (b .walk),
-      losses (u .edge) (u .mem),
+      after-slack (usable-shape shape a) (schedule-mono (usable-sub E a) s) v,
+      slack-same {d = sole-delay x a} {d′ = λ y. 0} (λ y z. sole-delay-other x a y z) (b .walk),
+      slack-zero (b .walk),
+      sole-delay-own x a (u .not-source),
+      walk-loss (λ e m. losses e (m .0)) (b .walk),
+      losses (u .edge) (u .mem .0),
       suc-mul (b .k) l,
       mul-le-mul-right l (b .few),
     )
 
-pub closed-after-64 : {n a : ℕ} {E : Graph} {t : ℕ → ℕ} → Shape n E → n ≤ 64 → Losses E 65535 → After E a a → ¬ Schedule E (sole-delay 16777215 a) t
-closed-after-64 {n} {a} shape few losses w = closed-after-unschedulable shape losses w (omega (arith, sole-delay-own 16777215 a (w .walk .not-source), mul-le-mul-right 65535 few))
+-- With the limits of a sheet: a return from the finish of a fixed step loses up to twice 65,535.
+pub closed-after-64 : {n a : ℕ} {E : Graph} {t : ℕ → ℕ} → Shape n E → n ≤ 64 → Losses E 131070 → After (UsableFrom E a) a a → ¬ Schedule E (sole-delay 16777215 a) t
+closed-after-64 {n} {a} shape few losses w = closed-after-unschedulable shape losses w (omega (arith, mul-le-mul-right 131070 few))

@@ -4,13 +4,14 @@ use mathlib.Core.Logic.{_≢_, _⊎_, inl, inr}
 use Prim.Native.Nat.{_+_, _<_, _≤_, suc, zero, ℕ}
 use native.Mathlib.Omega.{arith}
 use native.Mathlib.Decide.{decLe, decLt, ℕ-discrete}
-use Rattle.definitions.specs.Anchors.{InAnchorSet, chain, is-source}
-use Rattle.definitions.specs.Links.{After, Forward, Graph, Joined}
+use Rattle.definitions.specs.Anchors.{InAnchorSet, WellPosed, chain, is-source}
+use Rattle.definitions.specs.Links.{After, Forward, Graph, Joined, LateInto, UsableFrom, Walk}
 use Rattle.definitions.specs.Plan.{Offset, Span, after, source}
 use Rattle.laws.proofs.Bools.{same-or-not}
-use Rattle.theory.specs.Graphs.{Acyclic, Decides, Overrides, RelativeOn, Shape}
+use Rattle.theory.specs.Graphs.{Acyclic, Decides, Overrides, Relative, Shape}
 use Rattle.theory.proofs.AnchorOrder.{anchor-induct, anchored-induct}
-use Rattle.theory.proofs.Walks.{after-start-below, after-trans, after-walk, chain-after, member-below, member-from, source-first, span-join}
+use Rattle.theory.proofs.Serialization.{Crossing, cross-after, late-back, reach-chain}
+use Rattle.theory.proofs.Walks.{after-start-below, after-trans, chain-after, member-below, member-from, source-first, span-join}
 
 -- A deciding member whose term is at least x.
 pub record Outdone (E : Graph) (d S : ℕ → ℕ) (off : ℕ → ℕ → ℕ) (v x : ℕ) : Type 0 where
@@ -57,7 +58,7 @@ decides-or-not {n} {E} shape off dec a v h i = go (search-below n (Overrides E o
     go (inr f) = inl (record { inside = i; alone = λ b o. f b (member-below shape h (o .inside)) o })
 
 -- The deciding members are enough. Who leaves a out stands behind a, and so following who leaves out whom ends at a member that stays.
-module _ {n : ℕ} {E : Graph} {G : ℕ → Graph} {d S : ℕ → ℕ} {off : ℕ → ℕ → ℕ} (shape : Shape n E) (acyclic : Acyclic (Forward E)) (rooted : (v : ℕ) → v < n → Joined (Forward E) 0 v) (dec : (a v : ℕ) → Dec (InAnchorSet E a v)) (rel : RelativeOn n E G d S off) where
+module _ {n : ℕ} {E : Graph} {d S : ℕ → ℕ} {off : ℕ → ℕ → ℕ} (shape : Shape n E) (acyclic : Acyclic (Forward E)) (rooted : (v : ℕ) → v < n → Joined (Forward E) 0 v) (dec : (a v : ℕ) → Dec (InAnchorSet E a v)) (rel : Relative n E d S off) where
   passed-on : (v a b : ℕ) → v < n → b < n → Overrides E off a v b → Outdone E d S off v (S b + d b + off b v) → Outdone E d S off v (S a + d a + off a v)
   passed-on v a b h c o r =
       record { anchor = r .anchor; decides = r .decides; enough = omega (arith, r .enough, o .heavy, rel .above a b c (o .behind)) }
@@ -104,17 +105,30 @@ module _ {n : ℕ} {E : Graph} {G : ℕ → Graph} {d S : ℕ → ℕ} {off : �
       let r = outdone v h (A .anchor) (A .inside) in
       (r .anchor, r .decides, omega (arith, A .equals, r .enough, rel .above (r .anchor) v h (r .decides .inside)))
 
--- The offsets' triangle, at an anchor b that is not the source.
-pub offset-triangle : {E : Graph} {c b v o₁ o₂ o : ℕ} → b ≢ 0 → Offset E c b o₁ → Offset E b v o₂ → Offset E c v o → o₁ + o₂ ≤ o
-offset-triangle {E} {c} {b} {v} {o₁} {o₂} {o} z O₁ O₂ O = go (O₂ .span)
-  where
-    go : Span E b v (O₂ .p) (O₂ .q) → o₁ + o₂ ≤ o
-    go (source e w) = absurd (z e)
-    go (after w) = omega (arith, O₁ .attained, O₂ .attained, O .bound _ _ (span-join (O₁ .span) (after-walk w)))
+-- The offsets' triangle, at an anchor b behind c. The walk of b's offset does not cross c by a late return, as b would stand before c then; so it makes c's walk longer.
+module _ {n : ℕ} {E : Graph} (shape : Shape n E) (acyclic : Acyclic (Forward E)) (posed : WellPosed E) where
+  crossing-free : {c b : ℕ} → After (Forward E) c b → ¬ Crossing E c b
+  crossing-free {c} {b} i x = go (posed b (x .edge) (x .mem .0) (late-back shape (x .edge) (x .mem .0) (x .into .0)) (chain (reach-chain shape posed (x .reaches))))
+    where
+      go : InAnchorSet E b (x .edge .to) ⊎ LateInto (x .edge) b → ⊥
+      go (inr h) = x .mem .1 h
+      go (inl (is-source h)) = x .reaches .walk .not-source h
+      go (inl (chain w)) = acyclic c (after-trans i (subst (λ (y : ℕ). After (Forward E) b y) (x .into .1) w))
+
+  pub offset-triangle : {c b v o₁ o₂ o : ℕ} → After (Forward E) c b → b ≢ 0 → Offset (UsableFrom E c) c b o₁ → Offset (UsableFrom E b) b v o₂ → Offset (UsableFrom E c) c v o → o₁ + o₂ ≤ o
+  offset-triangle {c} {b} {v} {o₁} {o₂} {o} i z O₁ O₂ O = go (O₂ .span)
+    where
+      by : {k : ℕ} → Walk (UsableFrom E c) b v k (O₂ .p) (O₂ .q) ⊎ Crossing E c b → o₁ + o₂ ≤ o
+      by (inl w) = omega (arith, O₁ .attained, O₂ .attained, O .bound _ _ (span-join (O₁ .span) w))
+      by (inr x) = absurd (crossing-free i x)
+
+      go : Span (UsableFrom E b) b v (O₂ .p) (O₂ .q) → o₁ + o₂ ≤ o
+      go (source e w) = absurd (z e)
+      go (after w) = by (cross-after shape c w)
 
 -- Each deciding member a is needed. Let a last more than twice what any offset is, and every other step 0; where a is the source let none last. By induction along the anchors before v, the term of every other member is smaller:
 -- its start is decided through a, and then the offsets leave it behind, or it does not depend on a at all.
-module _ {n : ℕ} {E : Graph} {G : ℕ → Graph} {d S : ℕ → ℕ} {off : ℕ → ℕ → ℕ} {a v : ℕ} (shape : Shape n E) (acyclic : Acyclic (Forward E)) (rel : RelativeOn n E G d S off) (triangle : (c b u : ℕ) → b < n → u < n → After (Forward E) c b → After (Forward E) b u → off c b + off b u ≤ off c u) (inside : v < n) (stays : Decides E off a v) (limit : ℕ) (long : a ≢ 0 → limit + limit < d a) (none : (b : ℕ) → b ≢ a → d b ≡ 0) (small : (b u : ℕ) → u < n → InAnchorSet E b u → off b u ≤ limit) where
+module _ {n : ℕ} {E : Graph} {d S : ℕ → ℕ} {off : ℕ → ℕ → ℕ} {a v : ℕ} (shape : Shape n E) (acyclic : Acyclic (Forward E)) (rel : Relative n E d S off) (triangle : (c b u : ℕ) → b < n → u < n → After (Forward E) c b → After (Forward E) b u → off c b + off b u ≤ off c u) (inside : v < n) (stays : Decides E off a v) (limit : ℕ) (long : a ≢ 0 → limit + limit < d a) (none : (b : ℕ) → b ≢ a → d b ≡ 0) (small : (b u : ℕ) → u < n → InAnchorSet E b u → off b u ≤ limit) where
   smaller-source : (b : ℕ) → b ≢ a → b ≡ 0 → InAnchorSet E b v → S b + off b v < S a + d a + off a v
   smaller-source b other e i = omega (arith, small b v inside i, ap S e, rel .starts, long (λ z. other (e ∙ sym z)))
 

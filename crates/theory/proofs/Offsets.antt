@@ -1,34 +1,30 @@
 -- Offsets: n rounds find them, and how large they can be.
-use mathlib.Core.Path.{_≡_, refl, subst, sym}
+use mathlib.Core.Path.{_≡_, refl}
 use mathlib.Core.Logic.{_↔_, _⊎_, inl, inr}
 use mathlib.Core.List.{List, List·Memᴰ}
 use Prim.Native.Nat.{_*_, _+_, _-_, _<_, _≤_, suc, zero, ℕ}
 use native.Mathlib.Omega.{arith}
 use native.Mathlib.Nat.{mul-le-mul-right, suc-mul}
-use Rattle.definitions.specs.Anchors.{InAnchorSet, WellPosed, WellPosedFor, chain, is-source}
-use Rattle.definitions.specs.Links.{After, Edge, Graph, Walk, members, usable}
+use Rattle.definitions.specs.Anchors.{InAnchorSet, WellPosed, chain, is-source}
+use Rattle.definitions.specs.Links.{After, Edge, Graph, UsableFrom, Walk, members, usable}
 use Rattle.definitions.specs.Plan.{Offset, Span, after, first-row, offset, offset-row, source}
 use Rattle.definitions.specs.Rounds.{cell, rounds}
-use Rattle.theory.specs.Graphs.{Gains, NonPositive, Rooted, Shape, Well}
+use Rattle.theory.specs.Graphs.{Carries, Gains, NonPositive, Rooted, Shape, Well}
 use Rattle.theory.proofs.FirstRows.{after-start, source-start}
 use Rattle.theory.proofs.Pigeonhole.{Loop, Short, free, free-take, loop-or-free, shorten, split-at, trail, walk-gain}
 use Rattle.theory.proofs.Relaxation.{Grounded, Start, grounded, rounds-offset, rounds-span, rounds-under}
-use Rattle.theory.proofs.WaitLists.{usable-all}
-use Rattle.theory.proofs.Walks.{after-by, after-mono, join, member-below, member-span, walk-from, walk-mono}
-
--- What holds of the list holds of the edges that walks from the end of a may take.
-pub usable-by : {es : List Edge} (a : ℕ) (P : List Edge → Type 0) → P es → P (usable es a)
-usable-by {es} a P h = subst P (sym (usable-all es a)) h
+use Rattle.theory.proofs.Usables.{carries-list, forwards-usable, member-usable, members-usable, nonpositive-mono, usable-list-shape, usable-members, usable-shape, usable-sub}
+use Rattle.theory.proofs.Walks.{after-by, after-mono, join, joined-mono, member-below, member-mono, member-span, offset-same, walk-from, walk-mono}
 
 pub first-start : {n : ℕ} {es : List Edge} → Shape n (members es) → 0 < n → (a : ℕ) → Grounded n (members es) a → Start es a (first-row n es a)
 unfolding first-row
 first-start shape some zero G = source-start shape some G
 first-start shape some (suc a) G = after-start shape (omega arith) G
 
--- The graph need be well-posed for the anchor alone. A member is reached by a chain, so its cell is not empty after n rounds; and what the cell says is attained and a bound.
-module _ {n : ℕ} {es : List Edge} (some : 0 < n) (shape : Shape n (members es)) (never : NonPositive (members es)) {a : ℕ} (rooted : a ≡ 0 → Rooted n (members es)) (posed : WellPosedFor (members es) a) where
+-- Returns need carry on the anchor alone. A member is reached by a chain, so its cell is not empty after n rounds; and what the cell says is attained and a bound.
+module _ {n : ℕ} {es : List Edge} (some : 0 < n) (shape : Shape n (members es)) (never : NonPositive (members es)) {a : ℕ} (rooted : a ≡ 0 → Rooted n (members es)) (carries : Carries (members es) a) where
   ground : Grounded n (members es) a
-  ground = grounded shape a posed rooted
+  ground = grounded shape a carries rooted
 
   start : Start es a (first-row n es a)
   start = first-start shape some a ground
@@ -48,7 +44,7 @@ module _ {n : ℕ} {es : List Edge} (some : 0 < n) (shape : Shape n (members es)
     where
       go : (r : ℕ) → cell row v ≡ r → InAnchorSet (members es) a v
       go zero e = absurd (omega arith)
-      go (suc o) e = member-span shape posed (rounds-under shape ground start n v o e .span)
+      go (suc o) e = member-span shape carries (rounds-under shape ground start n v o e .span)
 
   pub row-offset : (v : ℕ) → v < n → InAnchorSet (members es) a v → Offset (members es) a v (cell (rounds es n (first-row n es a)) v - 1)
   row-offset v b i = go (cell row v) refl (row-member v b i)
@@ -59,22 +55,32 @@ module _ {n : ℕ} {es : List Edge} (some : 0 < n) (shape : Shape n (members es)
           let e : cell row v - 1 ≡ o = omega arith in
           rw e (rounds-offset shape (member-below shape b i) ground never start v o h)
 
--- In a well-posed graph.
+-- In a well-posed graph, over the edges that walks from the end of a may use.
+pub usable-rooted : {n : ℕ} {es : List Edge} → Shape n (members es) → Rooted n (members es) → (a : ℕ) → Rooted n (members (usable es a))
+usable-rooted {n} {es} shape rooted a v b = joined-mono (λ e m. (usable-members es a e (forwards-usable shape a e m .0), m .1)) (rooted v b)
+
+pub usable-nonpositive : {es : List Edge} → NonPositive (members es) → (a : ℕ) → NonPositive (members (usable es a))
+usable-nonpositive {es} never a = nonpositive-mono (λ e m. members-usable es a e m .0) never
+
 module _ {n : ℕ} {es : List Edge} (well : Well n (members es)) (posed : WellPosed (members es)) where
-  pub offset-found : (a v : ℕ) → v < n → InAnchorSet (members es) a v → Offset (members (usable es a)) a v (offset n es a v)
+  listed : {a v : ℕ} → InAnchorSet (members es) a v → InAnchorSet (members (usable es a)) a v
+  listed {a} i = member-mono (usable-members es a) (member-usable (well .shape) a i)
+
+  pub offset-found : (a v : ℕ) → v < n → InAnchorSet (members es) a v → Offset (UsableFrom (members es) a) a v (offset n es a v)
   unfolding offset offset-row
   offset-found a v b i =
-      usable-by {es = es} a (λ us. Offset (members us) a v (cell (rounds us n (first-row n us a)) v - 1)) (row-offset (well .some) (well .shape) (well .never) (λ h. well .rooted) (posed a) v b i)
+      offset-same
+      (members-usable es a)
+      (usable-members es a)
+      (row-offset (well .some) (usable-list-shape (well .shape) a) (usable-nonpositive (well .never) a) (λ h. usable-rooted (well .shape) (well .rooted) a) (carries-list (well .shape) posed a) v b (listed i))
 
   -- A cell of an offset row is empty exactly where the anchor is no member.
   pub offset-row-iff : (a v : ℕ) → v < n → (1 ≤ cell (offset-row n es a) v) ↔ InAnchorSet (members es) a v
   unfolding offset-row
-  offset-row-iff a v b =
-      usable-by
-      {es = es}
-      a
-      (λ us. (1 ≤ cell (rounds us n (first-row n us a)) v) ↔ InAnchorSet (members es) a v)
-      (row-reached (well .some) (well .shape) (well .never) (λ h. well .rooted) (posed a) v, row-member (well .some) (well .shape) (well .never) (λ h. well .rooted) (posed a) v b)
+  offset-row-iff a v b = (
+    λ h. member-mono (λ e m. members-usable es a e m .0) (row-reached (well .some) (usable-list-shape (well .shape) a) (usable-nonpositive (well .never) a) (λ z. usable-rooted (well .shape) (well .rooted) a) (carries-list (well .shape) posed a) v h),
+    λ i. row-member (well .some) (usable-list-shape (well .shape) a) (usable-nonpositive (well .never) a) (λ z. usable-rooted (well .shape) (well .rooted) a) (carries-list (well .shape) posed a) v b (listed i),
+  )
 
 -- A walk from the end of a never comes back to a, and so it is cut to fewer than n - 1 edges after the first.
 module _ {n : ℕ} {E : Graph} (shape : Shape n E) (never : NonPositive E) {a : ℕ} (inside : a < n) where
@@ -135,10 +141,10 @@ module _ {n : ℕ} {es : List Edge} (well : Well n (members es)) (posed : WellPo
   pub offset-limit : (a v : ℕ) → v < n → InAnchorSet (members es) a v → offset n es a v ≤ 4128705
   offset-limit a v b i =
       offset-64
-      (usable-by {es = es} a (λ us. Shape n (members us)) (well .shape))
-      (usable-by {es = es} a (λ us. NonPositive (members us)) (well .never))
-      (usable-by {es = es} a (λ us. ¬ After (members us) a a) (well .acyclic a))
-      (usable-by {es = es} a (λ us. Gains (members us) 65535) gains)
+      (usable-shape (well .shape) a)
+      (nonpositive-mono (usable-sub (members es) a) (well .never))
+      (well .consistent a)
+      (λ e m. gains e (m .0))
       (well .some)
       few
       (offset-found well posed a v b i)

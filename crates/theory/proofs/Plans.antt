@@ -8,65 +8,87 @@ use native.Mathlib.Omega.{arith}
 use native.Mathlib.Nat.{mul-le-mul-right}
 use Rattle.definitions.specs.Anchors.{InAnchorSet, WellPosed, in-anchor-set}
 use Rattle.definitions.specs.Basics.{any-below, largest}
-use Rattle.definitions.specs.Links.{Edge, Graph, _⊑_, members, usable}
+use Rattle.definitions.specs.Links.{After, Edge, Forward, Graph, UsableFrom, _⊑_, members}
 use Rattle.definitions.specs.Plan.{Offset, decides, offset, plan-entry, start-times, undecided}
 use Rattle.definitions.specs.Rounds.{cell}
 use Rattle.definitions.specs.Waits.{Wait, needs-waits, serialized}
 use Rattle.laws.proofs.Bools.{bool-cases, cond-false, cond-true}
-use Rattle.theory.specs.Graphs.{ForwardAcyclic, Gains, RelativeOn, Schedule, Shape, Well, sole-delay}
+use Rattle.theory.specs.Graphs.{Acyclic, ForwardAcyclic, Gains, Relative, Schedule, Serializable, Shape, Timely, Well, sole-delay}
+use Rattle.theory.specs.Strategies.{Assigned, Strategy, Unbounded}
 use Rattle.theory.proofs.AnchorOrder.{least-acyclic}
 use Rattle.theory.proofs.DecidingSets.{decides-iff, deciding-enough, deciding-least, deciding-needed, deciding-some, deciding-strict}
 use Rattle.theory.proofs.Offsets.{offset-found, offset-limit}
+use Rattle.theory.proofs.Reachability.{dec-member}
 use Rattle.theory.proofs.RelativeSchedules.{relative-keeps}
-use Rattle.theory.proofs.Serialization.{rival-keeps, wait-not-source, wait-other, waited-forward-acyclic, waited-gains, waited-well}
-use Rattle.theory.proofs.StartTimes.{relative-all, relative-small, start-times-relative}
-use Rattle.theory.proofs.WaitLists.{serialized-none, serialized-waited, serialized-well-posed}
-use Rattle.theory.proofs.Walks.{chain-after, member-below}
+use Rattle.theory.proofs.Serialization.{forward-acyclic, rival-keeps, timely-serializable, wait-chain, wait-other, waited-gains, waited-timely, waited-well}
+use Rattle.theory.proofs.StartTimes.{relative-small, start-times-relative}
+use Rattle.theory.proofs.Strategies.{ours-strategy, strategy-earliest, strategy-serializable, unbounded-waited}
+use Rattle.theory.proofs.WaitLists.{serialized-none, serialized-waited, serialized-well-posed, wait-anchor-below}
+use Rattle.theory.proofs.Walks.{member-below, schedule-mono, source-first}
 
-module _ {n : ℕ} {es : List Edge} (well : Well n (members es)) where
+-- Where no return is late the waits can always be put in: 28 never occurs.
+pub plan-timely : {n : ℕ} {es : List Edge} → Timely (members es) → Well n (members es) → ForwardAcyclic (members es) → Serializable (members (serialized n es))
+plan-timely timely well once = timely-serializable (serialized-waited (well .shape)) timely well once
+
+-- A rival without foresight keeps the waits, and so shows that they can be put in.
+pub plan-strategy-serializable : {n : ℕ} {es : List Edge} {Open : ℕ → Type 0} {ρ : (ℕ → ℕ) → ℕ → ℕ} → Shape n (members es) → ForwardAcyclic (members es) → Unbounded Open (members es) → Strategy n Open (members es) ρ → Serializable (members (serialized n es))
+plan-strategy-serializable shape once unbounded R = strategy-serializable shape unbounded R (serialized-waited shape) once
+
+module _ {n : ℕ} {es : List Edge} (well : Well n (members es)) (serial : Serializable (members (serialized n es))) where
+  abbrev acyclic : Acyclic (Forward (members (serialized n es)))
+  acyclic = forward-acyclic (serial .acyclic)
+
   -- With its waits the graph can be scheduled and is well-posed.
   pub plan-well : Well n (members (serialized n es))
-  plan-well = waited-well (serialized-waited (well .shape)) well
+  plan-well = waited-well (dec-member (well .shape)) (serialized-waited (well .shape)) well serial
 
   pub plan-posed : WellPosed (members (serialized n es))
-  plan-posed = serialized-well-posed (well .shape)
-
-  pub plan-forward-acyclic : ForwardAcyclic (members es) → ForwardAcyclic (members (serialized n es))
-  plan-forward-acyclic = waited-forward-acyclic (serialized-waited (well .shape)) (well .acyclic)
+  plan-posed = serialized-well-posed (well .shape) acyclic
 
   -- No step waits for itself, and step 0 waits for none.
   pub plan-wait-other : {a i : ℕ} → Wait (members es) a i → a ≢ i
-  plan-wait-other = wait-other (serialized-waited (well .shape)) (well .acyclic)
+  plan-wait-other = wait-other (well .shape) (serialized-waited (well .shape)) (dec-member (well .shape)) acyclic
 
   pub plan-wait-not-source : {a i : ℕ} → Wait (members es) a i → i ≢ 0
-  plan-wait-not-source = wait-not-source (serialized-waited (well .shape)) (well .acyclic) (well .shape) (well .rooted)
+  plan-wait-not-source {a} w e =
+      source-first
+      (plan-well .rooted)
+      acyclic
+      (wait-anchor-below (well .shape) w)
+      (subst (λ (x : ℕ). After (Forward (members (serialized n es))) a x) e (wait-chain (serialized-waited (well .shape)) w))
 
-  pub plan-offset : (a v : ℕ) → v < n → InAnchorSet (members (serialized n es)) a v → Offset (members (usable (serialized n es) a)) a v (offset n (serialized n es) a v)
+  pub plan-offset : (a v : ℕ) → v < n → InAnchorSet (members (serialized n es)) a v → Offset (UsableFrom (members (serialized n es)) a) a v (offset n (serialized n es) a v)
   plan-offset = offset-found plan-well plan-posed
 
   -- Our starts are the relative schedule; so they keep every link and every wait, whatever the delays.
-  pub plan-relative : (d : ℕ → ℕ) → d 0 ≡ 0 → RelativeOn n (members (serialized n es)) (λ a. members (usable (serialized n es) a)) d (cell (start-times n (serialized n es) d)) (offset n (serialized n es))
+  pub plan-relative : (d : ℕ → ℕ) → d 0 ≡ 0 → Relative n (members (serialized n es)) d (cell (start-times n (serialized n es) d)) (offset n (serialized n es))
   plan-relative = start-times-relative plan-well plan-posed
 
   pub plan-keeps-waits : (d : ℕ → ℕ) → d 0 ≡ 0 → Schedule (members (serialized n es)) d (cell (start-times n (serialized n es) d))
-  plan-keeps-waits d d0 = relative-keeps (plan-well .shape) plan-posed (relative-all (plan-relative d d0))
+  plan-keeps-waits d d0 = relative-keeps (plan-well .shape) plan-posed (plan-well .never) (plan-relative d d0)
 
-  pub plan-keeps : (d : ℕ → ℕ) → d 0 ≡ 0 → Schedule (members es) d (cell (start-times n (serialized n es) d))
-  plan-keeps d d0 =
-      let s = plan-keeps-waits d d0 in
-      record { starts = s .starts; keeps = λ e m. s .keeps e (serialized-waited (well .shape) .keeps-all e m) }
+  -- Where no return is late, none that keep the links and waits start anything earlier.
+  module _ (timely : Timely (members es)) where
+    pub plan-least : {d t : ℕ → ℕ} → d 0 ≡ 0 → Schedule (members (serialized n es)) d t → (v : ℕ) → v < n → cell (start-times n (serialized n es) d) v ≤ t v
+    plan-least {d} d0 s = least-acyclic (plan-well .shape) (waited-timely (serialized-waited (well .shape)) (well .shape) timely) acyclic (plan-relative d d0) s
 
-  -- None that keep the links and waits start anything earlier.
-  pub plan-least : {d t : ℕ → ℕ} → d 0 ≡ 0 → Schedule (members (serialized n es)) d t → (v : ℕ) → v < n → cell (start-times n (serialized n es) d) v ≤ t v
-  plan-least {d} d0 s = least-acyclic (plan-well .shape) (plan-well .acyclic) (relative-all (plan-relative d d0)) s
+    -- Where no waits are needed, none that keep the links do.
+    pub plan-least-unwaited : {d t : ℕ → ℕ} → needs-waits n es ≡ false → d 0 ≡ 0 → Schedule (members es) d t → (v : ℕ) → v < n → cell (start-times n (serialized n es) d) v ≤ t v
+    plan-least-unwaited {d} {t} h d0 s = plan-least d0 (subst (λ (l : List Edge). Schedule (members l) d t) (sym (serialized-none (well .shape) h)) s)
 
-  -- Where no waits are needed, none that keep the links do.
-  pub plan-least-unwaited : {d t : ℕ → ℕ} → needs-waits n es ≡ false → d 0 ≡ 0 → Schedule (members es) d t → (v : ℕ) → v < n → cell (start-times n (serialized n es) d) v ≤ t v
-  plan-least-unwaited {d} {t} h d0 s = plan-least d0 (subst (λ (l : List Edge). Schedule (members l) d t) (sym (serialized-none (well .shape) h)) s)
+    -- And none that keep a well-posed extension do: it keeps the waits already.
+    pub plan-least-rival : {F : Graph} {d t : ℕ → ℕ} → members es ⊑ F → Shape n F → WellPosed F → Timely F → d 0 ≡ 0 → Schedule F d t → (v : ℕ) → v < n → cell (start-times n (serialized n es) d) v ≤ t v
+    plan-least-rival above shape posed on-time d0 s = plan-least d0 (rival-keeps (serialized-waited (well .shape)) above shape posed on-time s)
 
-  -- And none that keep a well-posed extension do: it keeps the waits already.
-  pub plan-least-rival : {F : Graph} {d t : ℕ → ℕ} → members es ⊑ F → Shape n F → WellPosed F → d 0 ≡ 0 → Schedule F d t → (v : ℕ) → v < n → cell (start-times n (serialized n es) d) v ≤ t v
-  plan-least-rival above shape posed d0 s = plan-least d0 (rival-keeps (serialized-waited (well .shape)) above shape posed s)
+  -- Late returns or not: no rival without foresight starts anything earlier, and our starts are such a rival.
+  module _ {Open : ℕ → Type 0} (unbounded : Unbounded Open (members es)) where
+    pub plan-least-strategy : {ρ : (ℕ → ℕ) → ℕ → ℕ} → Strategy n Open (members es) ρ → (v : ℕ) → v < n → (d : ℕ → ℕ) → Assigned Open d → cell (start-times n (serialized n es) d) v ≤ ρ d v
+    plan-least-strategy = strategy-earliest (well .shape) unbounded (serialized-waited (well .shape)) acyclic plan-posed plan-relative
+
+    pub plan-strategy : Strategy n Open (members es) (λ d. cell (start-times n (serialized n es) d))
+    plan-strategy =
+        let R = ours-strategy (plan-well .shape) acyclic plan-relative (unbounded-waited unbounded (serialized-waited (well .shape))) plan-posed (plan-well .never) in
+        record { keeps = λ d L. schedule-mono (serialized-waited (well .shape) .keeps-all) (R .keeps d L); blind = R .blind }
 
   -- The largest term over the deciding members is the start.
   pub plan-enough : (d : ℕ → ℕ) → d 0 ≡ 0 → (v : ℕ) → v < n → cell (start-times n (serialized n es) d) v ≡ largest (λ a. decides n (serialized n es) a v) (λ a. cell (start-times n (serialized n es) d) a + d a + offset n (serialized n es) a v) n
@@ -100,7 +122,7 @@ module _ {n : ℕ} {es : List Edge} (well : Well n (members es)) where
     plan-start-limit d d0 short =
         relative-small
         (plan-well .shape)
-        (λ a w. plan-well .acyclic a (chain-after w))
+        acyclic
         (plan-relative d d0)
         20905920
         (λ a v b i. omega (arith, short a (member-below (plan-well .shape) b i), plan-offset-limit a v b i))

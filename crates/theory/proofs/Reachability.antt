@@ -11,7 +11,7 @@ use lib.ListN.{length, replicate}
 use borrow.Author.Tests.{eq-eqb, eqb-false, eqb-true, lt-ltb, ltb-true, ne-eqb, not-true}
 use Rattle.definitions.specs.Anchors.{InAnchorSet, WellPosed, chain, in-anchor-set, is-source, well-posed}
 use Rattle.definitions.specs.Basics.{all-below, any}
-use Rattle.definitions.specs.Links.{After, Edge, Forward, Graph, Joined, Walk, _⊑_, forwards, members, step, stop}
+use Rattle.definitions.specs.Links.{After, Edge, Forward, Graph, Joined, LateInto, Walk, _⊑_, forwards, late-into, members, step, stop}
 use Rattle.definitions.specs.Rounds.{after-reaches, bare, bares, cell, extend, offer, raise, reaches, relax, round, rounds, source-row}
 use Rattle.laws.proofs.Bools.{and-join, and-split, bool-cases, both-ways, or-left, or-right, or-split, same-or-not, test-decides}
 use Rattle.laws.proofs.Tests.{all-below-by, all-below-each, all-by, all-each, any-by, any-has}
@@ -19,6 +19,7 @@ use Rattle.theory.specs.Graphs.{NonPositive, Shape}
 use Rattle.theory.proofs.FirstRows.{zeros-at, zeros-length}
 use Rattle.theory.proofs.Pigeonhole.{shorten}
 use Rattle.theory.proofs.Relaxation.{Covers, Fits, fits-head, fits-relax, fits-rounds, raise-length, raise-other, raise-same, rounds-rise, walk-covered}
+use Rattle.theory.proofs.Usables.{late-into-iff}
 use Rattle.theory.proofs.Walks.{after-by, after-mono, member-below, some-after, walk-none}
 
 -- The forward edges of a list are those of its graph.
@@ -50,7 +51,7 @@ mem-forwards (x ∷ es) e m = go (List·Memᴰ·append-cases (cond (x .back) [] 
 
 pub forwards-shape : {n : ℕ} {es : List Edge} → Shape n (members es) → Shape n (members (forwards es))
 forwards-shape {n} {es} shape =
-    record { from-below = λ e m. shape .from-below e (mem-forwards es e m .0); to-below = λ e m. shape .to-below e (mem-forwards es e m .0); back-uncounted = λ e m. shape .back-uncounted e (mem-forwards es e m .0); forward-lossless = λ e m. shape .forward-lossless e (mem-forwards es e m .0) }
+    record { from-below = λ e m. shape .from-below e (mem-forwards es e m .0); to-below = λ e m. shape .to-below e (mem-forwards es e m .0); back-uncounted = λ e m. shape .back-uncounted e (mem-forwards es e m .0); forward-lossless = λ e m. shape .forward-lossless e (mem-forwards es e m .0); forward-timely = λ e m. shape .forward-timely e (mem-forwards es e m .0) }
 
 -- Edges without their weights: the same walks, each of weight 0.
 mem-bare : {e : Edge} {es : List Edge} → List·Memᴰ e es → List·Memᴰ (bare e) (bares es)
@@ -84,7 +85,7 @@ walk-bare {es} (step w e m f o hk hp hq) =
     (record { k = _; p = _; q = _; walk = step (r .0 .walk) (b .edge) (b .mem) (sym (ap (λ (x : Edge). x .from) (b .same)) ∙ f) (sym (ap (λ (x : Edge). x .to) (b .same)) ∙ o) refl refl refl }, omega (arith, r .1, ap (λ (x : Edge). x .gain) (b .same)))
 
 bare-shape : {n : ℕ} {es : List Edge} → Shape n (members es) → Shape n (members (bares es))
-bare-shape {n} {es} shape = record { from-below = λ e m. from-at e (bare-mem es m); to-below = λ e m. to-at e (bare-mem es m); back-uncounted = λ e m b. count-at e (bare-mem es m) b; forward-lossless = λ e m b. ap (λ (x : Edge). x .loss) (bare-mem es m .same) }
+bare-shape {n} {es} shape = record { from-below = λ e m. from-at e (bare-mem es m); to-below = λ e m. to-at e (bare-mem es m); back-uncounted = λ e m b. count-at e (bare-mem es m) b; forward-lossless = λ e m b. ap (λ (x : Edge). x .loss) (bare-mem es m .same); forward-timely = λ e m b. late-at e (bare-mem es m) b }
   where
     from-at : (e : Edge) → Bared es e → e .from < n
     from-at e r = omega (arith, shape .from-below (r .edge) (r .mem), ap (λ (x : Edge). x .from) (r .same))
@@ -94,6 +95,9 @@ bare-shape {n} {es} shape = record { from-below = λ e m. from-at e (bare-mem es
 
     count-at : (e : Edge) → Bared es e → e .back ≡ true → e .counted ≡ false
     count-at e r b = ap (λ (x : Edge). x .counted) (r .same) ∙ shape .back-uncounted (r .edge) (r .mem) (sym (ap (λ (x : Edge). x .back) (r .same)) ∙ b)
+
+    late-at : (e : Edge) → Bared es e → e .back ≡ false → e .late ≡ false
+    late-at e r b = ap (λ (x : Edge). x .late) (r .same) ∙ shape .forward-timely (r .edge) (r .mem) (sym (ap (λ (x : Edge). x .back) (r .same)) ∙ b)
 
 bare-nonpositive : (es : List Edge) → NonPositive (members (bares es))
 bare-nonpositive es = record { closed = λ w. let r = walk-bare w in omega (arith, r .1) }
@@ -232,25 +236,29 @@ module _ {n : ℕ} {es : List Edge} (shape : Shape n (members es)) where
   well-posed-iff = (λ h a e m b i. found e m b a i (all-each per-edge es h e m), λ posed. all-by per-edge es (λ e m. test posed e m (bool-cases (e .back))))
     where
       per-anchor : Edge → ℕ → Bool
-      per-anchor e a = not (in-anchor-set n es a (e .from)) || in-anchor-set n es a (e .to)
+      per-anchor e a = not (in-anchor-set n es a (e .from)) || (in-anchor-set n es a (e .to) || late-into a e)
 
       per-edge : Edge → Bool
       per-edge e = not (e .back) || all-below (per-anchor e) n
 
-      found : (e : Edge) → List·Memᴰ e es → e .back ≡ true → (a : ℕ) → InAnchorSet (members es) a (e .from) → per-edge e ≡ true → InAnchorSet (members es) a (e .to)
+      found : (e : Edge) → List·Memᴰ e es → e .back ≡ true → (a : ℕ) → InAnchorSet (members es) a (e .from) → per-edge e ≡ true → InAnchorSet (members es) a (e .to) ⊎ LateInto e a
       found e m b a i h = on-edge (or-split (not (e .back)) (all-below (per-anchor e) n) h)
         where
-          on-anchor : (not (in-anchor-set n es a (e .from)) ≡ true) ⊎ (in-anchor-set n es a (e .to) ≡ true) → InAnchorSet (members es) a (e .to)
-          on-anchor (inl z) = absurd (both-ways (in-anchor-set-iff a (e .from) .1 i) (not-true (in-anchor-set n es a (e .from)) z))
-          on-anchor (inr z) = in-anchor-set-iff a (e .to) .0 z
+          on-end : (in-anchor-set n es a (e .to) ≡ true) ⊎ (late-into a e ≡ true) → InAnchorSet (members es) a (e .to) ⊎ LateInto e a
+          on-end (inl z) = inl (in-anchor-set-iff a (e .to) .0 z)
+          on-end (inr z) = inr (late-into-iff e a .0 z)
 
-          on-edge : (not (e .back) ≡ true) ⊎ (all-below (per-anchor e) n ≡ true) → InAnchorSet (members es) a (e .to)
+          on-anchor : (not (in-anchor-set n es a (e .from)) ≡ true) ⊎ ((in-anchor-set n es a (e .to) || late-into a e) ≡ true) → InAnchorSet (members es) a (e .to) ⊎ LateInto e a
+          on-anchor (inl z) = absurd (both-ways (in-anchor-set-iff a (e .from) .1 i) (not-true (in-anchor-set n es a (e .from)) z))
+          on-anchor (inr z) = on-end (or-split (in-anchor-set n es a (e .to)) (late-into a e) z)
+
+          on-edge : (not (e .back) ≡ true) ⊎ (all-below (per-anchor e) n ≡ true) → InAnchorSet (members es) a (e .to) ⊎ LateInto e a
           on-edge (inl z) = absurd (both-ways b (not-true (e .back) z))
           on-edge (inr z) =
               on-anchor
               (or-split
               (not (in-anchor-set n es a (e .from)))
-              (in-anchor-set n es a (e .to))
+              (in-anchor-set n es a (e .to) || late-into a e)
               (all-below-each (per-anchor e) n z a (member-below shape (shape .from-below e m) i)))
 
       test : WellPosed (members es) → (e : Edge) → List·Memᴰ e es → (e .back ≡ true) ⊎ (e .back ≡ false) → per-edge e ≡ true
@@ -258,5 +266,9 @@ module _ {n : ℕ} {es : List Edge} (shape : Shape n (members es)) where
       test posed e m (inl b) = or-right (not (e .back)) (all-below-by (per-anchor e) n (λ a c. by a (bool-cases (in-anchor-set n es a (e .from)))))
         where
           by : (a : ℕ) → (in-anchor-set n es a (e .from) ≡ true) ⊎ (in-anchor-set n es a (e .from) ≡ false) → per-anchor e a ≡ true
-          by a (inl i) = or-right (not (in-anchor-set n es a (e .from))) (in-anchor-set-iff a (e .to) .1 (posed a e m b (in-anchor-set-iff a (e .from) .0 i)))
-          by a (inr i) = or-left (in-anchor-set n es a (e .to)) (ap not i)
+          by a (inl i) = or-right (not (in-anchor-set n es a (e .from))) (end (posed a e m b (in-anchor-set-iff a (e .from) .0 i)))
+            where
+              end : InAnchorSet (members es) a (e .to) ⊎ LateInto e a → (in-anchor-set n es a (e .to) || late-into a e) ≡ true
+              end (inl j) = or-left (late-into a e) (in-anchor-set-iff a (e .to) .1 j)
+              end (inr j) = or-right (in-anchor-set n es a (e .to)) (late-into-iff e a .1 j)
+          by a (inr i) = or-left (in-anchor-set n es a (e .to) || late-into a e) (ap not i)

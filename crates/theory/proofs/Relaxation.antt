@@ -10,13 +10,13 @@ use lib.Dec.{leb}
 use lib.ListN.{length, length-set}
 use lib.Seq.{ext-getD, getD-set-other, getD-set-same}
 use borrow.Author.Tests.{le-leb, leb-true}
-use Rattle.definitions.specs.Anchors.{InAnchorSet, WellPosedFor, chain, is-source}
+use Rattle.definitions.specs.Anchors.{InAnchorSet, chain, is-source}
 use Rattle.definitions.specs.Links.{Edge, Forward, Graph, Joined, Walk, members, step, stop}
 use Rattle.definitions.specs.Plan.{Offset, Span, after, source}
 use Rattle.definitions.specs.Rounds.{cell, extend, offer, raise, relax, round, rounds, stable}
 use Rattle.laws.proofs.Bools.{same-or-not}
 use Rattle.laws.proofs.Tests.{all-by, all-each}
-use Rattle.theory.specs.Graphs.{NonPositive, Shape}
+use Rattle.theory.specs.Graphs.{Carries, NonPositive, Shape}
 use Rattle.theory.proofs.Pigeonhole.{Short, shorten}
 use Rattle.theory.proofs.Walks.{after-mono, forward-losses, member-span, span-join, walk-edge, walk-from, walk-mono}
 
@@ -277,7 +277,7 @@ module _ {n : ℕ} {es : List Edge} {a : ℕ} {row : List ℕ} (shape : Shape n 
       (λ v b. unfold rounds in omega (arith, no-more v _ refl, rounds-up es n row (S .fits) v))
 
 -- A well-posed graph whose vertices all have a chain from the source is grounded at each anchor: a member is reached by a chain, which loses nothing.
-pub grounded : {n : ℕ} {E : Graph} → Shape n E → (a : ℕ) → WellPosedFor E a → (a ≡ 0 → (v : ℕ) → v < n → Joined (Forward E) 0 v) → Grounded n E a
+pub grounded : {n : ℕ} {E : Graph} → Shape n E → (a : ℕ) → Carries E a → (a ≡ 0 → (v : ℕ) → v < n → Joined (Forward E) 0 v) → Grounded n E a
 grounded {n} {E} shape a posed rooted v p q b s = go (member-span shape posed s)
   where
     go : InAnchorSet E a v → Reach E a v 0

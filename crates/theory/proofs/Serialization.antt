@@ -1,19 +1,23 @@
--- Serialization edges make a graph well-posed, and every well-posed extension of the graph keeps them already.
+-- Serialization edges make a graph well-posed; and where no return is late, every well-posed extension of the graph keeps them already.
 use mathlib.Core.Path.{_∙_, _≡_, refl, subst, sym}
 use mathlib.Core.Bool.{false, true}
 use mathlib.Core.Logic.{_≢_, _⊎_, inl, inr}
-use Prim.Native.Nat.{_+_, _<_, _≤_, ℕ}
+use Prim.Native.Nat.{_+_, _<_, _≤_, suc, ℕ}
 use native.Mathlib.Omega.{arith}
 use Rattle.definitions.specs.Anchors.{InAnchorSet, WellPosed, chain, is-source}
-use Rattle.definitions.specs.Links.{After, AfterWalk, Edge, Forward, Graph, Joined, Walk, _⊑_, step, stop}
+use Rattle.definitions.specs.Links.{After, AfterWalk, Edge, Forward, Graph, Joined, LateInto, UsableFrom, Walk, _⊑_, step, stop}
 use Rattle.definitions.specs.Waits.{Wait, wait-edge}
-use Rattle.laws.proofs.Bools.{both-ways, cond-true}
-use Rattle.theory.specs.Graphs.{Acyclic, ForwardAcyclic, Gains, KeepsEdge, NonPositive, Rooted, Schedule, Shape, WaitEdge, Waited, Well}
-use Rattle.theory.proofs.Walks.{after-bound, after-edge, after-from, after-join, after-joined, after-mono, after-start-below, after-to, forward-losses, join, joined-mono, member-after, member-mono, member-to, some-after, source-first, walk-bound, walk-edge, walk-from, walk-mono, walk-none, walk-to}
+use Rattle.laws.proofs.Bools.{bool-cases, both-ways, cond-true}
+use Rattle.theory.specs.Graphs.{Acyclic, Carries, Consistent, ForwardAcyclic, Gains, KeepsEdge, NonPositive, Rooted, Schedule, Serializable, Shape, Timely, WaitEdge, Waited, Well}
+use Rattle.theory.proofs.Usables.{carries-usable, dec-late-into, forward-usable, timely-usable, usable-member, usable-shape, usable-sub}
+use Rattle.theory.proofs.Walks.{after-bound, after-edge, after-from, after-join, after-joined, after-mono, after-start-below, after-to, after-trans, after-walk, chain-after, counted-forward, forward-losses, join, joined-mono, member-after, member-mono, member-to, schedule-mono, some-after, walk-edge, walk-from, walk-mono, walk-none, walk-to}
 
--- A wait a → i stands for a walk of E: to the return, and over it.
-pub wait-after : {E : Graph} {a i : ℕ} → Wait E a i → After E a i
+-- A wait a → i stands for a walk of E from the end of a: to the return, and over it.
+pub wait-after : {E : Graph} {a i : ℕ} → Wait E a i → After (UsableFrom E a) a i
 wait-after w = some-after (after-to (w .enters) (after-join (w .reaches .walk) (walk-edge (w .edge) (w .mem))))
+
+wait-walk : {E : Graph} {a i : ℕ} → Wait E a i → After E a i
+wait-walk {E} {a} w = some-after (after-mono (usable-sub E a) (wait-after w .walk))
 
 module _ {E E′ : Graph} (W : Waited E E′) where
   after-first : (e : Edge) → E′ e → e .counted ≡ true → e .from ≢ 0 → After E (e .from) (e .to)
@@ -21,14 +25,14 @@ module _ {E E′ : Graph} (W : Waited E E′) where
     where
       go : E e ⊎ WaitEdge E e → After E (e .from) (e .to)
       go (inl h) = some-after (after-edge e h c z)
-      go (inr h) = wait-after (h .wait)
+      go (inr h) = wait-walk (h .wait)
 
   joined-edge : (e : Edge) → E′ e → Joined E (e .from) (e .to)
   joined-edge e m = go (W .only e m)
     where
       go : E e ⊎ WaitEdge E e → Joined E (e .from) (e .to)
       go (inl h) = record { k = _; p = _; q = _; walk = walk-edge e h }
-      go (inr h) = after-joined (wait-after (h .wait))
+      go (inr h) = after-joined (wait-walk (h .wait))
 
   pub walk-back : {x y k p q : ℕ} → Walk E′ x y k p q → Joined E x y
   walk-back (stop e hk hp hq) = record { k = 0; p = 0; q = 0; walk = stop e refl refl refl }
@@ -40,98 +44,82 @@ module _ {E E′ : Graph} (W : Waited E E′) where
   after-back w =
       some-after (after-join (after-from (sym (w .leaves)) (after-first (w .edge) (w .mem) (w .counts) (λ z. w .not-source (sym (w .leaves) ∙ z)) .walk)) (walk-back (w .rest) .walk))
 
+  -- A wait is a chain of E′.
+  pub wait-chain : {a i : ℕ} → Wait E a i → After (Forward E′) a i
+  wait-chain {a} {i} w =
+      some-after
+      (after-edge
+      {E = Forward E′}
+      (wait-edge (record { anchor = a; target = i }))
+      (W .adds (wait-edge (record { anchor = a; target = i })) (record { counts = refl; forward = refl; gainless = refl; lossless = refl; timely = refl; wait = w }), refl)
+      refl
+      (w .reaches .walk .not-source))
+
+  -- A walk of E′, within any part H of it, is one of E, as long as no serialization edge of it could be closed into a circle. Induction on the walk.
+  walk-within : {H : Graph} {x y k p q : ℕ} → H ⊑ E′ → Walk H x y k p q → ((e : Edge) → WaitEdge E e → H e → Joined H x (e .from) → Joined H (e .to) y → ⊥) → Walk (λ e. E e × H e) x y k p q
+  walk-within i (stop e hk hp hq) never = stop e hk hp hq
+  walk-within {H} {x} {y} {k} {p} {q} i (step {y = y₀} {k = k₀} {p = p₀} {q = q₀} w e m f o hk hp hq) never =
+      go
+      (W .only e (i e m))
+      (walk-within i w (λ e′ h m′ into out.
+      never e′ h m′ into (record { k = _; p = _; q = _; walk = join (out .walk) (walk-from (sym f) (walk-to (walk-edge e m) o refl refl refl)) })))
+    where
+      go : E e ⊎ WaitEdge E e → Walk (λ e. E e × H e) x y₀ k₀ p₀ q₀ → Walk (λ e. E e × H e) x y k p q
+      go (inl h) v = step v e (h, m) f o hk hp hq
+      go (inr h) v =
+          absurd (never e h m (record { k = _; p = _; q = _; walk = walk-to w (sym f) refl refl refl }) (record { k = _; p = _; q = _; walk = walk-to (walk-none (e .to)) o refl refl refl }))
+
+  -- So a circle of forward edges of E′ is one of E, where no step stands before itself: over a wait, its anchor would.
+  pub waited-forward-acyclic : ForwardAcyclic E → Acyclic (Forward E′) → ForwardAcyclic E′
+  waited-forward-acyclic once acyclic x k p q w =
+      once x k p q
+      (walk-mono (λ e m. (m .0, m .1 .1))
+      (walk-within (λ e m. m .0) w (λ e h m into out.
+      acyclic (e .from) (some-after (after-join (after-edge e m (h .counts) (h .wait .reaches .walk .not-source)) (join (out .walk) (into .walk)))))))
+
   -- Where no walk of E from the end of a step comes back to it, no closed walk of E′ goes through a serialization edge.
   module _ (acyclic : Acyclic E) where
-    pub waited-acyclic : Acyclic E′
+    waited-acyclic : Acyclic E′
     waited-acyclic a w = acyclic a (after-back (w .walk))
 
-    pub wait-off-cycles : (e : Edge) → WaitEdge E e → {k p q : ℕ} → Walk E′ (e .to) (e .from) k p q → ⊥
+    wait-off-cycles : (e : Edge) → WaitEdge E e → {k p q : ℕ} → Walk E′ (e .to) (e .from) k p q → ⊥
     wait-off-cycles e h w = waited-acyclic (e .from) (some-after (after-join (after-edge e (W .adds e h) (h .counts) (h .wait .reaches .walk .not-source)) w))
 
-    -- A walk of E′, within any part H of it, is one of E, as long as no serialization edge of it could be closed into a circle. Induction on the walk.
-    walk-within : {H : Graph} {x y k p q : ℕ} → H ⊑ E′ → Walk H x y k p q → ((e : Edge) → WaitEdge E e → Joined E′ x (e .from) → Joined E′ (e .to) y → ⊥) → Walk (λ e. E e × H e) x y k p q
-    walk-within i (stop e hk hp hq) never = stop e hk hp hq
-    walk-within {H} {x} {y} {k} {p} {q} i (step {y = y₀} {k = k₀} {p = p₀} {q = q₀} w e m f o hk hp hq) never =
-        go
-        (W .only e (i e m))
-        (walk-within i w (λ e′ h into out.
-        never e′ h into (record { k = _; p = _; q = _; walk = join (out .walk) (walk-from (sym f) (walk-to (walk-edge e (i e m)) o refl refl refl)) })))
-      where
-        go : E e ⊎ WaitEdge E e → Walk (λ e. E e × H e) x y₀ k₀ p₀ q₀ → Walk (λ e. E e × H e) x y k p q
-        go (inl h) v = step v e (h, m) f o hk hp hq
-        go (inr h) v =
-            absurd (never e h (record { k = _; p = _; q = _; walk = walk-to (walk-mono i w) (sym f) refl refl refl }) (record { k = _; p = _; q = _; walk = walk-to (walk-none (e .to)) o refl refl refl }))
+    closed-within : {x k p q : ℕ} → Walk E′ x x k p q → Walk E x x k p q
+    closed-within w = walk-mono (λ e m. m .0) (walk-within (λ e m. m) w (λ e h m into out. wait-off-cycles e h (join (out .walk) (into .walk))))
 
-    closed-part : {H : Graph} {x k p q : ℕ} → H ⊑ E′ → Walk H x x k p q → Walk (λ e. E e × H e) x x k p q
-    closed-part i w = walk-within i w (λ e h into out. wait-off-cycles e h (join (out .walk) (into .walk)))
-
-    pub closed-within : {x k p q : ℕ} → Walk E′ x x k p q → Walk E x x k p q
-    closed-within w = walk-mono (λ e m. m .0) (closed-part (λ e m. m) w)
-
-    pub waited-forward-acyclic : ForwardAcyclic E → ForwardAcyclic E′
-    waited-forward-acyclic once x k p q w = once x k p q (walk-mono (λ e m. (m .0, m .1 .1)) (closed-part (λ e m. m .0) w))
-
-    pub waited-nonpositive : NonPositive E → NonPositive E′
+    waited-nonpositive : NonPositive E → NonPositive E′
     waited-nonpositive never = record { closed = λ w. never .closed (closed-within w) }
 
-    -- No step waits for itself, and none makes step 0 wait where step 0 reaches every step: such a wait would close a walk.
-    pub wait-other : {a i : ℕ} → Wait E a i → a ≢ i
-    wait-other {a} w e = acyclic a (subst (λ (x : ℕ). After E a x) (sym e) (wait-after w))
-
-    pub wait-not-source : {n a i : ℕ} → Shape n E → Rooted n E → Wait E a i → i ≢ 0
-    wait-not-source {a = a} shape rooted w e =
-        source-first
-        (λ v b. joined-mono (λ e m. m .0) (rooted v b))
-        acyclic
-        (after-start-below shape (w .reaches))
-        (subst (λ (x : ℕ). After E a x) e (wait-after w))
-
-  -- E′ is well-posed. A member a of the anchor set of a return's start j has a walk of E to j; so a is a member at the return's end as sent, or that end waits for a.
-  pub waited-well-posed : ((a i : ℕ) → Dec (InAnchorSet E a i)) → WellPosed E′
-  waited-well-posed dec a e m b (is-source h) = is-source h
-  waited-well-posed dec a e m b (chain c) = by-kind (W .only e m)
-    where
-      by-set : E e → Dec (InAnchorSet E a (e .to)) → InAnchorSet E′ a (e .to)
-      by-set h (yes i) = member-mono (W .keeps-all) i
-      by-set h (no i) =
-          chain
-          (some-after
-          (after-edge
-          {E = Forward E′}
-          (wait-edge (record { anchor = a; target = e .to })) (
-            W .adds
-                (wait-edge (record { anchor = a; target = e .to }))
-                (record { counts = refl; forward = refl; gainless = refl; lossless = refl; wait = record { edge = e; mem = h; returns = b; enters = refl; reaches = after-back (after-mono (λ e′ m′. m′ .0) (c .walk)); absent = i } }),
-            refl,
-          )
-          refl
-          (c .walk .not-source)))
-
-      by-kind : E e ⊎ WaitEdge E e → InAnchorSet E′ a (e .to)
-      by-kind (inl h) = by-set h (dec a (e .to))
-      by-kind (inr h) = absurd (both-ways b (h .forward))
-
--- A member of the anchor set of v that is not step 0 ends before v starts: a chain loses nothing.
+-- A member of the anchor set of v that is not step 0 ends before v starts: a chain loses nothing and is never late.
 pub member-bound : {n : ℕ} {F : Graph} {d t : ℕ → ℕ} {a v : ℕ} → Shape n F → Schedule F d t → a ≢ 0 → InAnchorSet F a v → t a + d a ≤ t v
 member-bound shape s n (is-source h) = absurd (n h)
-member-bound shape s n (chain c) =
+member-bound {F = F} shape s n (chain c) =
     omega (
       arith,
-      after-bound s (after-mono (λ e i. i .0) (c .walk)),
+      after-bound {E = Forward F} (λ e m. shape .forward-timely e (m .0) (m .1)) (schedule-mono (λ e m. m .0) s) (c .walk),
       forward-losses shape (c .walk .rest),
       c .walk .losses,
       shape .forward-lossless (c .walk .edge) (c .walk .mem .0) (c .walk .mem .1),
     )
 
--- Every schedule of a well-posed graph F above E keeps the waits of E: a walk of E from the end of a stays where a is in the anchor set of F, so F has a chain from a wherever a wait for a stands.
-module _ {n : ℕ} {E E′ F : Graph} {d t : ℕ → ℕ} (W : Waited E E′) (above : E ⊑ F) (shape : Shape n F) (posed : WellPosed F) (s : Schedule F d t) where
+-- Where no return is late, every schedule of a well-posed graph F above E keeps the waits of E: a walk of E from the end of a stays where a is in the anchor set of F, so F has a chain from a wherever a
+-- wait for a stands.
+module _ {n : ℕ} {E E′ F : Graph} {d t : ℕ → ℕ} (W : Waited E E′) (above : E ⊑ F) (shape : Shape n F) (posed : WellPosed F) (timely : Timely F) (s : Schedule F d t) where
+  carries : (a : ℕ) → Carries F a
+  carries a e m b i = go (posed a e m b i)
+    where
+      go : InAnchorSet F a (e .to) ⊎ LateInto e a → InAnchorSet F a (e .to)
+      go (inl j) = j
+      go (inr j) = absurd (both-ways (j .0) (timely e m))
+
   pub rival-waits : {a i : ℕ} → Wait E a i → t a + d a ≤ t i
   rival-waits {a} w =
       member-bound
       shape
       s
       (w .reaches .walk .not-source)
-      (member-to (w .enters) (posed a (w .edge) (above (w .edge) (w .mem)) (w .returns) (member-after shape (posed a) (after-mono above (w .reaches .walk)))))
+      (member-to (w .enters) (carries a (w .edge) (above (w .edge) (w .mem .0)) (w .returns) (member-after shape (carries a) (after-mono (λ e m. above e (m .0)) (w .reaches .walk)))))
 
   pub rival-keeps : Schedule E′ d t
   rival-keeps = record { starts = s .starts; keeps = λ e m. go e (W .only e m) }
@@ -143,15 +131,15 @@ module _ {n : ℕ} {E E′ F : Graph} {d t : ℕ → ℕ} (W : Waited E E′) (a
 -- What E′ takes over from E.
 module _ {n : ℕ} {E E′ : Graph} (W : Waited E E′) (shape : Shape n E) where
   pub waited-shape : Shape n E′
-  waited-shape = record { from-below = λ e m. from-at e (W .only e m); to-below = λ e m. to-at e (W .only e m); back-uncounted = λ e m. back-at e (W .only e m); forward-lossless = λ e m. loss-at e (W .only e m) }
+  waited-shape = record { from-below = λ e m. from-at e (W .only e m); to-below = λ e m. to-at e (W .only e m); back-uncounted = λ e m. back-at e (W .only e m); forward-lossless = λ e m. loss-at e (W .only e m); forward-timely = λ e m. late-at e (W .only e m) }
     where
       from-at : (e : Edge) → E e ⊎ WaitEdge E e → e .from < n
       from-at e (inl m) = shape .from-below e m
-      from-at e (inr h) = after-start-below shape (h .wait .reaches)
+      from-at e (inr h) = after-start-below (usable-shape shape (e .from)) (h .wait .reaches)
 
       to-at : (e : Edge) → E e ⊎ WaitEdge E e → e .to < n
       to-at e (inl m) = shape .to-below e m
-      to-at e (inr h) = rw (h .wait .enters) at (shape .to-below (h .wait .edge) (h .wait .mem))
+      to-at e (inr h) = rw (h .wait .enters) at (shape .to-below (h .wait .edge) (h .wait .mem .0))
 
       back-at : (e : Edge) → E e ⊎ WaitEdge E e → e .back ≡ true → e .counted ≡ false
       back-at e (inl m) b = shape .back-uncounted e m b
@@ -161,9 +149,20 @@ module _ {n : ℕ} {E E′ : Graph} (W : Waited E E′) (shape : Shape n E) wher
       loss-at e (inl m) b = shape .forward-lossless e m b
       loss-at e (inr h) b = h .lossless
 
--- A graph with a schedule has no closed walk above 0: around it the start times come back to where they were.
-pub schedule-nonpositive : {E : Graph} {d t : ℕ → ℕ} → Schedule E d t → NonPositive E
-schedule-nonpositive s = record { closed = λ w. omega (arith, walk-bound s w) }
+      late-at : (e : Edge) → E e ⊎ WaitEdge E e → e .back ≡ false → e .late ≡ false
+      late-at e (inl m) b = shape .forward-timely e m b
+      late-at e (inr h) b = h .timely
+
+  pub waited-timely : Timely E → Timely E′
+  waited-timely timely e m = go (W .only e m)
+    where
+      go : E e ⊎ WaitEdge E e → e .late ≡ false
+      go (inl h) = timely e h
+      go (inr h) = h .timely
+
+-- Forward chains stay.
+pub waited-rooted : {n : ℕ} {E E′ : Graph} → Waited E E′ → Rooted n E → Rooted n E′
+waited-rooted W rooted v b = joined-mono (λ e m. (W .keeps-all e (m .0), m .1)) (rooted v b)
 
 -- Serialization edges gain nothing.
 pub waited-gains : {E E′ : Graph} {g : ℕ} → Waited E E′ → Gains E g → Gains E′ g
@@ -173,7 +172,137 @@ waited-gains {E} {g = g} W G e m = go (W .only e m)
     go (inl h) = G e h
     go (inr h) = omega (arith, h .gainless)
 
--- E′ can be scheduled where E can.
-pub waited-well : {n : ℕ} {E E′ : Graph} → Waited E E′ → Well n E → Well n E′
-waited-well W w =
-    record { some = w .some; shape = waited-shape W (w .shape); rooted = λ v b. joined-mono (λ e m. (W .keeps-all e (m .0), m .1)) (w .rooted v b); acyclic = waited-acyclic W (w .acyclic); never = waited-nonpositive W (w .acyclic) (w .never) }
+-- In a well-posed graph what the end of b reaches, b stands before. So, where forward edges close no circle, no step waits for its own end.
+module _ {n : ℕ} {E : Graph} (shape : Shape n E) (posed : WellPosed E) where
+  pub reach-chain : {b v : ℕ} → After (UsableFrom E b) b v → After (Forward E) b v
+  reach-chain {b} {v} w = go (member-after (usable-shape shape b) (carries-usable shape posed b) (w .walk))
+    where
+      go : InAnchorSet (UsableFrom E b) b v → After (Forward E) b v
+      go (is-source h) = absurd (w .walk .not-source h)
+      go (chain c) = some-after (after-mono (λ e m. (m .0 .0, m .1)) (c .walk))
+
+  pub posed-consistent : Acyclic (Forward E) → Consistent E
+  posed-consistent acyclic a w = acyclic a (reach-chain w)
+
+pub forward-acyclic : {E : Graph} → ForwardAcyclic E → Acyclic (Forward E)
+forward-acyclic once a w = once a _ _ _ (after-walk (w .walk))
+
+-- A walk from the end of b that anchor a may not follow: it comes to a late return into a.
+pub record Crossing (E : Graph) (a b : ℕ) : Type 0 where
+  pub edge : Edge
+  pub mem : UsableFrom E b edge
+  pub into : LateInto edge a
+  pub reaches : After (UsableFrom E b) b (edge .from)
+
+module _ {n : ℕ} {E : Graph} (shape : Shape n E) where
+  pub late-back : (e : Edge) → E e → e .late ≡ true → e .back ≡ true
+  late-back e m l = go (bool-cases (e .back))
+    where
+      go : (e .back ≡ true) ⊎ (e .back ≡ false) → e .back ≡ true
+      go (inl b) = b
+      go (inr b) = absurd (both-ways l (shape .forward-timely e m b))
+
+  cross-walk : {b x y k p q : ℕ} (a : ℕ) → After (UsableFrom E b) b x → Walk (UsableFrom E b) x y k p q → Walk (UsableFrom E a) x y k p q ⊎ Crossing E a b
+  cross-walk a r (stop e hk hp hq) = inl (stop e hk hp hq)
+  cross-walk {b} {x} {y} {k} {p} {q} a r (step {y = y₀} {k = k₀} {p = p₀} {q = q₀} w e m f o hk hp hq) = go (cross-walk a r w) (dec-late-into e a)
+    where
+      go : Walk (UsableFrom E a) x y₀ k₀ p₀ q₀ ⊎ Crossing E a b → Dec (LateInto e a) → Walk (UsableFrom E a) x y k p q ⊎ Crossing E a b
+      go (inr c) i = inr c
+      go (inl v) (yes i) = inr (record { edge = e; mem = m; into = i; reaches = some-after (after-to (sym f) (after-join (r .walk) w)) })
+      go (inl v) (no i) = inl (step v e (m .0, i) f o hk hp hq)
+
+  -- A walk from the end of b is one that anchor a may take, or it crosses a.
+  pub cross-after : {b y p q : ℕ} (a : ℕ) (w : AfterWalk (UsableFrom E b) b y p q) → Walk (UsableFrom E a) b y (suc (w .k)) p q ⊎ Crossing E a b
+  cross-after {b} {y} {p} {q} a w =
+      go
+      (cross-walk a (some-after (after-from (sym (w .leaves)) (after-edge (w .edge) (w .mem) (w .counts) (λ z. w .not-source (sym (w .leaves) ∙ z))))) (w .rest))
+      (walk-from (sym (w .leaves)) (walk-edge (w .edge) (w .mem .0, forward-usable shape a (w .edge) (w .mem .0) (counted-forward shape (w .edge) (w .mem .0) (w .counts)))))
+    where
+      go : Walk (UsableFrom E a) (w .edge .to) y (w .k) (w .g) (w .l) ⊎ Crossing E a b → Walk (UsableFrom E a) b (w .edge .to) 1 (w .edge .gain) (w .edge .loss) → Walk (UsableFrom E a) b y (suc (w .k)) p q ⊎ Crossing E a b
+      go (inr c) u = inr c
+      go (inl v) u = inl (walk-to {k′ = suc (w .k)} {p′ = p} {q′ = q} (join u v) refl (omega arith) (w .gains) (w .losses))
+
+-- E′ is well-posed, where its forward edges close no circle. What the end of a precedes in E′, it reaches in E: along forward edges of E, and over a wait for b by the walk that the wait stands for, which
+-- cannot cross a, as b would stand before a then. So a is a member at a return's end as sent, or that end waits for a.
+module _ {n : ℕ} {E E′ : Graph} (shape : Shape n E) (W : Waited E E′) (dec : (a i : ℕ) → Dec (InAnchorSet E a i)) where
+  waited-member : (a : ℕ) (e : Edge) → UsableFrom E a e → e .back ≡ true → After (UsableFrom E a) a (e .from) → InAnchorSet E′ a (e .to)
+  waited-member a e m b r = go (dec a (e .to))
+    where
+      go : Dec (InAnchorSet E a (e .to)) → InAnchorSet E′ a (e .to)
+      go (yes i) = member-mono (W .keeps-all) i
+      go (no i) = chain (wait-chain W (record { edge = e; mem = m; returns = b; enters = refl; reaches = r; absent = i }))
+
+  module _ (acyclic : Acyclic (Forward E′)) where
+    no-crossing : {a b : ℕ} → After (Forward E′) a b → ¬ Crossing E a b
+    no-crossing {a} {b} c x = go (member-to (x .into .1) (waited-member b (x .edge) (x .mem) (late-back shape (x .edge) (x .mem .0) (x .into .0)) (x .reaches)))
+      where
+        go : InAnchorSet E′ b a → ⊥
+        go (is-source h) = x .reaches .walk .not-source h
+        go (chain w) = acyclic a (after-trans c w)
+
+    reach-edge : {a : ℕ} (e : Edge) → Forward E′ e → After (UsableFrom E a) a (e .from) → After (Forward E′) a (e .from) → After (UsableFrom E a) a (e .to)
+    reach-edge {a} e m r c = go (W .only e (m .0))
+      where
+        over : {k p q : ℕ} → Walk (UsableFrom E a) (e .from) (e .to) k p q ⊎ Crossing E a (e .from) → After (UsableFrom E a) a (e .to)
+        over (inl v) = some-after (after-join (r .walk) v)
+        over (inr x) = absurd (no-crossing c x)
+
+        go : E e ⊎ WaitEdge E e → After (UsableFrom E a) a (e .to)
+        go (inl h) = some-after (after-join (r .walk) (walk-edge e (h, forward-usable shape a e h (m .1))))
+        go (inr h) = over (cross-after shape a (wait-after (h .wait) .walk))
+
+    reach-walk : {a x y k p q : ℕ} → After (UsableFrom E a) a x → After (Forward E′) a x → Walk (Forward E′) x y k p q → After (UsableFrom E a) a y
+    reach-walk r c (stop e hk hp hq) = some-after (after-to e (r .walk))
+    reach-walk r c (step w e m f o hk hp hq) =
+        some-after (after-to o (reach-edge e m (some-after (after-to (sym f) (reach-walk r c w .walk))) (some-after (after-to (sym f) (after-join (c .walk) w))) .walk))
+
+    reach-first : (e : Edge) → Forward E′ e → e .counted ≡ true → e .from ≢ 0 → After (UsableFrom E (e .from)) (e .from) (e .to)
+    reach-first e m c z = go (W .only e (m .0))
+      where
+        go : E e ⊎ WaitEdge E e → After (UsableFrom E (e .from)) (e .from) (e .to)
+        go (inl h) = some-after (after-edge e (h, forward-usable shape (e .from) e h (m .1)) c z)
+        go (inr h) = wait-after (h .wait)
+
+    pub chain-reach : {a y : ℕ} → After (Forward E′) a y → After (UsableFrom E a) a y
+    chain-reach {a} {y} c =
+        let w = c .walk in
+        let z : w .edge .from ≢ 0 = λ z. w .not-source (sym (w .leaves) ∙ z) in
+        subst
+        (λ (b : ℕ). After (UsableFrom E b) b y)
+        (w .leaves)
+        (reach-walk (reach-first (w .edge) (w .mem) (w .counts) z) (some-after (after-edge (w .edge) (w .mem) (w .counts) z)) (w .rest))
+
+    pub waited-well-posed : WellPosed E′
+    waited-well-posed a e m b (is-source h) = inl (is-source h)
+    waited-well-posed a e m b (chain c) = go (W .only e m) (dec-late-into e a)
+      where
+        go : E e ⊎ WaitEdge E e → Dec (LateInto e a) → InAnchorSet E′ a (e .to) ⊎ LateInto e a
+        go (inr h) i = absurd (both-ways b (h .forward))
+        go (inl h) (yes i) = inr i
+        go (inl h) (no i) = inl (waited-member a e (h, i) b (chain-reach c))
+
+    -- No step waits for itself.
+    pub wait-other : {a i : ℕ} → Wait E a i → a ≢ i
+    wait-other {a} w e = acyclic a (subst (λ (x : ℕ). After (Forward E′) a x) (sym e) (wait-chain W w))
+
+-- A graph that is well-posed as sent has no wait.
+pub posed-no-wait : {n : ℕ} {E : Graph} {a i : ℕ} → Shape n E → WellPosed E → ¬ Wait E a i
+posed-no-wait {E = E} {a = a} {i = i} shape posed w =
+    go (posed a (w .edge) (w .mem .0) (w .returns) (usable-member shape a (member-after (usable-shape shape a) (carries-usable shape posed a) (w .reaches .walk))))
+  where
+    go : InAnchorSet E a (w .edge .to) ⊎ LateInto (w .edge) a → ⊥
+    go (inl j) = w .absent (member-to (w .enters) j)
+    go (inr j) = w .mem .1 j
+
+-- E′ can be scheduled where E can and the waits can be put in.
+pub waited-well : {n : ℕ} {E E′ : Graph} → ((a i : ℕ) → Dec (InAnchorSet E a i)) → Waited E E′ → Well n E → Serializable E′ → Well n E′
+waited-well dec W w serial =
+    let shape = waited-shape W (w .shape) in
+    let acyclic = forward-acyclic (serial .acyclic) in
+    record { some = w .some; shape = shape; rooted = waited-rooted W (w .rooted); consistent = posed-consistent shape (waited-well-posed (w .shape) W dec acyclic) acyclic; never = serial .never }
+
+-- Where no return is late the waits can always be put in.
+pub timely-serializable : {n : ℕ} {E E′ : Graph} → Waited E E′ → Timely E → Well n E → ForwardAcyclic E → Serializable E′
+timely-serializable {E = E} W timely w once =
+    let acyclic : Acyclic E = λ a u. w .consistent a (some-after (after-mono (timely-usable timely a) (u .walk))) in
+    record { acyclic = waited-forward-acyclic W once (λ a u. waited-acyclic W acyclic a (chain-after u)); never = waited-nonpositive W acyclic (w .never) }

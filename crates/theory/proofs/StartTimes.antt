@@ -10,19 +10,19 @@ use native.Mathlib.Nat.{suc-mul}
 use lib.ListN.{length}
 use Rattle.definitions.specs.Anchors.{InAnchorSet, WellPosed, chain, in-anchor-set, is-source}
 use Rattle.definitions.specs.Basics.{largest}
-use Rattle.definitions.specs.Links.{After, Edge, Forward, Graph, members, usable}
+use Rattle.definitions.specs.Links.{After, Edge, Forward, Graph, UsableFrom, members}
 use Rattle.definitions.specs.Plan.{Offset, Span, after, offset, source, start-from, start-times, start-turns}
 use Rattle.definitions.specs.Rounds.{cell}
 use Rattle.laws.proofs.Bools.{same-or-not}
 use Rattle.laws.proofs.Tests.{largest-above, largest-attained, largest-same, tabulate-at, tabulate-length, tabulate-past, tabulate-same}
-use Rattle.theory.specs.Graphs.{Acyclic, Attained, NonPositive, Relative, RelativeOn, Shape, Well}
+use Rattle.theory.specs.Graphs.{Acyclic, Attained, Relative, Shape, Well}
 use Rattle.theory.proofs.AnchorOrder.{Behind, behind-more, behind-new}
 use Rattle.theory.proofs.FirstRows.{zeros-at, zeros-length}
-use Rattle.theory.proofs.Offsets.{offset-found, usable-by}
+use Rattle.theory.proofs.Offsets.{offset-found}
 use Rattle.theory.proofs.Pigeonhole.{free, free-none, free-take}
 use Rattle.theory.proofs.Reachability.{in-anchor-set-iff}
-use Rattle.theory.proofs.WaitLists.{usable-all}
-use Rattle.theory.proofs.Walks.{after-start-below, after-trans, chain-after, member-below, source-first}
+use Rattle.theory.proofs.Usables.{consistent-acyclic, usable-sub}
+use Rattle.theory.proofs.Walks.{after-start-below, after-trans, chain-after, member-below, source-first, walk-mono}
 
 -- A start time for each step.
 pub start-turns-length : (n : ℕ) (es : List Edge) (d : ℕ → ℕ) (k : ℕ) → length (start-turns n es d k) ≡ n
@@ -151,14 +151,14 @@ module _ {n : ℕ} {es : List Edge} (well : Well n (members es)) (posed : WellPo
   value v a = S a + d a + offset n es a v
 
   forward-acyclic : Acyclic (Forward (members es))
-  forward-acyclic a w = well .acyclic a (chain-after w)
+  forward-acyclic = consistent-acyclic (well .shape) (well .consistent)
 
   -- The source's offset for itself is 0: a closed walk is not above 0.
   source-offset : offset n es 0 0 ≡ 0
   source-offset = let O = offset-found well posed 0 0 (well .some) (is-source refl) in go O (O .span)
     where
-      go : (O : Offset (members (usable es 0)) 0 0 (offset n es 0 0)) → Span (members (usable es 0)) 0 0 (O .p) (O .q) → offset n es 0 0 ≡ 0
-      go O (source h w) = omega (arith, usable-by {es = es} 0 (λ us. NonPositive (members us)) (well .never) .closed w, O .attained)
+      go : (O : Offset (UsableFrom (members es) 0) 0 0 (offset n es 0 0)) → Span (UsableFrom (members es) 0) 0 0 (O .p) (O .q) → offset n es 0 0 ≡ 0
+      go O (source h w) = omega (arith, well .never .closed (walk-mono (usable-sub (members es) 0) w), O .attained)
       go O (after w) = absurd (w .not-source refl)
 
   rule : (v : ℕ) → v < n → v ≢ 0 → S v ≡ largest (λ a. in-anchor-set n es a v) (value v) n
@@ -185,17 +185,12 @@ module _ {n : ℕ} {es : List Edge} (well : Well n (members es)) (posed : WellPo
           record { anchor = 0; inside = is-source refl; equals = omega (arith, rule v b z, largest-above (λ x. in-anchor-set n es x v) (value v) n 0 (well .some) (in-anchor-set-iff (well .shape) 0 v .1 (is-source refl))) }
       go (inr r) = record { anchor = r .0; inside = in-anchor-set-iff (well .shape) (r .0) v .0 (r .2); equals = omega (arith, rule v b z, r .3) }
 
-  pub start-times-relative : RelativeOn n (members es) (λ a. members (usable es a)) d (cell (start-times n es d)) (offset n es)
+  pub start-times-relative : Relative n (members es) d (cell (start-times n es d)) (offset n es)
   start-times-relative =
       record { starts = at-source; no-wait = no-wait; offsets = offset-found well posed; above = λ a v b i. above-by a v b i (same-or-not v 0); attained = λ v b. attained-by v b (same-or-not v 0) }
 
--- Offsets in the graph of each anchor are offsets in the whole graph.
-pub relative-all : {n : ℕ} {es : List Edge} {d S : ℕ → ℕ} {off : ℕ → ℕ → ℕ} → RelativeOn n (members es) (λ a. members (usable es a)) d S off → Relative n (members es) d S off
-relative-all {n} {es} {off = off} rel =
-    record { starts = rel .starts; no-wait = rel .no-wait; offsets = λ a v b i. subst (λ (us : List Edge). Offset (members us) a v (off a v)) (usable-all es a) (rel .offsets a v b i); above = rel .above; attained = rel .attained }
-
 -- A start is at most as many delays and offsets as anchors can stand before it: along the chain of anchors that attain it, each step takes one number below n.
-module _ {n : ℕ} {E : Graph} {G : ℕ → Graph} {d S : ℕ → ℕ} {off : ℕ → ℕ → ℕ} (shape : Shape n E) (acyclic : Acyclic (Forward E)) (rel : RelativeOn n E G d S off) (most : ℕ) (small : (a v : ℕ) → v < n → InAnchorSet E a v → d a + off a v ≤ most) where
+module _ {n : ℕ} {E : Graph} {d S : ℕ → ℕ} {off : ℕ → ℕ → ℕ} (shape : Shape n E) (acyclic : Acyclic (Forward E)) (rel : Relative n E d S off) (most : ℕ) (small : (a v : ℕ) → v < n → InAnchorSet E a v → d a + off a v ≤ most) where
   small-below : (fuel : ℕ) (l : List ℕ) (v : ℕ) → v < n → free n l ≤ fuel → Behind (After (Forward E)) l v → S v ≤ free n l * most
   small-below zero l v b f h = absurd (omega (arith, free-take n v l b (behind-new (After (Forward E)) acyclic l v h)))
   small-below (suc fuel) l v b f h =

@@ -3,15 +3,18 @@ use mathlib.Core.Path.{_∙_, _≡_, ap, refl, sym}
 use mathlib.Core.List.{List}
 use Prim.Native.Nat.{_+_, _<_, _≤_, suc, zero, ℕ}
 use native.Mathlib.Omega.{arith}
-use Rattle.definitions.specs.Anchors.{WellPosed, WellPosedFor}
-use Rattle.definitions.specs.Links.{Edge, Graph, Walk, members, step, stop, usable}
+use Rattle.definitions.specs.Anchors.{WellPosed, is-source}
+use Rattle.definitions.specs.Links.{Edge, Graph, LateInto, Walk, members, step, stop, usable}
 use Rattle.definitions.specs.Plan.{Span, after, first-row, offset, offset-row, source}
-use Rattle.definitions.specs.Rounds.{cell, rounds}
-use Rattle.theory.specs.Graphs.{Gains, NonPositive, Rooted, Shape, Well}
-use Rattle.theory.specs.Sweeps.{Seeds, Settles, Sweeps, more, none}
-use Rattle.theory.proofs.Offsets.{first-start, offset-limit, offset-row-iff, usable-by}
+use Rattle.definitions.specs.Rounds.{cell, extend, rounds}
+use Rattle.theory.specs.Graphs.{Carries, Gains, NonPositive, Rooted, Shape, Well}
+use Rattle.theory.specs.Sweeps.{Seeds, Settles, Sweeps, hand, more, none}
+use Rattle.theory.proofs.Offsets.{first-start, offset-found, offset-limit, offset-row-iff, usable-nonpositive, usable-rooted}
 use Rattle.theory.proofs.Pigeonhole.{shorten}
+use Rattle.theory.proofs.RelativeSchedules.{span-walk}
 use Rattle.theory.proofs.Relaxation.{Covers, Grounded, Start, covers-eq, covers-hand, covers-up, fixpoint-stable, fits-rounds, grounded, rounds-fixed, rounds-rise, rounds-under}
+use Rattle.theory.proofs.Usables.{carries-list, dec-late-into, usable-list-shape, usable-members, usable-sub}
+use Rattle.theory.proofs.Walks.{join, walk-edge, walk-mono, walk-to}
 
 -- Sweeps never lower a cell; and once every edge has handed on, any number of sweeps changes nothing.
 pub sweeps-up : {E : Graph} {k : ℕ} {r s : ℕ → ℕ} → Sweeps E r k s → (v : ℕ) → r v ≤ s v
@@ -51,10 +54,10 @@ walk-swept {s = s} (more {m = r′} below w h) {x} {y} {j} {p} {q} b p₀ q₀ c
     (omega arith)
     (omega arith)
 
--- For one anchor, on a graph that is well-posed for it. The offsets are a column that has the seeds and is settled; n sweeps from the seeds cover every walk, as a walk of fewer than n edges is as heavy.
-module _ {n : ℕ} {es : List Edge} (some : 0 < n) (shape : Shape n (members es)) (never : NonPositive (members es)) {a : ℕ} (inside : a < n) (rooted : a ≡ 0 → Rooted n (members es)) (posed : WellPosedFor (members es) a) where
+-- For one anchor, on a graph whose returns carry it on. The offsets are a column that has the seeds and is settled; n sweeps from the seeds cover every walk, as a walk of fewer than n edges is as heavy.
+module _ {n : ℕ} {es : List Edge} (some : 0 < n) (shape : Shape n (members es)) (never : NonPositive (members es)) {a : ℕ} (inside : a < n) (rooted : a ≡ 0 → Rooted n (members es)) (carries : Carries (members es) a) where
   ground : Grounded n (members es) a
-  ground = grounded shape a posed rooted
+  ground = grounded shape a carries rooted
 
   start : Start es a (first-row n es a)
   start = first-start shape some a ground
@@ -97,22 +100,15 @@ module _ {n : ℕ} {es : List Edge} (some : 0 < n) (shape : Shape n (members es)
 module _ {n : ℕ} {es : List Edge} (well : Well n (members es)) (posed : WellPosed (members es)) (a : ℕ) (inside : a < n) where
   pub offsets-settle : Settles (members (usable es a)) (cell (offset-row n es a))
   unfolding offset-row
-  offsets-settle =
-      usable-by {es = es} a (λ us. Settles (members us) (cell (rounds us n (first-row n us a)))) (row-settles (well .some) (well .shape) (well .never) inside (λ h. well .rooted) (posed a))
+  offsets-settle = row-settles (well .some) (usable-list-shape (well .shape) a) (usable-nonpositive (well .never) a) inside (λ h. usable-rooted (well .shape) (well .rooted) a) (carries-list (well .shape) posed a)
 
   pub offsets-seeded : Seeds (members (usable es a)) a (cell (offset-row n es a))
   unfolding offset-row
-  offsets-seeded =
-      usable-by {es = es} a (λ us. Seeds (members us) a (cell (rounds us n (first-row n us a)))) (row-seeds (well .some) (well .shape) (well .never) inside (λ h. well .rooted) (posed a))
+  offsets-seeded = row-seeds (well .some) (usable-list-shape (well .shape) a) (usable-nonpositive (well .never) a) inside (λ h. usable-rooted (well .shape) (well .rooted) a) (carries-list (well .shape) posed a)
 
   pub offsets-swept : {r s : ℕ → ℕ} → Seeds (members (usable es a)) a r → Sweeps (members (usable es a)) r n s → ((v : ℕ) → s v ≤ cell (offset-row n es a) v) → (v : ℕ) → s v ≡ cell (offset-row n es a) v
   unfolding offset-row
-  offsets-swept {r} {s} =
-      usable-by
-      {es = es}
-      a
-      (λ us. Seeds (members us) a r → Sweeps (members us) r n s → ((v : ℕ) → s v ≤ cell (rounds us n (first-row n us a)) v) → (v : ℕ) → s v ≡ cell (rounds us n (first-row n us a)) v)
-      (row-swept (well .some) (well .shape) (well .never) inside (λ h. well .rooted) (posed a))
+  offsets-swept = row-swept (well .some) (usable-list-shape (well .shape) a) (usable-nonpositive (well .never) a) inside (λ h. usable-rooted (well .shape) (well .rooted) a) (carries-list (well .shape) posed a)
 
   -- The cells are small.
   pub offsets-small : Gains (members es) 65535 → n ≤ 64 → (v : ℕ) → v < n → cell (offset-row n es a) v ≤ 4128706
@@ -122,3 +118,29 @@ module _ {n : ℕ} {es : List Edge} (well : Well n (members es)) (posed : WellPo
       go : (c : ℕ) → cell (offset-row n es a) v ≡ c → cell (offset-row n es a) v ≤ 4128706
       go zero e = omega arith
       go (suc o) e = omega (arith, offset-limit well posed gains few a v b (offset-row-iff well posed a v b .0 (omega arith)))
+
+extend-closes : (c g l : ℕ) → 1 ≤ c → c + g ≤ suc l → extend c g l ≤ 1
+unfolding extend
+extend-closes zero g l h k = omega arith
+extend-closes (suc c) g l h k = omega arith
+
+-- The source's offsets are settled over every edge: a late return into the source itself closes a walk, which is not above 0.
+pub source-settles : {n : ℕ} {es : List Edge} → Well n (members es) → WellPosed (members es) → Settles (members es) (cell (offset-row n es 0))
+unfolding offset
+source-settles {n} {es} well posed e m = go (dec-late-into e 0)
+  where
+    first : 1 ≤ cell (offset-row n es 0) 0
+    first = offset-row-iff well posed 0 0 (well .some) .1 (is-source refl)
+
+    from-first : 1 ≤ cell (offset-row n es 0) (e .from)
+    from-first = offset-row-iff well posed 0 (e .from) (well .shape .from-below e m) .1 (is-source refl)
+
+    closes : e .to ≡ 0 → cell (offset-row n es 0) (e .from) + e .gain ≤ suc (e .loss)
+    closes h =
+        let O = offset-found well posed 0 (e .from) (well .shape .from-below e m) (is-source refl) in
+        let w = join (walk-mono (usable-sub (members es) 0) (span-walk (O .span) .1)) (walk-to (walk-edge e m) h refl refl refl) in
+        omega (arith, O .attained, well .never .closed w, from-first)
+
+    go : Dec (LateInto e 0) → hand (cell (offset-row n es 0)) e ≤ cell (offset-row n es 0) (e .to)
+    go (no i) = offsets-settle well posed 0 (well .some) e (usable-members es 0 e (m, i))
+    go (yes i) = omega (arith, extend-closes (cell (offset-row n es 0) (e .from)) (e .gain) (e .loss) from-first (closes (i .1)), first, ap (cell (offset-row n es 0)) (i .1))

@@ -3,30 +3,33 @@ use mathlib.Core.Path.{_∙_, _≡_, ap, refl, subst, sym}
 use mathlib.Core.Bool.{Bool, _&&_, false, not, true}
 use mathlib.Core.Logic.{_↔_, _≢_, _⊎_, inl, inr}
 use mathlib.Core.List.{List, List·Memᴰ, List·Memᴰ·append-cases, List·Memᴰ·head, List·Memᴰ·not-nil, Memᴰ·append-left, Memᴰ·append-right, Memᴰ·cast, Memᴰ·map, Memᴰ·of-map, [], _++_, _∷_, append-nil, map}
-use Prim.Native.Nat.{_<_, _^_, suc, ℕ}
+use Prim.Native.Nat.{_<_, _^_, _≤_, suc, ℕ}
 use native.Mathlib.Omega.{arith}
+use native.Mathlib.Decide.{decLt}
 use lib.Dec.{eqb, ltb}
 use lib.ListN.{getD, length}
 use borrow.Author.Tests.{eq-eqb, eqb-true, le-ltb, lt-ltb, ltb-false, not-true}
 use Rattle.definitions.specs.Anchors.{InAnchorSet, WellPosed, chain, in-anchor-set, is-source}
 use Rattle.definitions.specs.Basics.{any, select-below, tabulate, test-bit}
-use Rattle.definitions.specs.Links.{Edge, members, usable}
+use Rattle.definitions.specs.Links.{After, Edge, Forward, LateInto, UsableFrom, members, usable}
 use Rattle.definitions.specs.Rounds.{after-reaches}
 use Rattle.definitions.specs.Waits.{Wait, WaitPair, needs-waits, serialized, wait-count, wait-edge, wait-list, wait-map, wait-maps, waits-for, waits-of}
 use Rattle.laws.proofs.Bools.{and-join, and-split, both-ways, not-passing}
-use Rattle.laws.proofs.Maps.{test-bits-below, bits-below-lt}
-use Rattle.laws.proofs.Tests.{any-by, any-has, flatMap-has, flatMap-only, mem-tabulate, select-below-has, select-below-only, tabulate-at, tabulate-mem}
-use Rattle.theory.specs.Graphs.{Shape, WaitEdge, Waited}
+use Rattle.laws.proofs.Maps.{test-bits-below, test-zero, bits-below-lt}
+use Rattle.laws.proofs.Tests.{any-by, any-has, flatMap-has, flatMap-only, mem-tabulate, select-below-has, select-below-only, tabulate-at, tabulate-mem, tabulate-past}
+use Rattle.theory.specs.Graphs.{Acyclic, Shape, WaitEdge, Waited}
 use Rattle.theory.proofs.Reachability.{after-reaches-iff, dec-member, in-anchor-set-iff}
-use Rattle.theory.proofs.Serialization.{after-back, waited-shape, waited-well-posed}
-use Rattle.theory.proofs.Walks.{after-start-below, chain-after, member-after, member-to}
-
--- A walk counted from the end of a may take every edge. Request L11 changes this, and what is built on it here.
-pub usable-all : (es : List Edge) (a : ℕ) → usable es a ≡ es
-unfolding usable
-usable-all es a = refl
+use Rattle.theory.proofs.Serialization.{after-back, posed-no-wait, waited-shape, waited-well-posed}
+use Rattle.theory.proofs.Usables.{chain-usable, dec-late-into, members-usable, usable-list-shape, usable-members, usable-shape}
+use Rattle.theory.proofs.Walks.{after-mono, after-start-below, chain-after, some-after}
 
 module _ {n : ℕ} {es : List Edge} (shape : Shape n (members es)) where
+  -- Walks from the end of a, by the test over the edges that they may use.
+  pub usable-reaches-iff : (a v : ℕ) → (after-reaches n (usable es a) a v ≡ true) ↔ After (UsableFrom (members es) a) a v
+  usable-reaches-iff a v =
+      let r = after-reaches-iff (usable-list-shape shape a) a v in
+      (λ h. some-after (after-mono (members-usable es a) (r .0 h .walk)), λ w. r .1 (some-after (after-mono (usable-members es a) (w .walk))))
+
   -- Test by test, from the tests of walks and anchor sets.
   pub waits-for-iff : (a i : ℕ) → (waits-for n es a i ≡ true) ↔ Wait (members es) a i
   unfolding waits-for
@@ -35,31 +38,29 @@ module _ {n : ℕ} {es : List Edge} (shape : Shape n (members es)) where
       returns : Edge → Bool
       returns e = e .back && eqb (e .to) i && after-reaches n (usable es a) a (e .from)
 
-      found : (any returns es && not (in-anchor-set n es a i)) ≡ true → Wait (members es) a i
+      found : (any returns (usable es a) && not (in-anchor-set n es a i)) ≡ true → Wait (members es) a i
       found h =
-          let r = and-split (any returns es) (not (in-anchor-set n es a i)) h in
-          let s = any-has returns es (r .0) in
+          let r = and-split (any returns (usable es a)) (not (in-anchor-set n es a i)) h in
+          let s = any-has returns (usable es a) (r .0) in
           let t = and-split (s .0 .back && eqb (s .0 .to) i) (after-reaches n (usable es a) a (s .0 .from)) (s .2) in
           let u = and-split (s .0 .back) (eqb (s .0 .to) i) (t .0) in
-          record { edge = s .0; mem = s .1; returns = u .0; enters = eqb-true (s .0 .to) i (u .1); reaches = after-reaches-iff shape a (s .0 .from) .0 (ap (λ (x : List Edge). after-reaches n x a (s .0 .from)) (sym (usable-all es a)) ∙ t .1); absent = λ k. both-ways (in-anchor-set-iff shape a i .1 k) (not-true (in-anchor-set n es a i) (r .1)) }
+          record { edge = s .0; mem = members-usable es a (s .0) (s .1); returns = u .0; enters = eqb-true (s .0 .to) i (u .1); reaches = usable-reaches-iff a (s .0 .from) .0 (t .1); absent = λ k. both-ways (in-anchor-set-iff shape a i .1 k) (not-true (in-anchor-set n es a i) (r .1)) }
 
-      test : Wait (members es) a i → (any returns es && not (in-anchor-set n es a i)) ≡ true
+      test : Wait (members es) a i → (any returns (usable es a) && not (in-anchor-set n es a i)) ≡ true
       test w =
           and-join
           (any-by
           returns
-          es
-          (w .mem)
-          (and-join
-          (and-join (w .returns) (eq-eqb (w .edge .to) i (w .enters)))
-          (ap (λ (x : List Edge). after-reaches n x a (w .edge .from)) (usable-all es a) ∙ after-reaches-iff shape a (w .edge .from) .1 (w .reaches))))
+          (usable es a)
+          (usable-members es a (w .edge) (w .mem))
+          (and-join (and-join (w .returns) (eq-eqb (w .edge .to) i (w .enters))) (usable-reaches-iff a (w .edge .from) .1 (w .reaches))))
           (ap not (not-passing (in-anchor-set n es a i) (λ t. w .absent (in-anchor-set-iff shape a i .0 t))))
 
   pub wait-anchor-below : {a i : ℕ} → Wait (members es) a i → a < n
-  wait-anchor-below w = after-start-below shape (w .reaches)
+  wait-anchor-below {a} w = after-start-below (usable-shape shape a) (w .reaches)
 
   pub wait-target-below : {a i : ℕ} → Wait (members es) a i → i < n
-  wait-target-below w = rw (w .enters) at (shape .to-below (w .edge) (w .mem))
+  wait-target-below w = rw (w .enters) at (shape .to-below (w .edge) (w .mem .0))
 
 -- The list holds each pair below n that passes, and only those.
 pub wait-list-has : (n : ℕ) (es : List Edge) {a i : ℕ} → a < n → i < n → waits-for n es a i ≡ true → List·Memᴰ (record { anchor = a; target = i }) (wait-list n es)
@@ -98,7 +99,7 @@ module _ {n : ℕ} {es : List Edge} (shape : Shape n (members es)) where
   serialized-waited = record { keeps-all = λ e m. Memᴰ·append-left (map wait-edge (wait-list n es)) m; adds = adds; only = λ e m. only e (List·Memᴰ·append-cases es m) }
     where
       is-wait-edge : (e : Edge) → WaitEdge (members es) e → e ≡ wait-edge (record { anchor = e .from; target = e .to })
-      is-wait-edge e h = λ i. record { from = e .from; to = e .to; gain = h .gainless i; loss = h .lossless i; counted = h .counts i; back = h .forward i }
+      is-wait-edge e h = λ i. record { from = e .from; to = e .to; gain = h .gainless i; loss = h .lossless i; counted = h .counts i; back = h .forward i; late = h .timely i }
 
       adds : (e : Edge) → WaitEdge (members es) e → List·Memᴰ e (es ++ map wait-edge (wait-list n es))
       adds e h = Memᴰ·append-right es (Memᴰ·cast (is-wait-edge e h) (Memᴰ·map wait-edge (wait-listed (h .wait))))
@@ -107,7 +108,7 @@ module _ {n : ℕ} {es : List Edge} (shape : Shape n (members es)) where
       only e (inl m) = inl m
       only e (inr m) =
           let r = Memᴰ·of-map wait-edge (wait-list n es) m in
-          inr (subst (WaitEdge (members es)) (r .2) (record { counts = refl; forward = refl; gainless = refl; lossless = refl; wait = listed-wait (r .1) }))
+          inr (subst (WaitEdge (members es)) (r .2) (record { counts = refl; forward = refl; gainless = refl; lossless = refl; timely = refl; wait = listed-wait (r .1) }))
 
   -- No waits are needed exactly where the graph is well-posed.
   empty-none : (l : List WaitPair) → ltb 0 (length l) ≡ false → (w : WaitPair) → ¬ List·Memᴰ w l
@@ -119,30 +120,36 @@ module _ {n : ℕ} {es : List Edge} (shape : Shape n (members es)) where
   none-empty (x ∷ l) h = absurd (h x (List·Memᴰ·head refl))
 
   pub well-posed-unlisted : WellPosed (members es) → wait-list n es ≡ []
-  well-posed-unlisted posed = none-empty (wait-list n es) (λ w m. refuse (listed-wait m))
-    where
-      refuse : {a i : ℕ} → Wait (members es) a i → ⊥
-      refuse {a} {i} w = w .absent (member-to (w .enters) (posed a (w .edge) (w .mem) (w .returns) (member-after shape (posed a) (w .reaches .walk))))
+  well-posed-unlisted posed = none-empty (wait-list n es) (λ w m. posed-no-wait shape posed (listed-wait m))
 
   pub needs-waits-iff : (needs-waits n es ≡ false) ↔ WellPosed (members es)
   unfolding needs-waits wait-count
   needs-waits-iff = (posed, λ p. ap (λ (l : List WaitPair). ltb 0 (length l)) (well-posed-unlisted p) ∙ le-ltb 0 0 (omega arith))
     where
       posed : ltb 0 (length (wait-list n es)) ≡ false → WellPosed (members es)
-      posed h a e m b (is-source z) = is-source z
-      posed h a e m b (chain c) = go (dec-member shape a (e .to))
+      posed h a e m b (is-source z) = inl (is-source z)
+      posed h a e m b (chain c) = go (dec-member shape a (e .to)) (dec-late-into e a)
         where
-          go : Dec (InAnchorSet (members es) a (e .to)) → InAnchorSet (members es) a (e .to)
-          go (yes i) = i
-          go (no i) = absurd (empty-none (wait-list n es) h _ (wait-listed (record { edge = e; mem = m; returns = b; enters = refl; reaches = chain-after c; absent = i })))
+          go : Dec (InAnchorSet (members es) a (e .to)) → Dec (LateInto e a) → InAnchorSet (members es) a (e .to) ⊎ LateInto e a
+          go (yes i) l = inl i
+          go (no i) (yes l) = inr l
+          go (no i) (no l) =
+              absurd
+              (empty-none
+              (wait-list n es)
+              h
+              _
+              (wait-listed
+              (record { edge = e; mem = (m, l); returns = b; enters = refl; reaches = chain-usable shape c; absent = i })))
 
   -- Then the waits change nothing.
   pub serialized-none : needs-waits n es ≡ false → serialized n es ≡ es
-  unfolding serialized
-  serialized-none h = ap (λ (l : List WaitPair). es ++ map wait-edge l) (well-posed-unlisted (needs-waits-iff .0 h)) ∙ append-nil es
+  unfolding serialized needs-waits wait-count
+  serialized-none h = ap (λ (l : List WaitPair). es ++ map wait-edge l) (none-empty (wait-list n es) (empty-none (wait-list n es) h)) ∙ append-nil es
 
-  pub serialized-well-posed : WellPosed (members (serialized n es))
-  serialized-well-posed = waited-well-posed serialized-waited (dec-member shape)
+  -- Where its forward edges close no circle, the graph with its waits is well-posed.
+  pub serialized-well-posed : Acyclic (Forward (members (serialized n es))) → WellPosed (members (serialized n es))
+  serialized-well-posed = waited-well-posed shape serialized-waited (dec-member shape)
 
   pub serialized-shape : Shape n (members (serialized n es))
   serialized-shape = waited-shape serialized-waited shape
@@ -157,7 +164,7 @@ pub wait-map-bit : (n : ℕ) (es : List Edge) (i a : ℕ) → test-bit (wait-map
 unfolding wait-map
 wait-map-bit n es i a = test-bits-below (λ x. ltb i n && waits-for n es x i) n a
 
-pub wait-map-iff : {n : ℕ} {es : List Edge} → Shape n (members es) → (i a : ℕ) → (test-bit (wait-map n es i) a ≡ true) ↔ Wait (members es) a i
+wait-map-iff : {n : ℕ} {es : List Edge} → Shape n (members es) → (i a : ℕ) → (test-bit (wait-map n es i) a ≡ true) ↔ Wait (members es) a i
 wait-map-iff {n} {es} shape i a = (found, test)
   where
     found : test-bit (wait-map n es i) a ≡ true → Wait (members es) a i
@@ -175,3 +182,19 @@ wait-map-small n es i = bits-below-lt (λ a. ltb i n && waits-for n es a i) n
 pub wait-maps-at : (n : ℕ) (es : List Edge) (i : ℕ) → i < 64 → getD (wait-maps n es) i 0 ≡ wait-map n es i
 unfolding wait-maps
 wait-maps-at n es i b = tabulate-at (wait-map n es) 64 i 0 b
+
+pub wait-maps-past : (n : ℕ) (es : List Edge) (i : ℕ) → 64 ≤ i → getD (wait-maps n es) i 0 ≡ 0
+unfolding wait-maps
+wait-maps-past n es i h = tabulate-past (wait-map n es) 64 i 0 h
+
+pub wait-maps-iff : {n : ℕ} {es : List Edge} → n ≤ 64 → Shape n (members es) → (i a : ℕ) → (test-bit (getD (wait-maps n es) i 0) a ≡ true) ↔ Wait (members es) a i
+wait-maps-iff {n} {es} few shape i a = go (decLt i 64)
+  where
+    go : Dec (i < 64) → (test-bit (getD (wait-maps n es) i 0) a ≡ true) ↔ Wait (members es) a i
+    go (yes b) =
+        let r = wait-map-iff shape i a in
+        (λ h. r .0 (ap (λ (m : ℕ). test-bit m a) (sym (wait-maps-at n es i b)) ∙ h), λ w. ap (λ (m : ℕ). test-bit m a) (wait-maps-at n es i b) ∙ r .1 w)
+    go (no b) = (
+      λ h. absurd (both-ways h (ap (λ (m : ℕ). test-bit m a) (wait-maps-past n es i (omega arith)) ∙ test-zero a)),
+      λ w. absurd (omega (arith, wait-target-below shape w)),
+    )

@@ -4,11 +4,11 @@ use mathlib.Core.Bool.{false, true}
 use mathlib.Core.Logic.{_≢_, _⊎_, inl, inr}
 use Prim.Native.Nat.{_+_, _<_, _≤_, suc, ℕ}
 use native.Mathlib.Omega.{arith}
-use Rattle.definitions.specs.Anchors.{InAnchorSet, WellPosedFor, chain, is-source}
+use Rattle.definitions.specs.Anchors.{InAnchorSet, chain, is-source}
 use Rattle.definitions.specs.Links.{After, AfterWalk, Edge, Forward, Graph, Joined, Walk, _⊑_, step, stop}
-use Rattle.definitions.specs.Plan.{Span, after, source}
-use Rattle.laws.proofs.Bools.{bool-cases, both-ways, cond-true, same-or-not}
-use Rattle.theory.specs.Graphs.{Acyclic, Schedule, Shape}
+use Rattle.definitions.specs.Plan.{Offset, Span, after, source}
+use Rattle.laws.proofs.Bools.{bool-cases, both-ways, cond-false, cond-true, same-or-not}
+use Rattle.theory.specs.Graphs.{Acyclic, Carries, Schedule, Shape, Timely}
 
 -- The ends and the sums of a walk, replaced by equal ones.
 pub walk-to : {E : Graph} {x y k p q y′ k′ p′ q′ : ℕ} → Walk E x y k p q → y ≡ y′ → k′ ≡ k → p′ ≡ p → q′ ≡ q → Walk E x y′ k′ p′ q′
@@ -89,13 +89,13 @@ pub member-mono : {E F : Graph} {a v : ℕ} → E ⊑ F → InAnchorSet E a v �
 member-mono i (is-source e) = is-source e
 member-mono i (chain c) = chain (some-after (after-mono (λ e m. (i e (m .0), m .1)) (c .walk)))
 
--- In a well-posed graph every edge carries a member on: a forward edge by its chain, a return by the rule. So a walk does.
-module _ {E : Graph} {a : ℕ} (posed : WellPosedFor E a) where
+-- Where returns carry a member on every edge does: a forward edge by its chain. So a walk does.
+module _ {E : Graph} {a : ℕ} (carries : Carries E a) where
   pub member-edge : (e : Edge) → E e → InAnchorSet E a (e .from) → InAnchorSet E a (e .to)
   member-edge e m h = go (bool-cases (e .back))
     where
       go : (e .back ≡ true) ⊎ (e .back ≡ false) → InAnchorSet E a (e .to)
-      go (inl b) = posed e m b h
+      go (inl b) = carries e m b h
       go (inr b) = member-forward e m b h
 
   pub member-walk : {x y k p q : ℕ} → InAnchorSet E a x → Walk E x y k p q → InAnchorSet E a y
@@ -118,12 +118,12 @@ module _ {n : ℕ} {E : Graph} (shape : Shape n E) where
       go (inl h) = is-source h
       go (inr h) = chain (some-after (after-edge {E = Forward E} e (m, counted-forward e m c) c h))
 
-  pub member-after : {a y p q : ℕ} → WellPosedFor E a → AfterWalk E a y p q → InAnchorSet E a y
-  member-after posed w = member-walk posed (member-from (sym (w .leaves)) (member-counted (w .edge) (w .mem) (w .counts))) (w .rest)
+  pub member-after : {a y p q : ℕ} → Carries E a → AfterWalk E a y p q → InAnchorSet E a y
+  member-after carries w = member-walk carries (member-from (sym (w .leaves)) (member-counted (w .edge) (w .mem) (w .counts))) (w .rest)
 
-  pub member-span : {a y p q : ℕ} → WellPosedFor E a → Span E a y p q → InAnchorSet E a y
-  member-span posed (source h w) = is-source h
-  member-span posed (after w) = member-after posed w
+  pub member-span : {a y p q : ℕ} → Carries E a → Span E a y p q → InAnchorSet E a y
+  member-span carries (source h w) = is-source h
+  member-span carries (after w) = member-after carries w
 
 -- Walks that begin with a counted edge follow each other; their first vertex is one of the graph's.
 pub after-trans : {E : Graph} {a b c : ℕ} → After E a b → After E b c → After E a c
@@ -155,15 +155,36 @@ forward-losses shape (step w e m f o hk hp hq) = omega (arith, forward-losses sh
 pub source-first : {n : ℕ} {E : Graph} {a : ℕ} → ((v : ℕ) → v < n → Joined E 0 v) → Acyclic E → a < n → ¬ After E a 0
 source-first {a = a} rooted acyclic b w = acyclic a (some-after (after-join (w .walk) (rooted a b .walk)))
 
--- A walk bounds start times from below: add up what its edges ask. Where it begins with a counted edge out of a, the delay of a counts too.
-pub walk-bound : {E : Graph} {d t : ℕ → ℕ} {x y k p q : ℕ} → Schedule E d t → Walk E x y k p q → t x + p ≤ t y + q
-walk-bound {t = t} s (stop e hk hp hq) = omega (arith, ap t e)
-walk-bound {t = t} s (step w e m f o hk hp hq) = omega (arith, walk-bound s w, s .keeps e m, ap t f, ap t o)
+-- Where no return is late, a walk bounds start times from below: add up what its edges ask. Where it begins with a counted edge out of a, the delay of a counts too.
+module _ {E : Graph} {d t : ℕ → ℕ} (timely : Timely E) (s : Schedule E d t) where
+  walk-bound : {x y k p q : ℕ} → Walk E x y k p q → t x + p ≤ t y + q
+  walk-bound (stop e hk hp hq) = omega (arith, ap t e)
+  walk-bound (step w e m f o hk hp hq) = omega (arith, walk-bound w, s .keeps e m, cond-false (d (e .to)) 0 (timely e m), ap t f, ap t o)
 
-pub after-bound : {E : Graph} {d t : ℕ → ℕ} {a y p q : ℕ} → Schedule E d t → AfterWalk E a y p q → t a + d a + p ≤ t y + q
-after-bound {d = d} {t = t} s w =
-    omega (arith, walk-bound s (w .rest), s .keeps (w .edge) (w .mem), cond-true (d (w .edge .from)) 0 (w .counts), ap t (w .leaves), ap d (w .leaves))
+  pub after-bound : {a y p q : ℕ} → AfterWalk E a y p q → t a + d a + p ≤ t y + q
+  after-bound w =
+      omega (
+        arith,
+        walk-bound (w .rest),
+        s .keeps (w .edge) (w .mem),
+        cond-true (d (w .edge .from)) 0 (w .counts),
+        cond-false (d (w .edge .to)) 0 (timely (w .edge) (w .mem)),
+        ap t (w .leaves),
+        ap d (w .leaves),
+      )
 
-pub span-bound : {E : Graph} {d t : ℕ → ℕ} {a v p q : ℕ} → d 0 ≡ 0 → Schedule E d t → Span E a v p q → t a + d a + p ≤ t v + q
-span-bound {d = d} d0 s (source h w) = omega (arith, walk-bound s w, ap d h, d0)
-span-bound d0 s (after w) = after-bound s w
+  pub span-bound : {a v p q : ℕ} → d 0 ≡ 0 → Span E a v p q → t a + d a + p ≤ t v + q
+  span-bound d0 (source h w) = omega (arith, walk-bound w, ap d h, d0)
+  span-bound d0 (after w) = after-bound w
+
+-- Start times that keep a graph keep a smaller one.
+pub schedule-mono : {E F : Graph} {d t : ℕ → ℕ} → E ⊑ F → Schedule F d t → Schedule E d t
+schedule-mono i s = record { starts = s .starts; keeps = λ e m. s .keeps e (i e m) }
+
+-- The walks of an offset, and the offset, in a graph with the same edges.
+span-mono : {E F : Graph} {a v p q : ℕ} → E ⊑ F → Span E a v p q → Span F a v p q
+span-mono i (source h w) = source h (walk-mono i w)
+span-mono i (after w) = after (after-mono i w)
+
+pub offset-same : {E F : Graph} {a v o : ℕ} → E ⊑ F → F ⊑ E → Offset E a v o → Offset F a v o
+offset-same i j O = record { p = O .p; q = O .q; span = span-mono i (O .span); attained = O .attained; bound = λ p q s. O .bound p q (span-mono j s) }

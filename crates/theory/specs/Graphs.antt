@@ -5,13 +5,13 @@ use mathlib.Core.Logic.{_≢_, _⊎_}
 use Prim.Native.Nat.{_+_, _<_, _≤_, suc, zero, ℕ}
 use lib.Dec.{eqb}
 use Rattle.definitions.specs.Anchors.{InAnchorSet}
-use Rattle.definitions.specs.Links.{After, Edge, Forward, Graph, Joined, Walk, _⊑_}
+use Rattle.definitions.specs.Links.{After, Edge, Forward, Graph, Joined, UsableFrom, Walk, _⊑_}
 use Rattle.definitions.specs.Plan.{Offset}
 use Rattle.definitions.specs.Waits.{Wait}
 
 -- Start times t keep an edge under the delays d. This is `Keeps` of a link, read off its edge.
 abbrev pub KeepsEdge : (ℕ → ℕ) → (ℕ → ℕ) → Edge → Type 0
-KeepsEdge d t e = t (e .from) + e .gain + cond (e .counted) (d (e .from)) 0 ≤ t (e .to) + e .loss
+KeepsEdge d t e = t (e .from) + e .gain + cond (e .counted) (d (e .from)) 0 ≤ t (e .to) + e .loss + cond (e .late) (d (e .to)) 0
 
 -- Start times that keep every edge.
 pub record Schedule (E : Graph) (d t : ℕ → ℕ) : Type 0 where
@@ -24,6 +24,7 @@ pub record Shape (n : ℕ) (E : Graph) : Type 0 where
   pub to-below : (e : Edge) → E e → e .to < n
   pub back-uncounted : (e : Edge) → E e → e .back ≡ true → e .counted ≡ false
   pub forward-lossless : (e : Edge) → E e → e .back ≡ false → e .loss ≡ 0
+  pub forward-timely : (e : Edge) → E e → e .back ≡ false → e .late ≡ false
 
 -- Every step has a forward chain from step 0: not refusal 9.
 abbrev pub Rooted : ℕ → Graph → Type 0
@@ -33,9 +34,21 @@ Rooted n E = (v : ℕ) → v < n → Joined (Forward E) 0 v
 abbrev pub ForwardAcyclic : Graph → Type 0
 ForwardAcyclic E = (x k p q : ℕ) → ¬ Walk (Forward E) x x (suc k) p q
 
--- No walk from the end of an open step comes back to that step: not refusal 11.
+-- No walk that begins with a counted edge out of an open step comes back to it.
 abbrev pub Acyclic : Graph → Type 0
 Acyclic E = (a : ℕ) → ¬ After E a a
+
+-- No step waits for its own end: not refusal 11.
+abbrev pub Consistent : Graph → Type 0
+Consistent E = (a : ℕ) → ¬ After (UsableFrom E a) a a
+
+-- No return counts from a finish: a sheet without request L11's links on open steps other than step 0.
+abbrev pub Timely : Graph → Type 0
+Timely E = (e : Edge) → E e → e .late ≡ false
+
+-- Returns hand the membership of a on.
+abbrev pub Carries : Graph → ℕ → Type 0
+Carries E a = (e : Edge) → E e → e .back ≡ true → InAnchorSet E a (e .from) → InAnchorSet E a (e .to)
 
 -- No closed walk weighs more than 0: not refusal 10.
 pub record NonPositive (E : Graph) : Type 0 where
@@ -48,13 +61,18 @@ Gains E g = (e : Edge) → E e → e .gain ≤ g
 abbrev pub Losses : Graph → ℕ → Type 0
 Losses E l = (e : Edge) → E e → e .loss ≤ l
 
--- A graph that can be scheduled for every list of delays.
+-- A graph that can be scheduled for every list of delays: not refused 9, 10 or 11.
 pub record Well (n : ℕ) (E : Graph) : Type 0 where
   pub some : 0 < n
   pub shape : Shape n E
   pub rooted : Rooted n E
-  pub acyclic : Acyclic E
+  pub consistent : Consistent E
   pub never : NonPositive E
+
+-- The waits can be put in, and E′ is the graph with them: not refusal 28.
+pub record Serializable (E′ : Graph) : Type 0 where
+  pub acyclic : ForwardAcyclic E′
+  pub never : NonPositive E′
 
 -- The serialization edge of a wait.
 pub record WaitEdge (E : Graph) (e : Edge) : Type 0 where
@@ -62,6 +80,7 @@ pub record WaitEdge (E : Graph) (e : Edge) : Type 0 where
   pub forward : e .back ≡ false
   pub gainless : e .gain ≡ 0
   pub lossless : e .loss ≡ 0
+  pub timely : e .late ≡ false
   pub wait : Wait E (e .from) (e .to)
 
 -- E′ has the edges of E and a serialization edge for each wait of E, and no others.
@@ -76,16 +95,14 @@ pub record Attained (E : Graph) (d S : ℕ → ℕ) (off : ℕ → ℕ → ℕ) 
   pub inside : InAnchorSet E anchor v
   pub equals : S v ≡ S anchor + d anchor + off anchor v
 
--- S is the relative schedule of E under the delays d: S v is the largest of the terms of v's anchor set, an upper bound of them all and one of them. The offsets for a are taken in the graph G a.
-pub record RelativeOn (n : ℕ) (E : Graph) (G : ℕ → Graph) (d S : ℕ → ℕ) (off : ℕ → ℕ → ℕ) : Type 0 where
+-- S is the relative schedule of E under the delays d: S v is the largest of the terms of v's anchor set, an upper bound of them all and one of them. The offsets for a are taken over the edges that
+-- walks from the end of a may use.
+pub record Relative (n : ℕ) (E : Graph) (d S : ℕ → ℕ) (off : ℕ → ℕ → ℕ) : Type 0 where
   pub starts : S 0 ≡ 0
   pub no-wait : d 0 ≡ 0
-  pub offsets : (a v : ℕ) → v < n → InAnchorSet E a v → Offset (G a) a v (off a v)
+  pub offsets : (a v : ℕ) → v < n → InAnchorSet E a v → Offset (UsableFrom E a) a v (off a v)
   pub above : (a v : ℕ) → v < n → InAnchorSet E a v → S a + d a + off a v ≤ S v
   pub attained : (v : ℕ) → v < n → Attained E d S off v
-
-abbrev pub Relative : ℕ → Graph → (ℕ → ℕ) → (ℕ → ℕ) → (ℕ → ℕ → ℕ) → Type 0
-Relative n E d S off = RelativeOn n E (λ a. E) d S off
 
 -- The member b makes the member a needless in the anchor set of v; and a decides v, where none does. Off stands for the offsets.
 pub record Overrides (E : Graph) (off : ℕ → ℕ → ℕ) (a v b : ℕ) : Type 0 where

@@ -1,3 +1,4 @@
 pub mod Graphs
 pub mod Counts
 pub mod Sweeps
+pub mod Strategies

@@ -11,23 +11,19 @@ use borrow.Author.Tests.{eq-eqb, eqb-true, le-ltb, lt-ltb, ltb-true, not-true}
 use Rattle.definitions.specs.Anchors.{in-anchor-set}
 use Rattle.definitions.specs.Answers.{inconsistent}
 use Rattle.definitions.specs.Basics.{any, any-below, select-below, test-bit}
-use Rattle.definitions.specs.Links.{Edge, usable}
+use Rattle.definitions.specs.Links.{Edge, late-into, usable}
 use Rattle.definitions.specs.Rounds.{after-reaches}
 use Rattle.definitions.specs.Waits.{WaitPair, wait-count, wait-list, wait-map, wait-maps, waits-for, waits-of}
-use Rattle.laws.proofs.Bools.{and-join, and-split, same-test}
+use Rattle.laws.proofs.Bools.{and-join, and-split, both-ways, not-passing, same-test}
 use Rattle.laws.proofs.Counts.{sum-below, sum-below-same, sum-below-cut, sum-below-swap, select-length, flatMap-length}
 use Rattle.laws.proofs.Maps.{same-map}
 use Rattle.laws.proofs.Searches.{any-below-same}
 use Rattle.laws.proofs.Tests.{any-by, any-has, tabulate-length}
 use Rattle.relations.specs.Rows.{row-bit, Gathered}
-use Rattle.theory.proofs.Reachability.{after-reaches-iff}
-use Rattle.theory.proofs.WaitLists.{usable-all, wait-map-bit, wait-maps-at}
+use Rattle.theory.proofs.Usables.{late-into-iff, members-usable, usable-members, usable-shape}
+use Rattle.theory.proofs.WaitLists.{usable-reaches-iff, wait-map-bit, wait-maps-at}
 use Rattle.theory.proofs.Walks.{after-start-below}
 use Rattle.waits.specs.Reaching.{Reaches, Known, holds-up}
-
--- In the base every edge is usable, so rows that speak of the edges as sent will do. Request L11 changes this.
-pub reaches-by : (n : ℕ) (g : List Edge) (rows : List ℕ) → ((a v : ℕ) → row-bit rows v a ≡ after-reaches n g a v) → Reaches n g rows
-reaches-by n g rows h = record { bits = λ a v b. h a v ∙ ap (λ (x : List Edge). after-reaches n x a v) (sym (usable-all g a)) }
 
 -- Refusal 11 is a loop of the rows.
 pub loop-is-inconsistent : {n : ℕ} {g : List Edge} {rows : List ℕ} → Reaches n g rows → any-below (λ (v : ℕ). row-bit rows v v) n ≡ inconsistent n g
@@ -37,7 +33,7 @@ loop-is-inconsistent {n} {g} {rows} h = any-below-same (λ (v : ℕ). row-bit ro
 module _ {n : ℕ} {g : List Edge} {reach sets : List ℕ} (known : Known n g reach sets) where
   -- An anchor that reaches something is below n.
   reaching-below : (a v : ℕ) → after-reaches n (usable g a) a v ≡ true → a < n
-  reaching-below a v h = after-start-below (known .shape) (after-reaches-iff (known .shape) a v .0 (sym (ap (λ (x : List Edge). after-reaches n x a v) (usable-all g a)) ∙ h))
+  reaching-below a v h = after-start-below (usable-shape (known .shape) a) (usable-reaches-iff (known .shape) a v .0 h)
 
   set-bit : {a i : ℕ} → a < n → i < n → row-bit sets i a ≡ in-anchor-set n g a i
   set-bit {a} {i} b c =
@@ -45,23 +41,24 @@ module _ {n : ℕ} {g : List Edge} {reach sets : List ℕ} (known : Known n g re
       ∙ ap (λ (t : Bool). t && (ltb a n && in-anchor-set n g a i)) (lt-ltb i n c)
       ∙ ap (λ (t : Bool). t && in-anchor-set n g a i) (lt-ltb a n b)
 
-  -- Some backward edge makes i wait for a exactly where the definition lists that wait.
+  -- Some backward edge makes i wait for a exactly where the definition lists that wait: the edges that a may use are those that are not late into a.
   pub held-up : (i a : ℕ) → any (holds-up reach sets i a) g ≡ (ltb a n && (ltb i n && waits-for n g a i))
   unfolding waits-for
-  held-up i a = same-test (any (holds-up reach sets i a) g) (ltb a n && (ltb i n && (any returning g && not (in-anchor-set n g a i)))) found test
+  held-up i a = same-test (any (holds-up reach sets i a) g) (ltb a n && (ltb i n && (any returning (usable g a) && not (in-anchor-set n g a i)))) found test
     where
       returning : Edge → Bool
       returning e = e .back && eqb (e .to) i && after-reaches n (usable g a) a (e .from)
 
-      found : any (holds-up reach sets i a) g ≡ true → (ltb a n && (ltb i n && (any returning g && not (in-anchor-set n g a i)))) ≡ true
+      found : any (holds-up reach sets i a) g ≡ true → (ltb a n && (ltb i n && (any returning (usable g a) && not (in-anchor-set n g a i)))) ≡ true
       found h =
           let r = any-has (holds-up reach sets i a) g h in
           let e = r .0 in
-          let s = and-split (eqb i (e .to)) (e .back && (row-bit reach (e .from) a && not (row-bit sets (e .to) a))) (r .2) in
-          let t = and-split (e .back) (row-bit reach (e .from) a && not (row-bit sets (e .to) a)) (s .1) in
-          let u = and-split (row-bit reach (e .from) a) (not (row-bit sets (e .to) a)) (t .1) in
+          let s = and-split (eqb i (e .to)) (e .back && (row-bit reach (e .from) a && not (late-into a e) && not (row-bit sets (e .to) a))) (r .2) in
+          let t = and-split (e .back) (row-bit reach (e .from) a && not (late-into a e) && not (row-bit sets (e .to) a)) (s .1) in
+          let u = and-split (row-bit reach (e .from) a && not (late-into a e)) (not (row-bit sets (e .to) a)) (t .1) in
+          let x = and-split (row-bit reach (e .from) a) (not (late-into a e)) (u .0) in
           let into = eqb-true i (e .to) (s .0) in
-          let comes = sym (known .reaches .bits a (e .from) (known .shape .from-below e (r .1))) ∙ u .0 in
+          let comes = sym (known .reaches .bits a (e .from) (known .shape .from-below e (r .1))) ∙ x .0 in
           let small : a < n = reaching-below a (e .from) comes in
           let inside : i < n = omega (arith, known .shape .to-below e (r .1)) in
           and-join
@@ -69,29 +66,30 @@ module _ {n : ℕ} {g : List Edge} {reach sets : List ℕ} (known : Known n g re
           (and-join
           (lt-ltb i n inside)
           (and-join
-          (any-by returning g (r .1) (and-join (and-join (t .0) (eq-eqb (e .to) i (sym into))) comes))
+          (any-by returning (usable g a) (usable-members g a e (r .1, λ l. both-ways (late-into-iff e a .1 l) (not-true (late-into a e) (x .1)))) (and-join (and-join (t .0) (eq-eqb (e .to) i (sym into))) comes))
           (ap not (sym (set-bit small inside) ∙ ap (λ (x : ℕ). row-bit sets x a) into ∙ not-true (row-bit sets (e .to) a) (u .1)))))
 
-      test : (ltb a n && (ltb i n && (any returning g && not (in-anchor-set n g a i)))) ≡ true → any (holds-up reach sets i a) g ≡ true
+      test : (ltb a n && (ltb i n && (any returning (usable g a) && not (in-anchor-set n g a i)))) ≡ true → any (holds-up reach sets i a) g ≡ true
       test h =
-          let p = and-split (ltb a n) (ltb i n && (any returning g && not (in-anchor-set n g a i))) h in
-          let q = and-split (ltb i n) (any returning g && not (in-anchor-set n g a i)) (p .1) in
-          let w = and-split (any returning g) (not (in-anchor-set n g a i)) (q .1) in
-          let r = any-has returning g (w .0) in
+          let p = and-split (ltb a n) (ltb i n && (any returning (usable g a) && not (in-anchor-set n g a i))) h in
+          let q = and-split (ltb i n) (any returning (usable g a) && not (in-anchor-set n g a i)) (p .1) in
+          let w = and-split (any returning (usable g a)) (not (in-anchor-set n g a i)) (q .1) in
+          let r = any-has returning (usable g a) (w .0) in
           let e = r .0 in
+          let m = members-usable g a e (r .1) in
           let s = and-split (e .back && eqb (e .to) i) (after-reaches n (usable g a) a (e .from)) (r .2) in
           let t = and-split (e .back) (eqb (e .to) i) (s .0) in
           let into = eqb-true (e .to) i (t .1) in
           any-by
           (holds-up reach sets i a)
           g
-          (r .1)
+          (m .0)
           (and-join
           (eq-eqb i (e .to) (sym into))
           (and-join
           (t .0)
           (and-join
-          (known .reaches .bits a (e .from) (known .shape .from-below e (r .1)) ∙ s .1)
+          (and-join (known .reaches .bits a (e .from) (known .shape .from-below e (m .0)) ∙ s .1) (ap not (not-passing (late-into a e) (λ l. m .1 (late-into-iff e a .0 l)))))
           (ap (λ (x : ℕ). not (row-bit sets x a)) into ∙ ap not (set-bit (ltb-true a n (p .0)) (ltb-true i n (q .0))) ∙ w .1))))
 
   -- So the rows are the maps: two maps with the same bits are the same.

@@ -6,7 +6,7 @@ ghost use Prim.Native.Nat.{ℕ, _≤_};
 ghost use lib.ListN.{length, getD};
 ghost use Rattle.definitions.specs.Answers.{inconsistent};
 ghost use Rattle.definitions.specs.Basics.{any-below, select-below, tabulate, test-bit};
-ghost use Rattle.definitions.specs.Links.{Edge};
+ghost use Rattle.definitions.specs.Links.{Edge, late-into};
 ghost use Rattle.definitions.specs.Waits.{wait-count, wait-maps};
 ghost use Rattle.edges.specs.Words.{unpack, graph};
 ghost use Rattle.relations.specs.Rows.{row-bit, Gathered};
@@ -21,17 +21,18 @@ pub fn is_inconsistent(reach: &[u64; 64], n: usize) -> bool
     relations::has_loop(reach, n)
 }
 
-// The map of an edge's end, with what reaches its start and is not in its end's set, where the edge is backward.
+// The map of an edge's end, with what reaches its start, may use the edge and is not in its end's set, where the edge is backward.
 fn with_waits(map: u64, w: u64, reach: u64, set: u64) -> u64
-    ensures { λ r. ⌜ ((a : ℕ) → test-bit r a ≡ (test-bit map a || (unpack w .back && (test-bit reach a && not (test-bit set a))))) ⌝ }
+    ensures { λ r. ⌜ ((a : ℕ) → test-bit r a ≡ (test-bit map a || (unpack w .back && (test-bit reach a && not (late-into a (unpack w)) && not (test-bit set a))))) ⌝ }
 {
     if edges::is_back(w) {
-        return bitmaps::union(map, bitmaps::minus(reach, set));
+        let users = edges::usable_by(reach, w);
+        return bitmaps::union(map, bitmaps::minus(users, set));
     }
     map
 }
 
-// The waits of a sheet of n steps, bit a of map i: each backward edge from j to i makes i wait for what reaches j.
+// The waits of a sheet of n steps, bit a of map i: each backward edge from j to i makes i wait for what reaches j, but a late one not for i itself.
 pub fn wait_maps(es: &[u64], reach: &[u64; 64], sets: &[u64; 64]) -> [u64; 64]
     ensures bits { λ r. ⌜ Gathered (holds-up (now (reach .entry)) (now (sets .entry))) (graph (now (es .entry))) r ⌝ }
     ensures maps { λ r. ⌜ ((n : ℕ) → Known n (graph (now (es .entry))) (now (reach .entry)) (now (sets .entry)) → r ≡ wait-maps n (graph (now (es .entry)))) ⌝ }

@@ -79,8 +79,8 @@ fn stored_answers() {
         }
     }
     assert!(lines > 300);
-    // Both verdicts and refusals 1 to 14 are among them.
-    assert_eq!(seen.len(), 16, "{seen:?}");
+    // Both verdicts and refusals 1 to 14, 26 and 28 are among them.
+    assert_eq!(seen.len(), 18, "{seen:?}");
 }
 
 #[test]

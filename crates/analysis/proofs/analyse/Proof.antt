@@ -36,16 +36,17 @@ serialize-requires : tie.Need-serialize-requires
 serialize-requires c κs = search needs
 
 returns : tie.Need-returns
-returns c shape =
+returns c shape gains =
     let closed = c .before .before .before .before .before .before .before .before .before .forward .ensures .1 shape in
     let first = c .before .before .before .before .first-fault .ensures closed in
     analysed-refused _ _ _ _ _ (sym first ∙ ap (λ (x : Status). status-of {A = Unit {0}} x tt) (c .before .before .k .given .1)) (c .refused-analysis .ensures .0) (c .refused-analysis .ensures .1)
 
 returns-2 : tie.Need-returns-2
-returns-2 c shape =
+returns-2 c shape gains =
     let closed = c .before .before .before .before .before .before .before .before .before .forward .ensures .1 shape in
     let first = c .before .before .before .before .first-fault .ensures closed in
-    analysed-rest _ _ _ _ (sym first ∙ ap (λ (x : Status). status-of {A = Unit {0}} x tt) (c .before .before .enum-told .given .1)) (c .serialize .ensures closed)
+    let done = sym first ∙ ap (λ (x : Status). status-of {A = Unit {0}} x tt) (c .before .before .enum-told .given .1) in
+    analysed-rest _ _ _ _ done (c .serialize .ensures closed gains done)
 
 pub analyse-spec : {M : Type 1} → statement M
 analyse-spec =

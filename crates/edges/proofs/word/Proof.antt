@@ -35,8 +35,14 @@ mul-result-5 c = search needs
 add-result-5 : tie.Need-add-result-5
 add-result-5 c = search needs
 
+mul-result-6 : tie.Need-mul-result-6
+mul-result-6 c = search needs
+
+add-result-6 : tie.Need-add-result-6
+add-result-6 c = search needs
+
 returns : tie.Need-returns
-returns c = unpack-word _ _ _ _ _ _ _ (c .pre .0) (c .pre .1) (c .pre .2) (c .pre .3) (c .pre .4) (c .pre .5) refl
+returns c = unpack-word _ _ _ _ _ _ _ _ (c .pre .0) (c .pre .1) (c .pre .2) (c .pre .3) (c .pre .4) (c .pre .5) (c .pre .6) refl
 
 pub word-spec : {M : Type 1} → statement M
 word-spec =
@@ -52,4 +58,6 @@ word-spec =
     add-result-4
     mul-result-5
     add-result-5
+    mul-result-6
+    add-result-6
     returns)

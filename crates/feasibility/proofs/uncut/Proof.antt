@@ -1,26 +1,33 @@
--- `feasibility::uncut` meets its contract.
+-- `feasibility::uncut` meets its contract. Invariant: no cell below v is at the largest number.
 use borrow.Author.Needs.{needs}
 use native.Mathlib.Omega.{arith}
-use mathlib.Core.Path.{sym}
-use Prim.Native.Nat.{ℕ, _-_, _<_, _≤_}
+use mathlib.Core.Path.{_≡_, sym}
+use mathlib.Core.Bool.{Bool, true}
+use mathlib.Core.List.{List}
+use Prim.Native.Nat.{ℕ, _-_, _≤_}
+use lib.Dec.{ltb}
 use borrow.Author.Tests.{le-ltb, lt-ltb}
+use Rattle.definitions.specs.Basics.{all-below}
 use Rattle.definitions.specs.Rounds.{cell}
 use Rattle.laws.proofs.Bools.{both-ways, not-passing}
+use Rattle.laws.proofs.Searches.{all-below-more, all-below-nothing}
 use Rattle.laws.proofs.Tests.{all-below-by, all-below-each}
-use Rattle.feasibility.proofs.Searching.{cells-more}
 use Rattle.feasibility.proofs.uncut.Statement.{statement}
 use Rattle.feasibility.proofs.uncut.Tie as tie
 use Rattle.feasibility.proofs.uncut.Reads as reads
 use Rattle.feasibility.proofs.uncut.Lts as lts
 
+abbrev small : List ℕ → ℕ → Bool
+small row v = ltb (cell row v) 4294967295
+
 abbrev Inv-loop : tie.InvT-loop
-Inv-loop row n v₀ v = (v ≤ n) × ((u : ℕ) → u < v → cell row u < 4294967295)
+Inv-loop row n v₀ v = (v ≤ n) × (all-below (small row) v ≡ true)
 
 abbrev μ-loop : tie.MeasureT-loop
 μ-loop row n v₀ v = n - v
 
 loop-holds : tie.Need-loop-holds Inv-loop μ-loop
-loop-holds c = (omega arith, λ u b. absurd (omega arith))
+loop-holds c = (omega arith, all-below-nothing _)
 
 mul-if1 : tie.Need-mul-if1 Inv-loop μ-loop
 mul-if1 c = search needs
@@ -38,10 +45,13 @@ loop-less : tie.Need-loop-less Inv-loop μ-loop
 loop-less c = search needs
 
 loop-again : tie.Need-loop-again Inv-loop μ-loop
-loop-again c = (omega arith, cells-more (c .before .before .before .before .args .row .now) _ (c .before .before .before .loop .inv .1) (omega arith))
+loop-again c =
+    let s = c .before .before .before in
+    let row = s .before .args .row .now in
+    (omega arith, all-below-more (small row) (s .loop .v) (s .loop .inv .1) (lt-ltb (cell row (s .loop .v)) 4294967295 (omega arith)))
 
 returns-2 : tie.Need-returns-2 Inv-loop μ-loop
-returns-2 c = sym (all-below-by _ _ (λ u h. lt-ltb _ _ (c .before .loop .inv .1 u (omega arith))))
+returns-2 c = let s = c .before in sym (all-below-by _ _ (λ u h. all-below-each (small (s .before .args .row .now)) (s .loop .v) (s .loop .inv .1) u (omega arith)))
 
 pub uncut-spec : {M : Type 1} → statement M
 uncut-spec =

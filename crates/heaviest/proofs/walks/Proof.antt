@@ -45,23 +45,25 @@ settle-requires c κs = search needs
 returns : tie.Need-returns
 returns c =
     let s = c .before .before .before .before .before .before .before .before .before .before .before .before .before .before .before .before .before in
-    let turned = c .before .before .before .before .before .before .before .before .before .before .before .before .before .before .transpose .ensures in
-    λ within well posed gains a v inside below.
-    walks-found
-    (s .args .es .now) (s .args .maps .now) (c .before .before .before .before .before .before .before .before .before .before .before .before .before .before .transpose .result) (s .args .n)
-    (s .pre .0)
-    within
-    turned
-    well
-    posed
-    gains
-    (c .before .before .before .before .before .before .before .before .before .before .before .before .before .first-table .ensures)
-    (c .before .before .before .before .before .before .before .before .before .before .before .before .first-marks .ensures)
-    (seeded-both (s .args .es .now) (s .args .maps .now) (c .before .before .before .before .before .before .before .before .before .before .before .before .before .before .transpose .result) (s .args .n) within turned (c .before .before .before .before .before .before .before .before .before .seed-words .ensures) (c .before .before .before .before .before .seed-waits .ensures))
-    (c .settle .ensures)
-    a
-    inside
-    v
+    let turned = c .before .before .before .before .before .before .before .before .before .before .before .before .before .before .transpose .ensures in (
+      c .settle .ensures .square,
+      λ within well posed gains a v inside below.
+          walks-found
+          (s .args .es .now) (s .args .maps .now) (c .before .before .before .before .before .before .before .before .before .before .before .before .before .before .transpose .result) (s .args .n)
+          (s .pre .0)
+          within
+          turned
+          well
+          posed
+          gains
+          (c .before .before .before .before .before .before .before .before .before .before .before .before .before .first-table .ensures)
+          (c .before .before .before .before .before .before .before .before .before .before .before .before .first-marks .ensures)
+          (seeded-both (s .args .es .now) (s .args .maps .now) (c .before .before .before .before .before .before .before .before .before .before .before .before .before .before .transpose .result) (s .args .n) within turned (c .before .before .before .before .before .before .before .before .before .seed-words .ensures) (c .before .before .before .before .before .seed-waits .ensures))
+          (c .settle .ensures)
+          a
+          inside
+          v,
+    )
 
 pub walks-spec : {M : Type 1} → statement M
 walks-spec =

@@ -1,5 +1,5 @@
 -- `link_record::read_fields` meets its contract: one bound after the other, each tied to the definition by the map's bit.
-use mathlib.Core.Path.{_≡_, sym}
+use mathlib.Core.Path.{_≡_, sym, _∙_}
 use lib.ListN.{drop}
 use denote.Ref.{now}
 use borrow.Author.Needs.{needs}
@@ -27,8 +27,8 @@ read-bound-requires-2 c κs = search needs
 enum-known-most : tie.Need-enum-known-most
 enum-known-most c = search needs
 
-has-requires-3 : tie.Need-has-requires-3
-has-requires-3 c κs = search needs
+read-latest-requires : tie.Need-read-latest-requires
+read-latest-requires c κs = search needs
 
 enum-known-k : tie.Need-enum-known-k
 enum-known-k c = search needs
@@ -46,7 +46,7 @@ returns c =
     let least = rw (c .before .before .before .before .before .before .before .least .given .1, c .before .before .before .before .before .before .before .before .before .before .has .ensures) at found in
     let found-2 : bound-read s (at-most .result) ≡ bound (c .before .before .before .before .before .has2 .result) (drop (c .before .before .before .before .before .before .before .least .given .0 .1 .0) s) = at-most .ensures in
     let most = rw (c .before .before .most .given .1, c .before .before .before .before .before .has2 .ensures) at found-2 in
-    rw (c .has3 .ensures) (sym (fields-there (a .m) (a .i) (a .j) _ (sym least) (sym most)))
+    c .read-latest .ensures ∙ sym (fields-there (a .m) (a .i) (a .j) _ (sym least) (sym most))
 
 returns-2 : tie.Need-returns-2
 returns-2 c =
@@ -79,7 +79,7 @@ read-fields-spec =
     has-requires-2
     read-bound-requires-2
     enum-known-most
-    has-requires-3
+    read-latest-requires
     enum-known-k
     enum-known-k-2
     returns

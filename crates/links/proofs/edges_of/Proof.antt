@@ -12,7 +12,7 @@ use Rattle.links.proofs.edges_of.Statement.{statement}
 use Rattle.links.proofs.edges_of.Tie as tie
 
 abbrev Inv-loop : tie.InvT-loop
-Inv-loop sheet n r words₀ count₀ k₀ words count k = (k ≤ r) × (length words ≡ 1536) × Listed (take n (sheet .operations)) (take k (sheet .links)) k words count
+Inv-loop sheet n r words₀ count₀ k₀ words count k = (k ≤ r) × (length words ≡ 2048) × Listed (take n (sheet .operations)) (take k (sheet .links)) k words count
 
 abbrev μ-loop : tie.MeasureT-loop
 μ-loop sheet n r words₀ count₀ k₀ words count k = r - k

@@ -15,7 +15,7 @@ pack-requires c κs = search needs
 returns : tie.Need-returns
 returns c h =
     c .pack .ensures (h .1, h .0) (omega arith) (omega (arith, c .before .ticks-of .ensures .1))
-    ∙ same-edge refl refl refl (c .before .ticks-of .ensures .0) refl refl
+    ∙ same-edge refl refl refl (c .before .ticks-of .ensures .0) refl refl refl
 
 pub maximum-word-spec : {M : Type 1} → statement M
 maximum-word-spec = tie.close (tie.spec ticks-of-requires pack-requires returns)

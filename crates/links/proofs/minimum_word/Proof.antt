@@ -15,7 +15,7 @@ pack-requires c κs = search needs
 returns : tie.Need-returns
 returns c h =
     c .pack .ensures h (omega (arith, c .before .ticks-of .ensures .1)) (omega arith)
-    ∙ same-edge refl refl (c .before .ticks-of .ensures .0) refl refl refl
+    ∙ same-edge refl refl (c .before .ticks-of .ensures .0) refl refl refl refl
 
 pub minimum-word-spec : {M : Type 1} → statement M
 minimum-word-spec = tie.close (tie.spec ticks-of-requires pack-requires returns)

@@ -31,7 +31,7 @@ unfolding sequencing-edge
 returns-2 c h =
     rw (c .before .before .before .delay .given .1)
     (c .pack2 .ensures h (omega (arith, c .before .ticks-of .ensures .1)) (omega arith)
-    ∙ same-edge refl refl (c .before .ticks-of .ensures .0) refl refl refl)
+    ∙ same-edge refl refl (c .before .ticks-of .ensures .0) refl refl refl refl)
 
 pub sequencing-word-spec : {M : Type 1} → statement M
 sequencing-word-spec =

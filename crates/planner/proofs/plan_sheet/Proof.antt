@@ -17,17 +17,17 @@ edges-of-requires c κs = search needs
 
 array-share-prefix-words : tie.Need-array-share-prefix-words
 array-share-prefix-words c =
-    let n : length (c .before .edges-of .result .words) ≡ 1536 = search needs in
+    let n : length (c .before .edges-of .result .words) ≡ 2048 = search needs in
     omega (arith, c .before .edges-of .ensures .few)
 
 slice-aggregate-plan-edges : tie.Need-slice-aggregate-plan-edges
 slice-aggregate-plan-edges c =
-    let n : length (c .before .before .edges-of .result .words) ≡ 1536 = search needs in
+    let n : length (c .before .before .edges-of .result .words) ≡ 2048 = search needs in
     sym (length-take-le (c .before .before .edges-of .result .count) (c .before .before .edges-of .result .words) (omega (arith, c .before .before .edges-of .ensures .few)))
 
 plan-edges-requires : tie.Need-plan-edges-requires
 plan-edges-requires c κs =
-    let n : length (c .before .before .before .edges-of .result .words) ≡ 1536 = search needs in
+    let n : length (c .before .before .before .edges-of .result .words) ≡ 2048 = search needs in
     (search needs, search needs, omega (arith, length-take (c .before .before .before .edges-of .result .count) (c .before .before .before .edges-of .result .words)))
 
 same-length : tie.Need-same-length

@@ -19,13 +19,13 @@ accepted-requires : tie.Need-accepted-requires
 accepted-requires c κs = search needs
 
 returns : tie.Need-returns
-returns c shape gains = plan-passed (c .before .before .analyse .ensures shape) _ (sym (c .before .accepted .ensures) ∙ not-true _ (c .if1 .taken))
+returns c shape gains = plan-passed (c .before .before .analyse .ensures shape gains) _ (sym (c .before .accepted .ensures) ∙ not-true _ (c .if1 .taken))
 
 mul-if2 : tie.Need-mul-if2
 mul-if2 c = record { fits = omega (arith, square-small (c .before .before .before .before .before .args .n) (search needs)) }
 
 returns-2 : tie.Need-returns-2
-returns-2 c shape gains = plan-short (c .before .before .before .analyse .ensures shape) _ (sym (c .before .before .accepted .ensures) ∙ not-false _ (c .before .if1 .left)) (c .if2 .taken)
+returns-2 c shape gains = plan-short (c .before .before .before .analyse .ensures shape gains) _ (sym (c .before .before .accepted .ensures) ∙ not-false _ (c .before .if1 .left)) (c .if2 .taken)
 
 write-plan-requires : tie.Need-write-plan-requires
 write-plan-requires c κs = search needs
@@ -35,7 +35,7 @@ same-length c = search needs
 
 returns-3 : tie.Need-returns-3
 returns-3 c shape gains =
-    let analysed = c .before .before .before .before .before .before .before .before .before .before .before .before .before .analyse .ensures shape in
+    let analysed = c .before .before .before .before .before .before .before .before .before .before .before .before .before .analyse .ensures shape gains in
     let accepted = sym (c .before .before .before .before .before .before .before .before .before .before .before .before .accepted .ensures) ∙ not-false _ (c .before .before .before .before .before .before .before .before .before .before .before .if1 .left) in
     plan-written analysed _ accepted (c .before .before .before .before .before .before .before .before .before .before .if2 .left) (c .before .before .write-plan .ensures (plannable analysed (search needs) shape gains accepted))
 

@@ -19,22 +19,22 @@ accepted-requires : tie.Need-accepted-requires
 accepted-requires c κs = search needs
 
 returns : tie.Need-returns
-returns c shape gains os long map = starts-passed (c .before .before .analyse .ensures shape) os _ _ (sym (c .before .accepted .ensures) ∙ not-true _ (c .if1 .taken))
+returns c shape gains os long map = starts-passed (c .before .before .analyse .ensures shape gains) os _ _ (sym (c .before .accepted .ensures) ∙ not-true _ (c .if1 .taken))
 
 delays-bad-requires : tie.Need-delays-bad-requires
 delays-bad-requires c κs = search needs
 
 returns-2 : tie.Need-returns-2
-returns-2 c shape gains os long map = starts-wrong (c .before .before .before .before .analyse .ensures shape) os _ _ (sym (c .before .before .before .accepted .ensures) ∙ not-false _ (c .before .before .if1 .left)) (sym (c .before .delays-bad .ensures .wrong os long map) ∙ c .if2 .taken)
+returns-2 c shape gains os long map = starts-wrong (c .before .before .before .before .analyse .ensures shape gains) os _ _ (sym (c .before .before .before .accepted .ensures) ∙ not-false _ (c .before .before .if1 .left)) (sym (c .before .delays-bad .ensures .wrong os long map) ∙ c .if2 .taken)
 
 returns-3 : tie.Need-returns-3
 returns-3 c shape gains os long map =
-    let analysed = c .before .before .before .before .before .analyse .ensures shape in
+    let analysed = c .before .before .before .before .before .analyse .ensures shape gains in
     starts-short analysed os _ _ (sym (c .before .before .before .before .accepted .ensures) ∙ not-false _ (c .before .before .before .if1 .left)) (sym (c .before .before .delays-bad .ensures .wrong os long map) ∙ c .before .if2 .left) (list-short analysed os _ _ (c .if3 .taken))
 
 returns-4 : tie.Need-returns-4
 returns-4 c shape gains os long map =
-    let analysed = c .before .before .before .before .before .before .analyse .ensures shape in
+    let analysed = c .before .before .before .before .before .before .analyse .ensures shape gains in
     starts-short analysed os _ _ (sym (c .before .before .before .before .before .accepted .ensures) ∙ not-false _ (c .before .before .before .before .if1 .left)) (sym (c .before .before .before .delays-bad .ensures .wrong os long map) ∙ c .before .before .if2 .left) (out-short analysed os _ _ (c .if4 .taken))
 
 write-starts-requires : tie.Need-write-starts-requires
@@ -45,7 +45,7 @@ same-length c = search needs
 
 returns-5 : tie.Need-returns-5
 returns-5 c shape gains os long map =
-    let analysed = c .before .before .before .before .before .before .before .before .before .before .before .before .before .before .before .before .analyse .ensures shape in
+    let analysed = c .before .before .before .before .before .before .before .before .before .before .before .before .before .before .before .before .analyse .ensures shape gains in
     let accepted = sym (c .before .before .before .before .before .before .before .before .before .before .before .before .before .before .before .accepted .ensures) ∙ not-false _ (c .before .before .before .before .before .before .before .before .before .before .before .before .before .before .if1 .left) in
     let right = sym (c .before .before .before .before .before .before .before .before .before .before .before .before .before .delays-bad .ensures .wrong os long map) ∙ c .before .before .before .before .before .before .before .before .before .before .before .before .if2 .left in
     starts-written analysed os _ _ accepted right (c .before .before .before .before .before .before .before .before .before .before .before .if3 .left) (c .before .before .before .before .before .before .before .before .before .before .if4 .left)

@@ -24,7 +24,7 @@ same-length c = search needs
 returns : tie.Need-returns
 returns c p =
     c .before .before .fill-plan .ensures .plan _
-    (plannable-holds (search needs) p (c .before .before .before .before .before .before .before .walks .ensures) (c .before .before .before .before .before .before .with-source .ensures))
+    (plannable-holds (c .before .before .before .before .before .before .before .walks .result) (search needs) p (c .before .before .before .before .before .before .before .walks .ensures .1) (c .before .before .before .before .before .before .with-source .ensures))
 
 pub write-plan-spec : {M : Type 1} → statement M
 write-plan-spec =

@@ -27,8 +27,8 @@ returns : tie.Need-returns
 returns c p os long right =
     let few : c .before .before .before .before .before .before .before .before .before .before .before .args .n ≤ 64 = search needs in
     c .before .before .fill-starts .ensures .times _
-    (plannable-holds few p (c .before .before .before .before .before .before .before .walks .ensures) (c .before .before .before .before .before .before .with-source .ensures))
-    (plan-starts-fit (p .well) (p .gains) few os _ long (search needs) right)
+    (plannable-holds (c .before .before .before .before .before .before .before .walks .result) few p (c .before .before .before .before .before .before .before .walks .ensures .1) (c .before .before .before .before .before .before .with-source .ensures))
+    (plan-starts-fit (p .well) (p .serial) (p .gains) few os _ long (search needs) right)
 
 pub write-starts-spec : {M : Type 1} → statement M
 write-starts-spec =

@@ -1,35 +1,18 @@
--- `reach::handed` meets its contract, branch by branch. Assumes nothing.
-use mathlib.Core.Path.{_∙_, sym}
-use Rattle.reach.proofs.Turns.{handed-anchor, handed-source, handed-uncounted}
+-- `reach::handed` meets its contract: bit by bit. Assumes nothing.
+use Rattle.reach.proofs.Turns.{handed-usable}
 use borrow.Author.Needs.{needs}
 use Rattle.edges.specs.Words.{unpack}
 use Rattle.reach.proofs.handed.Statement.{statement}
 use Rattle.reach.proofs.handed.Tie as tie
 
-edge-from-requires : tie.Need-edge-from-requires
-edge-from-requires c κs = search needs
+begun-requires : tie.Need-begun-requires
+begun-requires c κs = search needs
 
-is-counted-requires : tie.Need-is-counted-requires
-is-counted-requires c κs = search needs
-
-insert-requires : tie.Need-insert-requires
-insert-requires c κs = search needs
+usable-by-requires : tie.Need-usable-by-requires
+usable-by-requires c κs = search needs
 
 returns : tie.Need-returns
-returns c =
-    handed-anchor _ _ _ (unpack (c .before .before .before .before .before .args .w))
-    (sym (c .before .before .before .is-counted .ensures) ∙ c .before .before .if1 .taken)
-    (c .before .before .before .before .edge-from .ensures .0)
-    (c .before .if2 .taken)
-    (c .insert .ensures)
-
-returns-2 : tie.Need-returns-2
-returns-2 c = handed-source _ _ _ (c .before .before .before .edge-from .ensures .0) (c .if2 .left)
-
-returns-3 : tie.Need-returns-3
-returns-3 c = handed-uncounted _ (unpack (c .before .before .before .args .w)) (sym (c .before .is-counted .ensures) ∙ c .if1 .left)
+returns c = handed-usable _ _ _ (unpack (c .before .before .args .w)) (c .before .begun .ensures) (c .usable-by .ensures)
 
 pub handed-spec : {M : Type 1} → statement M
-handed-spec =
-    tie.close
-    (tie.spec edge-from-requires is-counted-requires insert-requires returns returns-2 returns-3)
+handed-spec = tie.close (tie.spec begun-requires usable-by-requires returns)

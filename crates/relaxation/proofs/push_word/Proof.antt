@@ -14,57 +14,50 @@ use Rattle.edges.proofs.edge_loss.Reads as edge-loss-reads
 use Rattle.edges.proofs.edge_to.Reads as edge-to-reads
 use Rattle.relaxation.proofs.relax.Reads as relax-reads
 
--- src/lib.rt:80:9
 edge-from-requires : tie.Need-edge-from-requires
 edge-from-requires c κs = search needs
 
--- src/lib.rt:81:9
 edge-to-requires : tie.Need-edge-to-requires
 edge-to-requires c κs = search needs
 
--- src/lib.rt:82:9
 edge-gain-requires : tie.Need-edge-gain-requires
 edge-gain-requires c κs = search needs
 
--- src/lib.rt:83:9
 edge-loss-requires : tie.Need-edge-loss-requires
 edge-loss-requires c κs = search needs
 
--- src/lib.rt:84:9
+usable-by-requires : tie.Need-usable-by-requires
+usable-by-requires c κs = search needs
+
 relax-requires : tie.Need-relax-requires
 relax-requires c κs = search needs
 
--- src/lib.rt:85:30
 mul-union : tie.Need-mul-union
 mul-union c = search needs
 
--- src/lib.rt:85:30
 element-copy-out-union : tie.Need-element-copy-out-union
 element-copy-out-union c = search needs
 
--- src/lib.rt:85:9
 union-requires : tie.Need-union-requires
 union-requires c κs = search needs
 
--- src/lib.rt:86:5
 mul-fresh : tie.Need-mul-fresh
 mul-fresh c = search needs
 
--- src/lib.rt:86:5
 element-write-fresh : tie.Need-element-write-fresh
 element-write-fresh c = search needs
 
--- src/lib.rt:76:1
 returns : tie.Need-returns
 returns c =
-    let s = c .before .before .before .before .before .before .before .before in
-    let to = c .before .before .before .before .before .before .edge-to in
+    let s = c .before .before .before .before .before .before .before .before .before in
+    let to = c .before .before .before .before .before .before .before .edge-to in
     handed-word
-    (unpack (s .args .w)) _ _ _ _ _ _ _
+    (unpack (s .args .w)) _ _ _ _ _ _ _ _
     (to .ensures .0)
     (s .pre .1)
     (to .ensures .1)
-    (c .before .before .relax .ensures (unpack (s .args .w)) (sym (c .before .before .before .before .before .before .before .edge-from .ensures .0)) (sym (to .ensures .0)) (sym (c .before .before .before .before .before .edge-gain .ensures .0)) (sym (c .before .before .before .before .edge-loss .ensures .0)))
+    (c .before .before .before .before .usable-by .ensures)
+    (c .before .before .relax .ensures (unpack (s .args .w)) (sym (c .before .before .before .before .before .before .before .before .edge-from .ensures .0)) (sym (to .ensures .0)) (sym (c .before .before .before .before .before .before .edge-gain .ensures .0)) (sym (c .before .before .before .before .before .edge-loss .ensures .0)))
     (c .union .ensures)
 
 pub push-word-spec : {M : Type 1} → statement M
@@ -75,6 +68,7 @@ push-word-spec =
     edge-to-requires
     edge-gain-requires
     edge-loss-requires
+    usable-by-requires
     relax-requires
     mul-union
     element-copy-out-union

@@ -4,6 +4,7 @@ use mathlib.Core.Bool.{not, _&&_}
 use Prim.Native.Nat.{ℕ, _-_, _≤_}
 use lib.Dec.{eqb}
 use lib.ListN.{length, getD, take}
+use Rattle.definitions.specs.Links.{late-into}
 use Rattle.edges.specs.Words.{unpack, graph}
 use Rattle.relations.specs.Rows.{row-bit, Gathered}
 use Rattle.relations.proofs.Gathering.{pass-none, pass-more, pass-all}
@@ -80,7 +81,7 @@ loop-again c =
     let to = c .before .before .before .edge-to in
     let from = c .before .before .before .before .edge-from in (
       omega arith,
-      pass-more (holds-up reach sets) unpack es (s .loop .k) 0 (to .result) (c .with-waits .result) (λ a. e .back && (row-bit reach (from .result) a && not (row-bit sets (to .result) a))) (search needs) (s .loop .inv .1) (to .ensures .1) (c .with-waits .ensures) (λ i a. ap₂ (λ (x y : ℕ). eqb i x && (e .back && (row-bit reach y a && not (row-bit sets x a)))) (sym (to .ensures .0)) (sym (from .ensures .0))),
+      pass-more (holds-up reach sets) unpack es (s .loop .k) 0 (to .result) (c .with-waits .result) (λ a. e .back && (row-bit reach (from .result) a && not (late-into a e) && not (row-bit sets (to .result) a))) (search needs) (s .loop .inv .1) (to .ensures .1) (c .with-waits .ensures) (λ i a. ap₂ (λ (x y : ℕ). eqb i x && (e .back && (row-bit reach y a && not (late-into a e) && not (row-bit sets x a)))) (sym (to .ensures .0)) (sym (from .ensures .0))),
     )
 
 returns : tie.Need-returns Inv-loop μ-loop

@@ -1,0 +1,12 @@
+-- `edges::is_late` meets its contract: the digits of the word, as `unpack` takes them.
+use borrow.Author.Needs.{needs}
+use Rattle.edges.specs.Words.{unpack}
+use Rattle.edges.proofs.is_late.Statement.{statement}
+use Rattle.edges.proofs.is_late.Tie as tie
+
+returns : tie.Need-returns
+unfolding unpack
+returns c = search needs
+
+pub is-late-spec : {M : Type 1} → statement M
+is-late-spec = tie.close (tie.spec returns)

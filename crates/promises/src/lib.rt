@@ -1,0 +1,1 @@
+// The demands of what the planner returns: theorems alone, in specs/ and proofs/.

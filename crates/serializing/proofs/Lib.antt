@@ -1,0 +1,2 @@
+pub mod Waited
+pub mod Trying

@@ -1,0 +1,108 @@
+-- The edges that a walk counted from the end of a may use: all but the late returns into a. They are a graph of their own for each anchor, with the same chains and the same anchor sets.
+use mathlib.Core.Path.{_∙_, _≡_, ap, ap₂, refl, sym}
+use mathlib.Core.Bool.{Bool, cond, false, true, true≢false}
+use mathlib.Core.Logic.{_↔_, _⊎_, inl, inr}
+use mathlib.Core.List.{List, List·Memᴰ, List·Memᴰ·append-cases, List·Memᴰ·cases-cons, List·Memᴰ·eq-of-singleton, List·Memᴰ·head, List·Memᴰ·not-nil, List·Memᴰ·tail, Memᴰ·append-left, Memᴰ·append-right, [], _++_, _∷_}
+use Prim.Native.Nat.{ℕ}
+use lib.Dec.{eqb}
+use borrow.Author.Tests.{eq-eqb, eqb-true}
+use Rattle.definitions.specs.Anchors.{InAnchorSet, WellPosed, chain, is-source}
+use Rattle.definitions.specs.Links.{After, Edge, Forward, Graph, LateInto, UsableFrom, _⊑_, late-into, members, usable}
+use Rattle.laws.proofs.Bools.{and-join, and-split, both-ways, not-passing, test-decides}
+use Rattle.theory.specs.Graphs.{Acyclic, Carries, Consistent, NonPositive, Shape, Timely}
+use Rattle.theory.proofs.Walks.{after-mono, member-mono, some-after, walk-mono}
+
+-- The test of a late return is the relation.
+pub late-into-iff : (e : Edge) (a : ℕ) → (late-into a e ≡ true) ↔ LateInto e a
+unfolding late-into
+late-into-iff e a = (λ h. let r = and-split (e .late) (eqb (e .to) a) h in (r .0, eqb-true (e .to) a (r .1)), λ i. and-join (i .0) (eq-eqb (e .to) a (i .1)))
+
+pub dec-late-into : (e : Edge) (a : ℕ) → Dec (LateInto e a)
+dec-late-into e a = test-decides (late-into-iff e a)
+
+pub usable-sub : (E : Graph) (a : ℕ) → UsableFrom E a ⊑ E
+usable-sub E a e m = m .0
+
+-- The edges of the list that walks from the end of a may use are those of its graph.
+pub usable-members : (es : List Edge) (a : ℕ) → UsableFrom (members es) a ⊑ members (usable es a)
+unfolding usable
+usable-members [] a e m = absurd (List·Memᴰ·not-nil (m .0))
+usable-members (x ∷ es) a e m = go (List·Memᴰ·cases-cons (m .0)) (λ i. usable-members es a e (i, m .1))
+  where
+    kept : (b : Bool) → b ≡ false → e ≡ x → List·Memᴰ e (cond b [] (x ∷ []))
+    kept true h q = absurd (true≢false h)
+    kept false h q = List·Memᴰ·head q
+
+    go : (e ≡ x) ⊎ List·Memᴰ e es → (List·Memᴰ e es → List·Memᴰ e (usable es a)) → List·Memᴰ e (cond (late-into a x) [] (x ∷ []) ++ usable es a)
+    go (inl h) below =
+        Memᴰ·append-left (usable es a) (kept (late-into a x) (ap (late-into a) (sym h) ∙ not-passing (late-into a e) (λ t. m .1 (late-into-iff e a .0 t))) h)
+    go (inr i) below = Memᴰ·append-right (cond (late-into a x) [] (x ∷ [])) (below i)
+
+pub members-usable : (es : List Edge) (a : ℕ) → members (usable es a) ⊑ UsableFrom (members es) a
+unfolding usable
+members-usable [] a e m = absurd (List·Memᴰ·not-nil m)
+members-usable (x ∷ es) a e m = go (List·Memᴰ·append-cases (cond (late-into a x) [] (x ∷ [])) m) (members-usable es a e)
+  where
+    kept : (b : Bool) → List·Memᴰ e (cond b [] (x ∷ [])) → (b ≡ false) × (e ≡ x)
+    kept true i = absurd (List·Memᴰ·not-nil i)
+    kept false i = (refl, List·Memᴰ·eq-of-singleton i)
+
+    go : List·Memᴰ e (cond (late-into a x) [] (x ∷ [])) ⊎ List·Memᴰ e (usable es a) → (List·Memᴰ e (usable es a) → UsableFrom (members es) a e) → UsableFrom (members (x ∷ es)) a e
+    go (inl i) below = let r = kept (late-into a x) i in (List·Memᴰ·head (r .1), λ l. both-ways (late-into-iff e a .1 l) (ap (late-into a) (r .1) ∙ r .0))
+    go (inr i) below = let r = below i in (List·Memᴰ·tail (r .0), r .1)
+
+module _ {n : ℕ} {E : Graph} (shape : Shape n E) where
+  -- Forward edges are never late, and so are usable from everywhere.
+  pub forward-usable : (a : ℕ) (e : Edge) → E e → e .back ≡ false → ¬ LateInto e a
+  forward-usable a e m b i = both-ways (i .0) (shape .forward-timely e m b)
+
+  pub forwards-usable : (a : ℕ) → Forward E ⊑ Forward (UsableFrom E a)
+  forwards-usable a e m = ((m .0, forward-usable a e (m .0) (m .1)), m .1)
+
+  pub usable-shape : (a : ℕ) → Shape n (UsableFrom E a)
+  usable-shape a =
+      record { from-below = λ e m. shape .from-below e (m .0); to-below = λ e m. shape .to-below e (m .0); back-uncounted = λ e m. shape .back-uncounted e (m .0); forward-lossless = λ e m. shape .forward-lossless e (m .0); forward-timely = λ e m. shape .forward-timely e (m .0) }
+
+  -- So anchor sets are the same over them.
+  pub member-usable : {a v : ℕ} (b : ℕ) → InAnchorSet E a v → InAnchorSet (UsableFrom E b) a v
+  member-usable b (is-source h) = is-source h
+  member-usable b (chain c) = chain (some-after (after-mono (forwards-usable b) (c .walk)))
+
+  pub usable-member : {a v : ℕ} (b : ℕ) → InAnchorSet (UsableFrom E b) a v → InAnchorSet E a v
+  usable-member b i = member-mono (usable-sub E b) i
+
+  -- In a well-posed graph every return that the end of a may use carries a on.
+  pub carries-usable : WellPosed E → (a : ℕ) → Carries (UsableFrom E a) a
+  carries-usable posed a e m b i = go (posed a e (m .0) b (usable-member a i))
+    where
+      go : InAnchorSet E a (e .to) ⊎ LateInto e a → InAnchorSet (UsableFrom E a) a (e .to)
+      go (inl j) = member-usable a j
+      go (inr j) = absurd (m .1 j)
+
+  -- A chain is a walk from the end of its first step; so where no step waits for its own end, none comes before itself.
+  pub chain-usable : {a v : ℕ} → After (Forward E) a v → After (UsableFrom E a) a v
+  chain-usable {a} w = some-after (after-mono (λ e m. forwards-usable a e m .0) (w .walk))
+
+  pub consistent-acyclic : Consistent E → Acyclic (Forward E)
+  consistent-acyclic consistent a w = consistent a (chain-usable w)
+
+-- The same of the list.
+pub usable-list-shape : {n : ℕ} {es : List Edge} → Shape n (members es) → (a : ℕ) → Shape n (members (usable es a))
+usable-list-shape {n} {es} shape a =
+    record { from-below = λ e m. shape .from-below e (members-usable es a e m .0); to-below = λ e m. shape .to-below e (members-usable es a e m .0); back-uncounted = λ e m. shape .back-uncounted e (members-usable es a e m .0); forward-lossless = λ e m. shape .forward-lossless e (members-usable es a e m .0); forward-timely = λ e m. shape .forward-timely e (members-usable es a e m .0) }
+
+pub carries-list : {n : ℕ} {es : List Edge} → Shape n (members es) → WellPosed (members es) → (a : ℕ) → Carries (members (usable es a)) a
+carries-list {n} {es} shape posed a e m b i =
+    member-mono (usable-members es a) (carries-usable shape posed a e (members-usable es a e m) b (member-mono (members-usable es a) i))
+
+pub nonpositive-mono : {E F : Graph} → E ⊑ F → NonPositive F → NonPositive E
+nonpositive-mono i never = record { closed = λ w. never .closed (walk-mono i w) }
+
+-- Where no return is late nothing is left out.
+pub timely-usable : {E : Graph} → Timely E → (a : ℕ) → E ⊑ UsableFrom E a
+timely-usable timely a e m = (m, λ i. both-ways (i .0) (timely e m))
+
+pub usable-timely : (es : List Edge) (a : ℕ) → Timely (members es) → usable es a ≡ es
+unfolding usable
+usable-timely [] a timely = refl
+usable-timely (e ∷ es) a timely = ap₂ (λ (b : Bool) (l : List Edge). cond b [] (e ∷ []) ++ l) (not-passing (late-into a e) (λ t. both-ways (late-into-iff e a .0 t .0) (timely e (List·Memᴰ·head refl)))) (usable-timely es a (λ x m. timely x (List·Memᴰ·tail m)))
