@@ -1,2 +1,3 @@
 pub mod Laws
 pub mod Linking
+pub mod Following

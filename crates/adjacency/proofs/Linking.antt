@@ -3,33 +3,42 @@ use mathlib.Core.Path.{_≡_, sym, ap, _∙_}
 use mathlib.Core.Bool.{cond}
 use mathlib.Core.List.{List}
 use mathlib.Core.Logic.{_⊎_, inl, inr, _≢_}
-use Prim.Native.Nat.{ℕ, suc, _+_, _<_}
+use Prim.Native.Nat.{ℕ, suc, _+_, _<_, _≤_}
 use native.Mathlib.Omega.{arith}
 use native.Mathlib.Numerals.{add-one}
 use lib.Dec.{eqb}
-use lib.ListN.{length, getD, set, replicate, getD-replicate, length-replicate, length-set}
+use lib.ListN.{length, getD, set, replicate, getD-replicate, length-set}
 use lib.Seq.{getD-set-same, getD-set-other}
 use borrow.Author.Tests.{eq-eqb, ne-eqb}
 use Rattle.edges.specs.Words.{unpack}
 use Rattle.edges.proofs.Digits.{from-small}
 use Rattle.laws.proofs.Bools.{same-or-not, cond-true, cond-false}
-use Rattle.adjacency.specs.Lists.{last-from, Lists, put-first}
+use Rattle.adjacency.specs.Lists.{Empty, last-from, Lists, put-first}
 
 -- The lists of the first k words.
 pub record Linked (es lists : List ℕ) (k : ℕ) : Type 0 where
-  pub long : length lists ≡ 2112
+  pub long : 64 + length es ≤ length lists
   pub heads : (u : ℕ) → u < 64 → getD lists u 0 ≡ last-from es u k
   pub nexts : (i : ℕ) → i < k → getD lists (64 + i) 0 ≡ last-from es (unpack (getD es i 0) .from) i
 
-pub linked-none : (es : List ℕ) → Linked es (replicate 2112 0) 0
+-- Numbers that are all 0 hold no list.
+pub zeros-empty : (k : ℕ) → 64 ≤ k → Empty (replicate k 0)
+zeros-empty k h u b = getD-replicate {A = ℕ} k u 0 0 (omega arith)
+
+pub linked-none : {es lists : List ℕ} → 64 + length es ≤ length lists → Empty lists → Linked es lists 0
 unfolding last-from
-linked-none es = record { long = length-replicate {A = ℕ} 2112 0; heads = λ u b. getD-replicate {A = ℕ} 2112 u 0 0 (omega arith); nexts = λ i b. absurd (let f : ⊥ = omega arith in f) }
+linked-none long empty = record { long = long; heads = empty; nexts = λ i b. absurd (let f : ⊥ = omega arith in f) }
+
+-- Nothing is added to the numbers that hold the lists.
+pub first-length : (lists : List ℕ) (from k : ℕ) → length (put-first lists from k) ≡ length lists
+unfolding put-first
+first-length lists from k = length-set (set lists (64 + k) (getD lists from 0)) from (k + 1) ∙ length-set lists (64 + k) (getD lists from 0)
 
 last-more : (es : List ℕ) (u k : ℕ) → last-from es u (k + 1) ≡ cond (eqb (unpack (getD es k 0) .from) u) (suc k) (last-from es u k)
 unfolding last-from
 last-more es u k = ap (last-from es u) (add-one k)
 
-module _ (es lists : List ℕ) (k from : ℕ) (small : k < 2048) (start : from ≡ unpack (getD es k 0) .from) (L : Linked es lists k) where
+module _ (es lists : List ℕ) (k from : ℕ) (small : k < length es) (start : from ≡ unpack (getD es k 0) .from) (L : Linked es lists k) where
   low : from < 64
   low = rw start (from-small (getD es k 0))
 
@@ -63,7 +72,7 @@ module _ (es lists : List ℕ) (k from : ℕ) (small : k < 2048) (start : from �
   pub linked-more : Linked es (put-first lists from k) (k + 1)
   unfolding put-first
   linked-more =
-      record { long = length-set (set lists (64 + k) (getD lists from 0)) from (k + 1) ∙ length-set lists (64 + k) (getD lists from 0) ∙ L .long; heads = λ u b. head-more u b (same-or-not u from); nexts = λ i b. next-more i b (same-or-not i k) }
+      record { long = omega (arith, L .long, first-length lists from k); heads = λ u b. head-more u b (same-or-not u from); nexts = λ i b. next-more i b (same-or-not i k) }
 
 pub linked-all : (es lists : List ℕ) (k : ℕ) → k ≡ length es → Linked es lists k → Lists es lists
-linked-all es lists k e L = record { heads = λ u b. L .heads u b ∙ ap (last-from es u) e; nexts = λ i b. L .nexts i (omega arith) }
+linked-all es lists k e L = record { heads = λ u b. L .heads u b ∙ ap (last-from es u) e; nexts = λ i b. L .nexts i (omega arith); long = L .long }

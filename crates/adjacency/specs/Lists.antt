@@ -3,7 +3,7 @@
 use mathlib.Core.Path.{_≡_}
 use mathlib.Core.Bool.{cond}
 use mathlib.Core.List.{List}
-use Prim.Native.Nat.{ℕ, zero, suc, _+_, _<_}
+use Prim.Native.Nat.{ℕ, zero, suc, _+_, _<_, _≤_}
 use lib.Dec.{eqb}
 use lib.ListN.{length, getD, set}
 use Rattle.edges.specs.Words.{unpack}
@@ -17,6 +17,11 @@ last-from es u (suc k) = cond (eqb (unpack (getD es k 0) .from) u) (suc k) (last
 pub record Lists (es lists : List ℕ) : Type 0 where
   pub heads : (u : ℕ) → u < 64 → getD lists u 0 ≡ last-from es u (length es)
   pub nexts : (i : ℕ) → i < length es → getD lists (64 + i) 0 ≡ last-from es (unpack (getD es i 0) .from) i
+  pub long : 64 + length es ≤ length lists
+
+-- No step's list has an edge yet.
+abbrev pub Empty : List ℕ → Type 0
+Empty lists = (u : ℕ) → u < 64 → getD lists u 0 ≡ 0
 
 -- Edge k put before the list of the step that it leaves.
 unfoldable pub put-first : List ℕ → ℕ → ℕ → List ℕ

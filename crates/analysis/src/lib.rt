@@ -13,6 +13,7 @@ ghost use Rattle.definitions.specs.Links.{Edge, members};
 ghost use Rattle.definitions.specs.Numbers.{status-of, verdict-of};
 ghost use Rattle.definitions.specs.Waits.{wait-count, wait-maps};
 ghost use Rattle.definitions.specs.declared.Verdict.the-variants.{Refused};
+ghost use Rattle.adjacency.specs.Lists.{Lists};
 ghost use Rattle.edges.specs.Words.{graph};
 ghost use Rattle.theory.specs.Graphs.{ForwardAcyclic, Gains, Shape, Well};
 ghost use Rattle.waits.specs.Reaching.{Reaches};
@@ -41,8 +42,8 @@ fn refused_analysis(k: Refusal) -> Analysis
 }
 
 // Refusals 8, 9 and 10.
-fn first_fault(es: &[u64], closed: &[u64; 64], order: &[u8; 64], n: usize) -> Status
-    requires { ⌜ (1 ≤ n) × (n ≤ 64) × (length (now es) ≤ 2048) ⌝ }
+fn first_fault(es: &[u64], lists: &[u16], closed: &[u64; 64], order: &[u8; 64], n: usize) -> Status
+    requires { ⌜ (1 ≤ n) × (n ≤ 64) × (length (now es) ≤ 2048) × Lists (now es) (now lists) ⌝ }
     ensures { λ r. ⌜ (Closed n (graph (now (es .entry))) (now (closed .entry)) → status-of r tt ≡ judge-first n (graph (now (es .entry)))) ⌝ }
 {
     if precedence::has_cycle(closed, n) {
@@ -51,7 +52,7 @@ fn first_fault(es: &[u64], closed: &[u64; 64], order: &[u8; 64], n: usize) -> St
     if precedence::has_unreached(closed, n) {
         return Status::Refused(Refusal::Unreachable);
     }
-    if !feasibility::feasible(es, order, n) {
+    if !feasibility::feasible(es, lists, order, n) {
         return Status::Refused(Refusal::Infeasible);
     }
     Status::Done
@@ -81,28 +82,42 @@ fn waits_from(es: &[u64], closed: &[u64; 64], reach: &[u64; 64], n: usize) -> [u
 }
 
 // Refusal 28: waits are needed and cannot be put in.
-fn waits_clash(es: &[u64], maps: &[u64; 64], count: u32, order: &[u8; 64], n: usize) -> bool
-    requires { ⌜ (1 ≤ n) × (n ≤ 64) × (length (now es) ≤ 2048) ⌝ }
+fn waits_clash(
+    es: &[u64],
+    lists: &[u16],
+    maps: &[u64; 64],
+    count: u32,
+    order: &[u8; 64],
+    n: usize,
+) -> bool
+    requires { ⌜ (1 ≤ n) × (n ≤ 64) × (length (now es) ≤ 2048) × Lists (now es) (now lists) ⌝ }
     ensures { λ r. ⌜ (Well n (members (graph (now (es .entry)))) → ForwardAcyclic (members (graph (now (es .entry)))) → Gains (members (graph (now (es .entry)))) 65535 → now (maps .entry) ≡ wait-maps n (graph (now (es .entry))) → count ≡ wait-count n (graph (now (es .entry))) → r ≡ unserializable n (graph (now (es .entry)))) ⌝ }
 {
     if count == 0 {
         return false;
     }
-    !serializing::can_serialize(es, maps, order, n)
+    !serializing::can_serialize(es, lists, maps, order, n)
 }
 
 // The analysis from refusal 11 on.
-fn serialize(es: &[u64], closed: &[u64; 64], order: [u8; 64], n: usize, allow: bool) -> Analysis
-    requires { ⌜ (1 ≤ n) × (n ≤ 64) × (length (now es) ≤ 2048) ⌝ }
+fn serialize(
+    es: &[u64],
+    lists: &[u16],
+    closed: &[u64; 64],
+    order: [u8; 64],
+    n: usize,
+    allow: bool,
+) -> Analysis
+    requires { ⌜ (1 ≤ n) × (n ≤ 64) × (length (now es) ≤ 2048) × Lists (now es) (now lists) ⌝ }
     ensures { λ r. ⌜ (Closed n (graph (now (es .entry))) (now (closed .entry)) → Gains (members (graph (now (es .entry)))) 65535 → judge-first n (graph (now (es .entry))) ≡ given tt → Serialized n (graph (now (es .entry))) allow r) ⌝ }
 {
-    let reach = reach::reach(es, n);
+    let reach = reach::reach(es, lists, &order, n);
     if waits::is_inconsistent(&reach, n) {
         return refused_analysis(Refusal::Inconsistent);
     }
     let maps = waits_from(es, closed, &reach, n);
     let count = waits::count_waits(&maps, n);
-    if waits_clash(es, &maps, count, &order, n) {
+    if waits_clash(es, lists, &maps, count, &order, n) {
         return refused_analysis(Refusal::Unserializable);
     }
     let verdict = waits_verdict(count, allow);
@@ -115,15 +130,25 @@ fn serialize(es: &[u64], closed: &[u64; 64], order: [u8; 64], n: usize, allow: b
     }
 }
 
-// The analysis of the edges of a sheet of n steps.
-pub fn analyse(es: &[u64], n: usize, allow: bool) -> Analysis
-    requires { ⌜ (1 ≤ n) × (n ≤ 64) × (length (now es) ≤ 2048) ⌝ }
+// The analysis of the edges of a sheet of n steps, with their adjacency lists.
+pub fn analyse(es: &[u64], lists: &[u16], n: usize, allow: bool) -> Analysis
+    requires { ⌜ (1 ≤ n) × (n ≤ 64) × (length (now es) ≤ 2048) × Lists (now es) (now lists) ⌝ }
     ensures { λ r. ⌜ (Shape n (members (graph (now (es .entry)))) → Gains (members (graph (now (es .entry)))) 65535 → Analysed n (graph (now (es .entry))) allow r) ⌝ }
 {
     let closed = precedence::forward(es, n);
     let order = order::order(&closed, n);
-    match first_fault(es, &closed, &order, n) {
+    match first_fault(es, lists, &closed, &order, n) {
         Status::Refused(k) => refused_analysis(k),
-        Status::Done => serialize(es, &closed, order, n, allow),
+        Status::Done => serialize(es, lists, &closed, order, n, allow),
     }
+}
+
+// The same, where the lists are still to be made.
+pub fn analyse_edges(es: &[u64], n: usize, allow: bool) -> Analysis
+    requires { ⌜ (1 ≤ n) × (n ≤ 64) × (length (now es) ≤ 2048) ⌝ }
+    ensures { λ r. ⌜ (Shape n (members (graph (now (es .entry)))) → Gains (members (graph (now (es .entry)))) 65535 → Analysed n (graph (now (es .entry))) allow r) ⌝ }
+{
+    let mut lists = [0u16; 2112];
+    adjacency::list(es, &mut lists);
+    analyse(es, &lists, n, allow)
 }

@@ -61,7 +61,7 @@ fn anchor_row(before: u64, targets: &[u64; 64], map: u64) -> u64
         let a = bitmaps::lowest(left);
         let stands = bitmaps::meets(targets[a], before);
         row = bitmaps::insert_if(row, a, stands);
-        left = bitmaps::remove(left, a);
+        left = bitmaps::without_lowest(left);
     }
     row
 }

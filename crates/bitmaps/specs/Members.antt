@@ -9,3 +9,9 @@ pub record Lowest (m k : ℕ) : Type 0 where
   pub below : k < 64
   pub member : test-bit m k ≡ true
   pub least : (j : ℕ) → j < k → test-bit m j ≡ false
+
+-- k is the largest member of m.
+pub record Highest (m k : ℕ) : Type 0 where
+  pub below : k < 64
+  pub member : test-bit m k ≡ true
+  pub greatest : (j : ℕ) → k < j → test-bit m j ≡ false

@@ -5,7 +5,7 @@ ghost use Prim.Native.Nat.{ℕ, _<_};
 ghost use lib.Dec.{eqb};
 ghost use lib.ListN.{length};
 ghost use Rattle.definitions.specs.Basics.{any-below, select-below, test-bit};
-ghost use Rattle.bitmaps.specs.Members.{Lowest};
+ghost use Rattle.bitmaps.specs.Members.{Lowest, Highest};
 
 // Whether k is a member.
 pub fn has(m: u64, k: usize) -> bool
@@ -83,4 +83,20 @@ pub fn lowest(m: u64) -> usize
     ensures { λ r. ⌜ Lowest m r ⌝ }
 {
     u64::trailing_zeros(m) as usize
+}
+
+// A map that has members, without its smallest one.
+pub fn without_lowest(m: u64) -> u64
+    requires { ⌜ 0 < m ⌝ }
+    ensures { λ r. ⌜ ((k : ℕ) → Lowest m k → (j : ℕ) → test-bit r j ≡ (test-bit m j && not (eqb j k))) ⌝ }
+{
+    m & (m - 1)
+}
+
+// The largest member of a map that has one.
+pub fn highest(m: u64) -> usize
+    requires { ⌜ 0 < m ⌝ }
+    ensures { λ r. ⌜ Highest m r ⌝ }
+{
+    63 - (u64::leading_zeros(m) as usize)
 }

@@ -119,15 +119,3 @@ chained-end k n rows done c e =
     }
 
 -- ---- what callers use of a closure
-
--- No chain, no bit.
-pub no-chain : (n : ℕ) (rows closed : List ℕ) (u v : ℕ) → Closure n rows closed → v < n → (Chain (Linked rows) n u v → ⊥) → test-bit (getD closed v 0) u ≡ false
-no-chain n rows closed u v c h f = by (test-bit (getD closed v 0) u) refl
-  where
-    by : (t : Bool) → test-bit (getD closed v 0) u ≡ t → t ≡ false
-    by true e = absurd (f (c .to-chain u v h e))
-    by false e = refl
-
--- Closed rows are transitive, since chains join.
-pub closed-join : (n : ℕ) (rows closed : List ℕ) (u w v : ℕ) → Closure n rows closed → w < n → v < n → Linked closed u w → Linked closed w v → Linked closed u v
-closed-join n rows closed u w v c a b s t = c .from-chain u v b (chain-join (c .to-chain u w a s) a (c .to-chain w v b t))

@@ -11,7 +11,6 @@ use Rattle.definitions.specs.declared.Operation.{Operation}
 use Rattle.definitions.specs.declared.Bound.{Bound}
 use Rattle.definitions.specs.declared.Bound.the-variants.{Absent, Ticks}
 use Rattle.definitions.specs.declared.Link.{Link}
-use Rattle.definitions.specs.declared.Sheet.{Sheet}
 use Rattle.definitions.specs.declared.Previous.{Previous}
 use Rattle.definitions.specs.declared.Previous.the-variants.{Nothing, Pair}
 
@@ -148,16 +147,9 @@ sheet = do
 unfoldable pub read : List ℕ → Outcome Records
 read s = when-given (sheet s) (λ t. given (t .value))
 
--- A sheet as the struct holds it: the records, and blank ones behind them; on a refusal the blank sheet.
+-- Records as an array of fixed size holds them: blank ones behind them. What stands where no step does lasts 0 ticks.
 abbrev pub blank-operation : Operation
 blank-operation = record { delay = Fixed 0 }
 
-abbrev pub blank-link : Link
-blank-link = record { from = 0; to = 0; sequencing = false; minimum = Absent; maximum = Absent; latest = Absent }
-
 unfoldable pub padded : {A : Type 0} → ℕ → A → List A → List A
 padded size x xs = xs ++ replicate (size - length xs) x
-
-unfoldable pub held : Outcome Records → Sheet
-held (given q) = record { n = length (q .steps); operations = padded 64 blank-operation (q .steps); r = length (q .pairs); links = padded 512 blank-link (q .pairs) }
-held (refused k) = record { n = 0; operations = replicate 64 blank-operation; r = 0; links = replicate 512 blank-link }

@@ -33,14 +33,6 @@ pub enum Previous {
     Pair(u8, u8),
 }
 
-// A sheet as it is held: n operations and r links, the rest of both arrays blank.
-pub struct Sheet {
-    pub n: usize,
-    pub operations: [Operation; 64],
-    pub r: usize,
-    pub links: [Link; 512],
-}
-
 // The refusals 1 to 18, in their order; then those of later requests, 26 and 28.
 pub enum Refusal {
     Truncated,
@@ -72,15 +64,10 @@ pub enum Verdict {
     Refused(Refusal),
 }
 
-// What reading a sheet answers, and the sheet beside it: blank where it is refused.
+// What reading answers: all was read, and stands beside it; or the first fault.
 pub enum Reading {
     Whole,
     Refused(Refusal),
-}
-
-pub struct Report {
-    pub reading: Reading,
-    pub sheet: Sheet,
 }
 
 // The dispatcher's state (the runner's).

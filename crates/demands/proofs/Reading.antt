@@ -162,7 +162,6 @@ pub record Fits (q : Records) : Type 0 where
   pub source : delay-at (q .steps) 0 ≡ Open
   pub ticks : (i x : ℕ) → delay-at (q .steps) i ≡ Fixed x → x ≤ 65535
   pub links : (l : Link) → List·Memᴰ l (q .pairs) → LinkFits (length (q .steps)) l
-  pub few-links : length (q .pairs) ≤ 512
 
 first-open : (os : List Operation) → 1 ≤ length os → Row OperationFits (λ o. false) true os → delay-at os 0 ≡ Open
 unfolding delay-at
@@ -208,7 +207,7 @@ fits-by n r os ls hn hr O L =
     let low = leb-true 1 n (c .0) in
     let high = leb-true n 64 (c .1) in
     let most = leb-true r 512 hr in
-    record { some = omega (arith, O .0); few = omega (arith, O .0); source = first-open os (omega (arith, O .0)) (O .1); ticks = each-few os (O .1); links = λ l m. rw (O .0) (row-each (λ previous. LinkFits n) pair-of (LinkFits n) (λ state x h. h) Nothing ls (L .1) l m); few-links = omega (arith, L .0) }
+    record { some = omega (arith, O .0); few = omega (arith, O .0); source = first-open os (omega (arith, O .0)) (O .1); ticks = each-few os (O .1); links = λ l m. rw (O .0) (row-each (λ previous. LinkFits n) pair-of (LinkFits n) (λ state x h. h) Nothing ls (L .1) l m) }
 
 takes-sheet : Takes sheet Fits
 unfolding sheet

@@ -2,7 +2,6 @@
 use mathlib.Core.Path.{_≡_, sym, ap, _∙_}
 use mathlib.Core.Bool.{true}
 use mathlib.Core.List.{List, List·Memᴰ, Memᴰ·cast, Memᴰ·map, Memᴰ·of-map}
-use mathlib.Core.Logic.{_↔_}
 use Prim.Native.Nat.{ℕ, _<_}
 use native.Mathlib.Omega.{arith}
 use lib.ListN.{getD}
@@ -44,6 +43,3 @@ module _ (n : ℕ) (maps : List ℕ) where
       let s = Memᴰ·of-map (λ i. record { anchor = q .0; target = i }) (select-below (λ i. test-bit (getD maps i 0) (q .0)) n) (q .2) in
       let t = select-below-only (λ i. test-bit (getD maps i 0) (q .0)) n (s .1) in
       record { anchor = q .0; target = s .0; anchor-below = omega (arith, r .1, r .2); target-below = t .0; stands = t .1; same = sym (p .2) ∙ ap wait-edge (sym (s .2)) }
-
-  pub wait-edges-iff : (e : Edge) → List·Memᴰ e (wait-edges n maps) ↔ WaitBit n maps e
-  wait-edges-iff e = (wait-edges-only e, wait-edges-has e)

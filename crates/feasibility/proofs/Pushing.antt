@@ -11,6 +11,7 @@ use lib.Seq.{getD-set-same, getD-set-other}
 use borrow.Author.Tests.{eqb-true, eqb-false}
 use Rattle.adjacency.specs.Lists.{Lists, last-from}
 use Rattle.adjacency.proofs.Laws.{last-below, last-leaves, last-skips}
+use Rattle.adjacency.proofs.Following.{Behind, behind-mem, behind-split, mem-behind}
 use Rattle.definitions.specs.Basics.{test-bit}
 use Rattle.definitions.specs.Links.{Edge, Graph, _⊑_, members}
 use Rattle.definitions.specs.Rounds.{cell, extend}
@@ -18,7 +19,7 @@ use Rattle.edges.specs.Words.{graph, unpack}
 use Rattle.laws.proofs.Bools.{bool-cases, both-ways, or-left}
 use Rattle.relaxation.specs.Columns.{Handed, Only, Relaxed, cut-hand}
 use Rattle.relaxation.proofs.Raising.{used-on}
-use Rattle.sweeps.proofs.Handing.{Behind, behind-mem, behind-split, handed-both, mem-behind}
+use Rattle.sweeps.proofs.Handing.{handed-both}
 use Rattle.feasibility.specs.Search.{Grows, Pushed}
 
 or-new : (x y : Bool) → (x || y) ≡ true → x ≡ false → y ≡ true

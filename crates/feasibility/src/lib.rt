@@ -1,5 +1,4 @@
 // Whether no closed walk weighs more than 0: refusal 10. Sweeps from the source over one row of cells, until nothing is left to hand on or a walk that closes above 0 is found. See specs/Search.antt.
-use adjacency::lists;
 use edges::edge_from;
 use edges::edge_gain;
 use edges::edge_loss;
@@ -50,7 +49,7 @@ fn push_edges(
     via: &mut [usize; 64],
     marks: u64,
     es: &[u64],
-    lists: &[u16; 2112],
+    lists: &[u16],
     u: usize,
 ) -> u64
     requires { ⌜ (u < 64) × (length (now es) ≤ 2048) × Lists (now es) (now lists) × (length (now row) ≡ 64) × (length (now via) ≡ 64) ⌝ }
@@ -71,7 +70,7 @@ fn visit(
     via: &mut [usize; 64],
     marks: u64,
     es: &[u64],
-    lists: &[u16; 2112],
+    lists: &[u16],
     u: usize,
 ) -> u64
     requires { ⌜ (u < 64) × (length (now es) ≤ 2048) × Lists (now es) (now lists) × (length (now row) ≡ 64) × (length (now via) ≡ 64) ⌝ }
@@ -97,7 +96,7 @@ fn sweep_order(
     via: &mut [usize; 64],
     marks: u64,
     es: &[u64],
-    lists: &[u16; 2112],
+    lists: &[u16],
     order: &[u8; 64],
     n: usize,
 ) -> u64
@@ -120,7 +119,7 @@ fn sweep_down(
     via: &mut [usize; 64],
     marks: u64,
     es: &[u64],
-    lists: &[u16; 2112],
+    lists: &[u16],
     n: usize,
 ) -> u64
     requires { ⌜ (n ≤ 64) × (length (now es) ≤ 2048) × Lists (now es) (now lists) × (length (now row) ≡ 64) × (length (now via) ≡ 64) ⌝ }
@@ -141,7 +140,7 @@ fn sweep(
     via: &mut [usize; 64],
     marks: u64,
     es: &[u64],
-    lists: &[u16; 2112],
+    lists: &[u16],
     order: &[u8; 64],
     n: usize,
 ) -> u64
@@ -233,18 +232,17 @@ fn closes_above(es: &[u64], via: &[usize; 64], x: usize, n: usize) -> bool
 }
 
 // Whether start times keep every edge while no operation is delayed. The order decides speed alone.
-pub fn feasible(es: &[u64], order: &[u8; 64], n: usize) -> bool
-    requires { ⌜ (1 ≤ n) × (n ≤ 64) × (length (now es) ≤ 2048) ⌝ }
+pub fn feasible(es: &[u64], lists: &[u16], order: &[u8; 64], n: usize) -> bool
+    requires { ⌜ (1 ≤ n) × (n ≤ 64) × (length (now es) ≤ 2048) × Lists (now es) (now lists) ⌝ }
     ensures { λ r. ⌜ (Shape n (members (graph (now (es .entry)))) → Rooted n (members (graph (now (es .entry)))) → r ≡ stable (graph (now (es .entry))) (rounds (graph (now (es .entry))) n (source-row n 0))) ⌝ }
 {
-    let lists = lists(es);
     let mut row = [0u32; 64];
     row[0] = 1;
     let mut via = [0usize; 64];
     let mut marks = 1;
     let mut k = 0;
     while k <= n {
-        marks = sweep(&mut row, &mut via, marks, es, &lists, order, n);
+        marks = sweep(&mut row, &mut via, marks, es, lists, order, n);
         if marks == 0 {
             return uncut(&row, n);
         }

@@ -1,5 +1,4 @@
 // Heaviest walks for every anchor at once: sweeps over the steps of a sheet until nothing is left to hand on.
-use adjacency::lists;
 use relations::transpose;
 use seeding::seed_waits;
 use seeding::seed_words;
@@ -23,7 +22,7 @@ ghost use Rattle.theory.specs.Graphs.{Gains, Well};
 ghost use Rattle.heaviest.specs.Settling.{First, FirstMarks, SettlingAll, Within};
 
 // The empty walk at the source, and its mark.
-fn first_table() -> [[u32; 64]; 64]
+pub fn first_table() -> [[u32; 64]; 64]
     ensures { λ d. ⌜ First d ⌝ }
 {
     let mut d = [[0u32; 64]; 64];
@@ -59,7 +58,7 @@ fn settle(
     d: &mut [[u32; 64]; 64],
     fresh: &mut [u64; 64],
     es: &[u64],
-    lists: &[u16; 2112],
+    lists: &[u16],
     waiting: &[u64; 64],
     order: &[u8; 64],
     n: usize,
@@ -78,17 +77,21 @@ fn settle(
 }
 
 // At [v][a] the cell of step v for anchor a, over the edges and the waits that maps hold. The order decides speed alone.
-pub fn walks(es: &[u64], maps: &[u64; 64], order: &[u8; 64], n: usize) -> [[u32; 64]; 64]
-    requires { ⌜ (n ≤ 64) × (length (now es) ≤ 2048) ⌝ }
-    ensures square { λ d. ⌜ Square d ⌝ }
-    ensures cells { λ d. ⌜ (Within n (now (maps .entry)) → Well n (members (graph (now (es .entry)) ++ wait-edges n (now (maps .entry)))) → WellPosed (members (graph (now (es .entry)) ++ wait-edges n (now (maps .entry)))) → Gains (members (graph (now (es .entry)) ++ wait-edges n (now (maps .entry)))) 65535 → (a v : ℕ) → a < n → v < n → entry d v a ≡ cell (offset-row n (graph (now (es .entry)) ++ wait-edges n (now (maps .entry))) a) v) ⌝ }
+pub fn walks(
+    d: &mut [[u32; 64]; 64],
+    es: &[u64],
+    lists: &[u16],
+    maps: &[u64; 64],
+    order: &[u8; 64],
+    n: usize,
+)
+    requires { ⌜ (n ≤ 64) × (length (now es) ≤ 2048) × Lists (now es) (now lists) × First (now d) ⌝ }
+    ensures square { λ r. ⌜ Square (now (d .exit)) ⌝ }
+    ensures cells { λ r. ⌜ (Within n (now (maps .entry)) → Well n (members (graph (now (es .entry)) ++ wait-edges n (now (maps .entry)))) → WellPosed (members (graph (now (es .entry)) ++ wait-edges n (now (maps .entry)))) → Gains (members (graph (now (es .entry)) ++ wait-edges n (now (maps .entry)))) 65535 → (a v : ℕ) → a < n → v < n → entry (now (d .exit)) v a ≡ cell (offset-row n (graph (now (es .entry)) ++ wait-edges n (now (maps .entry))) a) v) ⌝ }
 {
-    let lists = lists(es);
     let waiting = transpose(maps, n);
-    let mut d = first_table();
     let mut fresh = first_marks();
-    seed_words(&mut d, &mut fresh, es);
-    seed_waits(&mut d, &mut fresh, &waiting, n);
-    settle(&mut d, &mut fresh, es, &lists, &waiting, order, n);
-    d
+    seed_words(d, &mut fresh, es);
+    seed_waits(d, &mut fresh, &waiting, n);
+    settle(d, &mut fresh, es, lists, &waiting, order, n);
 }

@@ -2,11 +2,11 @@
 use mathlib.Core.Path.{_≡_, refl, sym, ap, ap₂, _∙_}
 use mathlib.Core.Bool.{Bool, true, false, not, _&&_, _||_, and-true, and-false}
 use mathlib.Core.List.{List}
-use Prim.Native.Nat.{ℕ, _+_, _-_, _<_, _≤_}
+use Prim.Native.Nat.{ℕ, _+_, _-_, _<_, _≤_, max}
 use native.Mathlib.Omega.{arith}
 use lib.Dec.{eqb, leb}
 use lib.ListN.{getD}
-use borrow.Author.Tests.{lt-ltb, ltb-true, eqb-true, eq-eqb, eqb-false, ne-eqb}
+use borrow.Author.Tests.{lt-ltb, ltb-true, leb-true, le-leb, eqb-true, eq-eqb, eqb-false, ne-eqb}
 use Rattle.definitions.specs.Anchors.{in-anchor-set}
 use Rattle.definitions.specs.Basics.{any-below, test-bit}
 use Rattle.definitions.specs.Links.{Edge}
@@ -15,7 +15,12 @@ use Rattle.laws.proofs.Bools.{and-split, same-test}
 use Rattle.laws.proofs.Maps.{test-zero}
 use Rattle.laws.proofs.Members.{any-member-less, any-member-none}
 use Rattle.laws.proofs.Tests.{any-below-has, any-below-by}
-use Rattle.irredundant.specs.Working.{Holds, weight, member, reaching, covering, deciding}
+use Rattle.irredundant.specs.Working.{Holds, entry, weight, member, reaching, covering, deciding}
+
+-- Cells compared as the offsets that they hold: both sides are one more.
+pub cells-compared : (d : List (List ℕ)) (v a b y z : ℕ) (r : Bool) → y ≡ max (entry d b a) 1 → z ≡ weight d v b → r ≡ leb (entry d v a) (y + z) → r ≡ reaching d v a b
+unfolding reaching
+cells-compared d v a b y z r e f g = g ∙ same-test (leb (entry d v a) (y + z)) (leb (weight d v a) (weight d b a + weight d v b)) (λ h. let l = leb-true (entry d v a) (y + z) h in le-leb (weight d v a) (weight d b a + weight d v b) (omega arith)) (λ h. let l = leb-true (weight d v a) (weight d b a + weight d v b) h in le-leb (entry d v a) (y + z) (omega arith))
 
 -- ---- the members given, compared one at a time
 

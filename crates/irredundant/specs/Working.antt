@@ -11,14 +11,18 @@ use Rattle.definitions.specs.Links.{Edge}
 use Rattle.definitions.specs.Plan.{offset-row}
 use Rattle.definitions.specs.Rounds.{cell}
 
+-- The cell of v for a.
+abbrev pub entry : List (List ℕ) → ℕ → ℕ → ℕ
+entry d v a = getD (getD d v []) a 0
+
 -- d and sets hold the heaviest walks and the anchor sets of the edges es: cell a of row v of d is that of v in the row of a, and bit a of map v says whether a is in the anchor set of v.
 pub record Holds (n : ℕ) (es : List Edge) (d : List (List ℕ)) (sets : List ℕ) : Type 0 where
-  pub cells : (a v : ℕ) → a < n → v < n → getD (getD d v []) a 0 ≡ cell (offset-row n es a) v
+  pub cells : (a v : ℕ) → a < n → v < n → entry d v a ≡ cell (offset-row n es a) v
   pub members : (a v : ℕ) → v < n → test-bit (getD sets v 0) a ≡ (ltb a n && in-anchor-set n es a v)
 
 -- The offset of v for a.
 abbrev pub weight : List (List ℕ) → ℕ → ℕ → ℕ
-weight d v a = getD (getD d v []) a 0 - 1
+weight d v a = entry d v a - 1
 
 abbrev pub member : List ℕ → ℕ → ℕ → Bool
 member sets v a = test-bit (getD sets v 0) a

@@ -3,7 +3,7 @@
 // Every function is safe for any tables; on those of an edge list its answer is the definition's.
 ghost use mathlib.Core.Path.{_≡_};
 ghost use mathlib.Core.Bool.{not, _&&_};
-ghost use Prim.Native.Nat.{ℕ, _+_, _-_, _<_};
+ghost use Prim.Native.Nat.{ℕ, _+_, _-_, _<_, max};
 ghost use lib.Dec.{eqb, leb};
 ghost use Rattle.definitions.specs.Basics.{test-bit};
 ghost use Rattle.irredundant.specs.Working.{weight, reaching, covering, deciding};
@@ -26,22 +26,31 @@ pub fn offset_at(d: &[[u32; 64]; 64], v: usize, a: usize) -> u32
     weight_of(d[v][a])
 }
 
-// Whether two offsets together are as much as one.
+// A cell as that of an offset: one without a walk counts as offset 0.
+fn one_or_more(c: u32) -> u32
+    ensures { λ r. ⌜ r ≡ max c 1 ⌝ }
+{
+    if c == 0 {
+        return 1;
+    }
+    c
+}
+
+// Whether two numbers together are as much as one.
 fn sum_reaches(x: u32, y: u32, z: u32) -> bool
     ensures { λ r. ⌜ r ≡ leb x (y + z) ⌝ }
 {
     (x as u64) <= (y as u64) + (z as u64)
 }
 
-// Whether the way from a over b comes to v as late as a itself.
+// Whether the way from a over b comes to v as late as a itself. Two of the offsets are compared by their cells.
 fn reaches(d: &[[u32; 64]; 64], v: usize, a: usize, b: usize) -> bool
     requires { ⌜ (v < 64) × (a < 64) × (b < 64) ⌝ }
     ensures { λ r. ⌜ r ≡ reaching (now (d .entry)) v a b ⌝ }
 {
-    let x = offset_at(d, v, a);
-    let y = offset_at(d, b, a);
+    let y = one_or_more(d[b][a]);
     let z = offset_at(d, v, b);
-    sum_reaches(x, y, z)
+    sum_reaches(d[v][a], y, z)
 }
 
 // The map without a, where a is out.
@@ -66,7 +75,7 @@ fn without_reached(d: &[[u32; 64]; 64], v: usize, b: usize, map: u64, given: u64
         let a = bitmaps::lowest(left);
         let out = reaches(d, v, a, b);
         kept = remove_if(kept, a, out);
-        left = bitmaps::remove(left, a);
+        left = bitmaps::without_lowest(left);
     }
     kept
 }
@@ -81,7 +90,7 @@ fn without_covered(d: &[[u32; 64]; 64], sets: &[u64; 64], v: usize, b: usize, ma
     without_reached(d, v, b, map, given)
 }
 
-// The deciding set of v: its anchor set without those that a member leaves out.
+// The deciding set of v: its anchor set without those that a member leaves out. The largest members are often the latest and leave out most, so they come first.
 pub fn deciding_set(d: &[[u32; 64]; 64], sets: &[u64; 64], v: usize) -> u64
     requires { ⌜ v < 64 ⌝ }
     ensures { λ r. ⌜ ((a : ℕ) → test-bit r a ≡ deciding (now (d .entry)) (now (sets .entry)) v a) ⌝ }
@@ -89,7 +98,7 @@ pub fn deciding_set(d: &[[u32; 64]; 64], sets: &[u64; 64], v: usize) -> u64
     let mut kept = sets[v];
     let mut left = sets[v];
     while left != 0 {
-        let b = bitmaps::lowest(left);
+        let b = bitmaps::highest(left);
         kept = without_covered(d, sets, v, b, kept);
         left = bitmaps::remove(left, b);
     }

@@ -1,12 +1,12 @@
 -- A list whose front is written, an element at a time or as a part that is lent; the rest stays as it was. Assumes nothing.
 use mathlib.Core.Path.{_≡_, refl, sym, ap, ap₂, _∙_}
 use mathlib.Core.List.{List, [], _∷_, _++_, append-assoc, append-nil}
-use Prim.Native.Nat.{ℕ, zero, suc, _+_, _-_, _<_}
+use Prim.Native.Nat.{ℕ, zero, suc, _+_, _-_, _<_, _≤_}
 use native.Mathlib.Omega.{arith}
 use native.Mathlib.Numerals.{add-one}
 use borrow.Rule.Slice.PartMut.{putMid}
 use lib.ListN.{length, getD, set, take, drop, length-append, List·getD-append}
-use lib.Seq.{drop-cons, set-at, ext-getD, take-at, drop-at, take-length, drop-length}
+use lib.Seq.{getD-append-add, getD-drop, drop-cons, set-at, ext-getD, take-at, drop-at, take-length, drop-length}
 use Rattle.definitions.specs.Basics.{tabulate}
 use Rattle.laws.proofs.Tests.{tabulate-at, tabulate-length}
 
@@ -30,6 +30,12 @@ module _ {A : Type 0} (f : ℕ → A) where
 
   pub laid-at : (k : ℕ) (l : List A) (i : ℕ) (z : A) → i < k → getD (laid f k l) i z ≡ f i
   laid-at k l i z h = List·getD-append (tabulate f k) (drop k l) z i (rw tabulate-length h) ∙ tabulate-at f k i z h
+
+  pub laid-past : (k : ℕ) (l : List A) (i : ℕ) (z : A) → k ≤ i → getD (laid f k l) i z ≡ getD l i z
+  laid-past k l i z h =
+      let e : i ≡ length (tabulate f k) + (i - k) = omega (arith, tabulate-length f k) in
+      ap (λ (j : ℕ). getD (laid f k l) j z) e ∙ getD-append-add (tabulate f k) (drop k l) (i - k) z
+      ∙ getD-drop k l (i - k) z ∙ ap (λ (j : ℕ). getD l j z) (let q : k + (i - k) ≡ i = omega arith in q)
 
 -- The rest of a list, from a on, lent and given back with y at its front.
 pub put-rest : {A : Type 0} (p l t y new : List A) (a n : ℕ) → length p ≡ a → t ≡ p ++ l → new ≡ y ++ drop n (take (length t - a) (drop a t)) → putMid a (length t - a) t new ≡ p ++ (y ++ drop n l)

@@ -1,15 +1,15 @@
 -- Laws of maps of bits, `test-bit` and `bits-below`, for maps of any width; the forms that code gives them at 64 bits stand at the end. Assumes nothing.
 use mathlib.Core.Path.{_≡_, refl, sym, ap, ap₂, _∙_, subst, fun-ext}
-use mathlib.Core.Bool.{Bool, true, false, cond, not, _&&_, _||_, and-false, or-false, or-true, and-true, or-self, true≢false, false≢true}
+use mathlib.Core.Bool.{Bool, true, false, cond, not, _&&_, _||_, and-false, or-false, or-true, and-true, or-self, and-self, true≢false, false≢true}
 use mathlib.Core.List.{[], _∷_}
 use mathlib.Core.Logic.{_⊎_, inl, inr, ⊎-elim}
 use Prim.Native.Nat.{ℕ, zero, suc, _+_, _-_, _*_, _/_, _%_, _^_, _<_, _≤_, min, max}
 use native.Mathlib.Omega.{arith}
-use native.Mathlib.Nat.{pow-suc, one-mul, div-eq-of-lt, lt-of-lt-of-le, not-suc-le-zero, mod-eq-of-lt, mod-lt}
+use native.Mathlib.Nat.{div-lt-iff-lt-mul, pow-suc, one-mul, div-eq-of-lt, lt-of-lt-of-le, not-suc-le-zero, mod-eq-of-lt, mod-lt}
 use lib.Arith.{digits-mod}
 use lib.Pow.{pow-lt, pow-pos, pow-mono, pow-add, shl-shr, shl-exact, shr-shr, mod-pow-add}
 use lib.Bits.{bitAnd, bitOr, or-shr, and-shr, or-step, and-step, or-add-and}
-use lib.Count.{ones, ones-cat, trailingZeros, under}
+use lib.Count.{ones, ones-cat, leadingZeros, leading-top, trailingZeros, under}
 use lib.Dec.{eqb, ltb}
 use lib.ListN.{length, length-append}
 use borrow.Author.Tests.{ltb-true, ltb-false, lt-ltb, le-ltb, eqb-true, eqb-false, eq-eqb, ne-eqb}
@@ -191,10 +191,6 @@ add-is-union a b h =
     let z : bitAnd a b ≡ 0 = same-map (bitAnd a b) 0 (λ k. test-and a b k ∙ h k ∙ sym (test-zero k)) in
     omega arith
 
--- So its members are those of either.
-pub test-add : (a b : ℕ) → ((k : ℕ) → (test-bit a k && test-bit b k) ≡ false) → (k : ℕ) → test-bit (a + b) k ≡ (test-bit a k || test-bit b k)
-test-add a b h k = ap (λ (x : ℕ). test-bit x k) (add-is-union a b h) ∙ test-or a b k
-
 -- So a member that does not stand is put in by a sum.
 pub add-is-insert : (m k : ℕ) → test-bit m k ≡ false → m + 2 ^ k ≡ bitOr m (2 ^ k)
 add-is-insert m k e = add-is-union m (2 ^ k) (λ j. ap (λ (t : Bool). test-bit m j && t) (test-pow k j) ∙ at j (eqb j k) refl)
@@ -262,31 +258,7 @@ test-bits-below f (suc n) k = more (f n) refl (test-bits-below f n k) ∙ ap (λ
         ∙ sym (ap (λ (t : Bool). ltb k n && f k || t) (and-false (eqb k n)) ∙ or-false (ltb k n && f k))
         ∙ at (ltb k n) (eqb k n) false refl q
 
--- A number of n digits that has the members is the map: both are below 2 ^ n and agree there.
-pub bits-below-is : (f : ℕ → Bool) (n m : ℕ) → m < 2 ^ n → ((k : ℕ) → k < n → test-bit m k ≡ f k) → bits-below f n ≡ m
-bits-below-is f n m h e =
-    same-below n (bits-below f n) m (bits-below-lt f n) h
-    (λ k l. test-bits-below f n k ∙ ap (λ (t : Bool). t && f k) (lt-ltb k n l) ∙ sym (e k l))
-
--- Tests that agree below n give the same map.
-pub bits-below-ext : (f g : ℕ → Bool) (n : ℕ) → ((k : ℕ) → k < n → f k ≡ g k) → bits-below f n ≡ bits-below g n
-bits-below-ext f g n e =
-    bits-below-is f n (bits-below g n) (bits-below-lt g n)
-    (λ k l. test-bits-below g n k ∙ ap (λ (t : Bool). t && g k) (lt-ltb k n l) ∙ sym (e k l))
-
--- ---- subset, and maps that share a member
-
--- Each member of a is one of b: it stands in the intersection.
-pub within-test : (a b : ℕ) → bitAnd a b ≡ a → (k : ℕ) → test-bit a k ≡ true → test-bit b k ≡ true
-within-test a b e k h = ap (λ (t : Bool). t && test-bit b k) (sym h) ∙ sym (test-and a b k) ∙ ap (λ (x : ℕ). test-bit x k) e ∙ h
-
--- The other way: member by member the intersection is a.
-pub test-within : (a b : ℕ) → ((k : ℕ) → test-bit a k ≡ true → test-bit b k ≡ true) → bitAnd a b ≡ a
-test-within a b h = same-map (bitAnd a b) a (λ k. test-and a b k ∙ by k (test-bit a k) refl)
-  where
-    by : (k : ℕ) (t : Bool) → test-bit a k ≡ t → (t && test-bit b k) ≡ t
-    by k true e = h k e
-    by k false e = refl
+-- ---- maps that share a member
 
 -- Some number is a member exactly if the map is not 0: a member rules out 0, and a map with none is equal to 0.
 pub any-member : (n m : ℕ) → m < 2 ^ n → any-below (test-bit m) n ≡ not (eqb m 0)
@@ -359,6 +331,42 @@ lowest-least (suc n) m (suc k) h = half-test m k ∙ by (m % 2) h (lowest-least 
     by zero l ih = ih (omega arith)
     by (suc x) l ih = absurd (not-suc-le-zero l)
 
+-- The greatest member of a map that is not empty: the map is from 2 ^ j on and below twice that, so that its quotient by 2 ^ j is 1, and above j there is no member.
+pub highest-place : (n m : ℕ) → m < 2 ^ n → 0 < m → (j : ℕ) × (leadingZeros n m + suc j ≡ n) × (test-bit m j ≡ true) × ((k : ℕ) → j < k → test-bit m k ≡ false)
+unfolding test-bit
+highest-place n m h l =
+    let t = leading-top n m l h in (t .0, t .1, stands (t .0) (t .2) (t .3), λ k b. test-above m (suc (t .0)) k (t .3) b)
+  where
+    stands : (j : ℕ) → 2 ^ j ≤ m → m < 2 ^ suc j → test-bit m j ≡ true
+    stands j above below =
+        let p : 2 ^ suc j ≡ 2 ^ j * 2 = pow-suc 2 j in
+        let q : m / 2 ^ j < 2 = div-lt-iff-lt-mul (pow-pos j) .1 (omega arith) in
+        let r : m / 2 ^ j < 1 → m < 1 * 2 ^ j = div-lt-iff-lt-mul (pow-pos j) .0 in
+        let s : m / 2 ^ j < 1 → ⊥ = λ z. let g : m < 1 * 2 ^ j = r z in omega arith in
+        let one : m / 2 ^ j ≡ 1 = omega arith in
+        ap (λ (x : ℕ). eqb (x % 2) 1) one
+
+-- One less than a map has the members above the least one, the numbers below it, and not the least one. By induction on the least member: it is the lowest digit, or that of the half.
+less-one : (k m j : ℕ) → test-bit m k ≡ true → ((i : ℕ) → i < k → test-bit m i ≡ false) → (test-bit m j && test-bit (m - 1) j) ≡ (test-bit m j && not (eqb j k))
+less-one zero m zero stands least =
+    let odd : m % 2 ≡ 1 = eqb-true (m % 2) 1 (sym (low-test m) ∙ stands) in
+    ap₂ (λ (s t : Bool). s && t) stands (low-test (m - 1) ∙ ne-eqb ((m - 1) % 2) 1 (omega arith)) ∙ sym (ap₂ (λ (s t : Bool). s && not t) stands (eq-eqb 0 0 refl))
+less-one zero m (suc j) stands least =
+    let odd : m % 2 ≡ 1 = eqb-true (m % 2) 1 (sym (low-test m) ∙ stands) in
+    ap (λ (t : Bool). test-bit m (suc j) && t) (half-test (m - 1) j ∙ ap (λ (x : ℕ). test-bit x j) (let e : (m - 1) / 2 ≡ m / 2 = omega arith in e) ∙ sym (half-test m j))
+    ∙ and-self (test-bit m (suc j))
+    ∙ sym (ap (λ (t : Bool). test-bit m (suc j) && not t) (ne-eqb (suc j) 0 (λ e. omega arith)) ∙ and-true (test-bit m (suc j)))
+less-one (suc k) m zero stands least = let z : test-bit m 0 ≡ false = least 0 (omega arith) in rw z
+less-one (suc k) m (suc j) stands least =
+    let even : m % 2 ≡ 1 → ⊥ = eqb-false (m % 2) 1 (sym (low-test m) ∙ least 0 (omega arith)) in
+    ap₂ (λ (s t : Bool). s && t) (half-test m j) (half-test (m - 1) j ∙ ap (λ (x : ℕ). test-bit x j) (let e : (m - 1) / 2 ≡ m / 2 - 1 = omega arith in e))
+    ∙ less-one k (m / 2) j (sym (half-test m k) ∙ stands) (λ i b. sym (half-test m i) ∙ least (suc i) (omega arith))
+    ∙ sym (ap₂ (λ (s t : Bool). s && not t) (half-test m j) (lib.Dec.eqb·suc-suc j k))
+
+-- So what both have is the map without its least member.
+pub test-without-lowest : (m k j : ℕ) → test-bit m k ≡ true → ((i : ℕ) → i < k → test-bit m i ≡ false) → test-bit (bitAnd m (m - 1)) j ≡ (test-bit m j && not (eqb j k))
+test-without-lowest m k j stands least = test-and m (m - 1) j ∙ less-one k m j stands least
+
 -- ---- at 64 bits
 
 -- `1 << k`
@@ -375,7 +383,3 @@ test-remove-shl m k j hm h =
     ap (λ (x : ℕ). test-bit (bitAnd m (2 ^ 64 - 1 - x)) j) (one-shl k h)
     ∙ test-minus 64 m (2 ^ k) j hm (pow-lt h)
     ∙ ap (λ (t : Bool). test-bit m j && not t) (test-pow k j)
-
--- Two words that agree below 64 are equal: the law above, at 64.
-pub same-word : (a b : ℕ) → a < 2 ^ 64 → b < 2 ^ 64 → ((k : ℕ) → k < 64 → test-bit a k ≡ test-bit b k) → a ≡ b
-same-word = same-below 64

@@ -47,6 +47,10 @@ module _ {A S : Type 0} (item : S → Parser A) (next : A → S) where
   abbrev pub Unread : ℕ → S → List ℕ → List A → ℕ → S → List ℕ → Type 0
   Unread k first bytes done left state rest = records item next k first bytes ≡ prepend done (records item next left state rest)
 
+  -- All are unread.
+  pub unread-start : (k : ℕ) (first : S) (bytes : List ℕ) → Unread k first bytes [] k first bytes
+  unread-start k first bytes = prepend-none (records item next k first bytes)
+
   -- The next record is read, or is refused; or none is left.
   records-one : (k : ℕ) (state : S) (bytes rest : List ℕ) (x : A) → item state bytes ≡ given (record { value = x; rest = rest }) → records item next (suc k) state bytes ≡ prepend (x ∷ []) (records item next k (next x) rest)
   unfolding records prepend when-given
@@ -57,14 +61,14 @@ module _ {A S : Type 0} (item : S → Parser A) (next : A → S) where
   records-refused k state bytes q e = rw e
 
   module _ (k : ℕ) (first : S) (bytes : List ℕ) (done : List A) (left : ℕ) (state : S) (rest : List ℕ) where
-    unread-one : (more : List ℕ) (x : A) → item state rest ≡ given (record { value = x; rest = more }) → Unread k first bytes done (suc left) state rest → Unread k first bytes (done ++ (x ∷ [])) left (next x) more
+    pub unread-one : (more : List ℕ) (x : A) → item state rest ≡ given (record { value = x; rest = more }) → Unread k first bytes done (suc left) state rest → Unread k first bytes (done ++ (x ∷ [])) left (next x) more
     unread-one more x e u = u ∙ ap (prepend done) (records-one left state rest more x e) ∙ prepend-twice done (x ∷ []) (records item next left (next x) more)
 
-    unread-refused : (q : ℕ) → item state rest ≡ refused q → Unread k first bytes done (suc left) state rest → records item next k first bytes ≡ refused q
+    pub unread-refused : (q : ℕ) → item state rest ≡ refused q → Unread k first bytes done (suc left) state rest → records item next k first bytes ≡ refused q
     unfolding prepend when-given
     unread-refused q e u = u ∙ ap (prepend done) (records-refused left state rest q e)
 
-  unread-none : (k : ℕ) (first : S) (bytes : List ℕ) (done : List A) (state : S) (rest : List ℕ) → Unread k first bytes done 0 state rest → records item next k first bytes ≡ given (record { value = done; rest = rest })
+  pub unread-none : (k : ℕ) (first : S) (bytes : List ℕ) (done : List A) (state : S) (rest : List ℕ) → Unread k first bytes done 0 state rest → records item next k first bytes ≡ given (record { value = done; rest = rest })
   unfolding prepend when-given records
   unread-none k first bytes done state rest u = u ∙ ap (λ (l : List A). given (record { value = l; rest = rest })) (append-nil done)
 
@@ -79,7 +83,7 @@ module _ {A S : Type 0} (item : S → Parser A) (next : A → S) where
     pub read-none : ReadTo size blank k first bytes 0 first bytes (replicate size blank)
     read-none =
         let e : k - 0 ≡ k = omega arith in
-        record { within = omega arith; filled = none-filled size blank; unread = rw e (prepend-none (records item next k first bytes)) }
+        record { within = omega arith; filled = none-filled size blank; unread = rw e (unread-start k first bytes) }
 
     module _ (i : ℕ) (state : S) (rest : List ℕ) (array : List A) (so : ReadTo size blank k first bytes i state rest array) where
       one-left : i < k → Unread k first bytes (take i array) (suc (k - (i + 1))) state rest

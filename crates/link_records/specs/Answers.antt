@@ -1,16 +1,20 @@
--- What is answered about the link records of a sheet.
+-- What is answered about the link records of a sheet, and what the words hold.
 use mathlib.Core.Path.{_≡_}
 use mathlib.Core.List.{List}
-use Prim.Native.Nat.{ℕ}
+use Prim.Native.Nat.{ℕ, _*_, _≤_}
 use lib.ListN.{take}
+use Rattle.definitions.specs.Basics.{given, when-given}
 use Rattle.definitions.specs.Numbers.{reading-of}
-use Rattle.definitions.specs.Bytes.{blank-link}
-use Rattle.fields.specs.Answers.{Row}
+use Rattle.definitions.specs.Links.{constraints, edges}
+use Rattle.definitions.specs.declared.Link.{Link}
+use Rattle.definitions.specs.declared.Operation.{Operation}
+use Rattle.edges.specs.Words.{graph}
 use Rattle.fields.specs.Parts.{outcome}
 use Rattle.link_records.specs.Parts.{last-links}
 use Rattle.link_records.specs.declared.LinksRead.{LinksRead}
 
--- The k link records that are the whole of the bytes s; the array holds them, and blank ones behind them. Beside a refusal the first k entries are free.
-pub record LinksReads (s : List ℕ) (n k : ℕ) (r : LinksRead) : Type 0 where
-  pub same : reading-of (r .reading) (take k (r .links)) ≡ outcome (last-links n k) s
-  pub row : Row 512 blank-link k (r .links)
+-- The reading is that of r link records which are the whole of the bytes s; the first words stand for their edges, where the operations are os. What the words hold beside a refusal is not said.
+pub record LinksReads (s : List ℕ) (n r : ℕ) (os : List Operation) (words : List ℕ) (q : LinksRead) : Type 0 where
+  pub reading : reading-of {A = Unit {0}} (q .reading) tt ≡ when-given (outcome (last-links n r) s) (λ ls. given tt)
+  pub few : q .count ≤ 4 * r
+  pub same : (ls : List Link) → outcome (last-links n r) s ≡ given ls → graph (take (q .count) words) ≡ edges os (constraints ls)

@@ -1,49 +1,48 @@
-// The link records of a sheet, read into an array.
+// The link records of a sheet, read one by one; the edges of each are written as words.
+ghost use Prim.Native.Nat.{_*_, _≤_};
+ghost use lib.ListN.{length, take};
 ghost use mathlib.Core.Path.{_≡_};
-ghost use Prim.Native.Nat.{_≤_};
-ghost use Rattle.definitions.specs.Bytes.{blank-link};
 ghost use Rattle.link_records.specs.Answers.{LinksReads};
-use definitions::Bound;
-use definitions::Link;
+use definitions::Operation;
 use definitions::Previous;
 use definitions::Reading;
 use definitions::Refusal;
 use link_record::LinkRead;
 
-// Whether the records are the whole of the bytes; or the first fault. The records stand beside it, and blank ones behind them.
+// Whether the records are the whole of the bytes; or the first fault. The first count words stand for their edges.
 pub struct LinksRead {
     pub reading: Reading,
-    pub links: [Link; 512],
+    pub count: usize,
 }
 
-// What stands in the array where no link record does.
-pub fn blank_link() -> Link
-    ensures { λ r. ⌜ r ≡ blank-link ⌝ }
+fn index(x: u8) -> usize
+    ensures { λ r. ⌜ r ≡ x ⌝ }
 {
-    Link {
-        from: 0,
-        to: 0,
-        sequencing: false,
-        minimum: Bound::Absent,
-        maximum: Bound::Absent,
-        latest: Bound::Absent,
-    }
+    x as usize
 }
 
-// The r link records, which are the whole of this part of the bytes.
-pub fn read_links(part: &[u8], n: usize, r: usize) -> LinksRead
-    requires { ⌜ r ≤ 512 ⌝ }
-    ensures { λ q. ⌜ LinksReads (now (part .entry)) n r q ⌝ }
+// The r link records, which are the whole of this part of the bytes, of a sheet with these n operations. Their edges are written from the front of the words on.
+pub fn read_links(
+    part: &[u8],
+    n: usize,
+    r: usize,
+    operations: [Operation; 64],
+    words: &mut [u64],
+) -> LinksRead
+    requires { ⌜ (n ≤ 64) × (4 * r ≤ length (now words)) ⌝ }
+    ensures { λ q. ⌜ LinksReads (now (part .entry)) n r (take n operations) (now (words .exit)) q ⌝ }
 {
-    let blank = blank_link();
-    let mut links = [blank; 512];
     let mut previous = Previous::Nothing;
     let mut next = 0;
+    let mut count = 0;
     let mut i = 0;
     while i < r {
         match link_record::read_link(part, next, n, previous) {
             LinkRead::Item(l, after) => {
-                links[i] = l;
+                let from = index(l.from);
+                let operation = operations[from];
+                let delay = operation.delay;
+                count = links::push_link(words, count, l, delay);
                 previous = Previous::Pair(l.from, l.to);
                 next = after;
                 i += 1;
@@ -51,7 +50,7 @@ pub fn read_links(part: &[u8], n: usize, r: usize) -> LinksRead
             LinkRead::Refused(k) => {
                 return LinksRead {
                     reading: Reading::Refused(k),
-                    links: links,
+                    count: count,
                 };
             }
         }
@@ -59,11 +58,11 @@ pub fn read_links(part: &[u8], n: usize, r: usize) -> LinksRead
     if next < part.len() {
         return LinksRead {
             reading: Reading::Refused(Refusal::Trailing),
-            links: links,
+            count: count,
         };
     }
     LinksRead {
         reading: Reading::Whole,
-        links: links,
+        count: count,
     }
 }

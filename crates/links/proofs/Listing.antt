@@ -1,27 +1,20 @@
 -- The edges of a list of link records, one record more at a time.
-use mathlib.Core.Path.{_≡_, refl, sym, ap, ap₂, _∙_}
+use mathlib.Core.Path.{_≡_, refl, sym, ap, _∙_}
 use mathlib.Core.Bool.{Bool, true, false}
-use mathlib.Core.List.{List, [], _∷_, _++_, append-assoc, append-nil, map-append, flatMap, List·Memᴰ·head, Memᴰ·append-left, Memᴰ·append-right}
-use Prim.Native.Nat.{ℕ, zero, suc, _+_, _<_}
+use mathlib.Core.List.{List, [], _∷_, _++_, append-assoc, append-nil, map-append, flatMap}
+use Prim.Native.Nat.{ℕ, zero, suc, _<_}
 use native.Mathlib.Omega.{arith}
-use native.Mathlib.Numerals.{add-one}
-use lib.Dec.{ltb}
-use lib.ListN.{length, take, getD, List·getD-eq-default, length-take}
-use lib.Seq.{take-suc, getD-take}
-use borrow.Author.Tests.{ltb-true, ltb-false}
+use lib.ListN.{length, take, getD}
+use lib.Seq.{getD-take}
 use Rattle.definitions.specs.Bytes.{blank-operation}
-use Rattle.definitions.specs.Links.{Edge, Constraint, sequencing, minimum, maximum, sequencing-of, minimum-of, maximum-of, finish-maximum-of, link-constraints, constraints, delay-at, edge-of, edges}
-use Rattle.definitions.specs.declared.Delay.{Delay}
+use Rattle.definitions.specs.Links.{Edge, Constraint, sequencing-of, minimum-of, maximum-of, finish-maximum-of, link-constraints, constraints, delay-at, edge-of, edges}
 use Rattle.definitions.specs.declared.Operation.{Operation}
 use Rattle.definitions.specs.declared.Bound.{Bound}
 use Rattle.definitions.specs.declared.Bound.the-variants.{Absent, Ticks}
 use Rattle.definitions.specs.declared.Link.{Link}
-use Rattle.edges.specs.Words.{graph}
-use Rattle.edges.specs.Words.{Fit}
-use Rattle.links.specs.Sheets.{Pushed, Listed, Ends, sequencing-edges, minimum-edges, maximum-edges, finish-edges, link-edges, delay-within}
-use Rattle.links.proofs.Pushing.{link-few}
+use Rattle.links.specs.Pushes.{sequencing-edges, minimum-edges, maximum-edges, finish-edges, link-edges}
 
-pub flatMap-append : {A B : Type 0} (f : A → List B) (s t : List A) → flatMap f (s ++ t) ≡ flatMap f s ++ flatMap f t
+flatMap-append : {A B : Type 0} (f : A → List B) (s t : List A) → flatMap f (s ++ t) ≡ flatMap f s ++ flatMap f t
 unfolding flatMap
 flatMap-append f [] t = refl
 flatMap-append f (x ∷ s) t = ap (λ (r : List _). f x ++ r) (flatMap-append f s t) ∙ sym (append-assoc (f x) (flatMap f s) (flatMap f t))
@@ -57,7 +50,7 @@ edges-three os s t u = edges-append os (s ++ t) u ∙ ap (λ (x : List Edge). x 
 edges-four : (os : List Operation) (s t u v : List Constraint) → edges os (((s ++ t) ++ u) ++ v) ≡ ((edges os s ++ edges os t) ++ edges os u) ++ edges os v
 edges-four os s t u v = edges-append os ((s ++ t) ++ u) v ∙ ap (λ (x : List Edge). x ++ edges os v) (edges-three os s t u)
 
-pub link-map : (os : List Operation) (l : Link) → edges os (link-constraints l) ≡ link-edges (delay-at os (l .from)) l
+link-map : (os : List Operation) (l : Link) → edges os (link-constraints l) ≡ link-edges (delay-at os (l .from)) l
 unfolding link-constraints link-edges
 link-map os l =
     edges-four os (sequencing-of (l .from) (l .to) (l .sequencing)) (minimum-of (l .from) (l .to) (l .minimum)) (maximum-of (l .from) (l .to) (l .maximum)) (finish-maximum-of (l .from) (l .to) (l .latest))
@@ -71,30 +64,12 @@ constraints-more s l = flatMap-append link-constraints s (l ∷ []) ∙ ap (λ (
 pub edges-more : (os : List Operation) (s : List Link) (l : Link) → edges os (constraints (s ++ l ∷ [])) ≡ edges os (constraints s) ++ link-edges (delay-at os (l .from)) l
 edges-more os s l = ap (edges os) (constraints-more s l) ∙ edges-append os (constraints s) (link-constraints l) ∙ ap (λ (r : List Edge). edges os (constraints s) ++ r) (link-map os l)
 
--- The loop over the records: it starts with no word, and a record's push keeps it.
-pub listed-start : (os : List Operation) (ls : List Link) (words : List ℕ) → Listed os (take 0 ls) 0 words 0
-unfolding graph edges constraints flatMap
-listed-start os ls words = record { few = omega arith; same = λ h. refl }
+-- The delay of an operation among the first n, read from the array that holds them.
+getD-any : (os : List Operation) (i : ℕ) (d e : Operation) → i < length os → getD os i d ≡ getD os i e
+getD-any [] i d e h = absurd (omega arith)
+getD-any (x ∷ os) zero d e h = refl
+getD-any (x ∷ os) (suc i) d e h = getD-any os i d e (omega arith)
 
-listed-more : (os : List Operation) (s : List Link) (l : Link) (d : Delay) (k c c′ : ℕ) (words words′ : List ℕ) → Listed os s k words c → Pushed (Fit (l .from) (l .to)) (link-edges d l) words words′ c c′ → (l .from < 64 → delay-at os (l .from) ≡ d) → Listed os (s ++ l ∷ []) (k + 1) words′ c′
-listed-more os s l d k c c′ words words′ L P h =
-    record { few = omega (arith, L .few, P .counts, link-few d l); same = λ (E : Ends (s ++ l ∷ [])). let b = E l (Memᴰ·append-right s (List·Memᴰ·head refl)) in P .same b ∙ ap₂ (λ (x : List Edge) (y : Delay). x ++ link-edges y l) (L .same (λ m i. E m (Memᴰ·append-left (l ∷ []) i))) (sym (h (b .0))) ∙ sym (edges-more os s l) }
-
-pub listed-step : (os : List Operation) (ls : List Link) (l e : Link) (d : Delay) (k c c′ : ℕ) (words words′ : List ℕ) → k < length ls → l ≡ getD ls k e → Listed os (take k ls) k words c → Pushed (Fit (l .from) (l .to)) (link-edges d l) words words′ c c′ → (l .from < 64 → delay-at os (l .from) ≡ d) → Listed os (take (k + 1) ls) (k + 1) words′ c′
-listed-step os ls l e d k c c′ words words′ b g L P h =
-    let t : take (k + 1) ls ≡ take k ls ++ l ∷ [] = rw add-one (take-suc ls k e b ∙ ap (λ (x : Link). take k ls ++ x ∷ []) (sym g)) in
-    rw t (listed-more os (take k ls) l d k c c′ words words′ L P h)
-
--- The delay of an operation among the first n.
-delay-by : (os : List Operation) (n i : ℕ) (e : Operation) (t : Bool) → ltb i n ≡ t → i < length os → delay-at (take n os) i ≡ delay-within t (getD os i e)
-unfolding delay-at delay-within
-delay-by os n i e true q h = ap (λ (o : Operation). o .delay) (getD-take n os i blank-operation (ltb-true i n q) ∙ getD-any os i h)
-  where
-    getD-any : (os : List Operation) (i : ℕ) → i < length os → getD os i blank-operation ≡ getD os i e
-    getD-any [] i h = absurd (omega arith)
-    getD-any (x ∷ os) zero h = refl
-    getD-any (x ∷ os) (suc i) h = getD-any os i (omega arith)
-delay-by os n i e false q h = ap (λ (o : Operation). o .delay) (List·getD-eq-default (take n os) blank-operation (omega (arith, length-take n os, ltb-false i n q)))
-
-pub delay-found : (os : List Operation) (n i : ℕ) (e : Operation) → i < length os → delay-at (take n os) i ≡ delay-within (ltb i n) (getD os i e)
-delay-found os n i e h = delay-by os n i e (ltb i n) refl h
+pub delay-found : (os : List Operation) (n i : ℕ) (e : Operation) → i < n → i < length os → delay-at (take n os) i ≡ getD os i e .delay
+unfolding delay-at
+delay-found os n i e b h = ap (λ (o : Operation). o .delay) (getD-take n os i blank-operation b ∙ getD-any os i blank-operation e h)

@@ -13,7 +13,7 @@ use Rattle.definitions.specs.declared.Delay.{Delay}
 use Rattle.definitions.specs.declared.Bound.{Bound}
 use Rattle.definitions.specs.declared.Bound.the-variants.{Absent, Ticks}
 use Rattle.definitions.specs.declared.Link.{Link}
-use Rattle.links.specs.Sheets.{Pushed, sequencing-edges, minimum-edges, maximum-edges, finish-edges, link-edges}
+use Rattle.links.specs.Pushes.{Pushed, sequencing-edges, minimum-edges, maximum-edges, finish-edges, link-edges}
 
 pub graph-append : (s t : List ℕ) → graph (s ++ t) ≡ graph s ++ graph t
 unfolding graph

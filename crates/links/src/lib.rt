@@ -1,17 +1,14 @@
-// The one function that turns a sheet into its edges, held as words.
+// The one function that turns a link record into its edges, held as words.
 use definitions::Bound;
 use definitions::Delay;
 use definitions::Link;
-use definitions::Operation;
-use definitions::Sheet;
 use edges::pack;
 ghost use mathlib.Core.Path.{_≡_};
 ghost use mathlib.Core.Bool.{true, false};
 ghost use Prim.Native.Nat.{_+_, _<_, _≤_};
-ghost use lib.ListN.{take};
 ghost use Rattle.definitions.specs.Links.{sequencing-edge, finish-edge};
 ghost use Rattle.edges.specs.Words.{edge, unpack, Fit};
-ghost use Rattle.links.specs.Sheets.{sequencing-edges, minimum-edges, maximum-edges, finish-edges, link-edges, delay-within, Pushed, Listed};
+ghost use Rattle.links.specs.Pushes.{sequencing-edges, minimum-edges, maximum-edges, finish-edges, link-edges, Pushed};
 
 fn ticks_of(x: u16) -> u32
     ensures { λ r. ⌜ (r ≡ x) × (r < 65536) ⌝ }
@@ -58,7 +55,7 @@ fn finish_word(delay: Delay, from: u8, to: u8, most: u16) -> u64
     }
 }
 
-// The edges of one link record, written at count; each says the count after it.
+// The parts of a link record's edges, written at count; each says the count after it.
 fn push_sequencing(
     words: &mut [u64],
     count: usize,
@@ -127,7 +124,8 @@ fn push_finish(
     }
 }
 
-fn push_link(words: &mut [u64], count: usize, link: Link, delay: Delay) -> usize
+// The edges of one link record, whose first step has this delay, written at count; it says the count after them.
+pub fn push_link(words: &mut [u64], count: usize, link: Link, delay: Delay) -> usize
     requires { do ⌜ count + 4 ≤ (← ⟦words.len()⟧) ⌝ }
     ensures { λ r. ⌜ Pushed (Fit (link .from) (link .to)) (link-edges delay link) (now (words .entry)) (now (words .exit)) count r ⌝ }
 {
@@ -140,52 +138,4 @@ fn push_link(words: &mut [u64], count: usize, link: Link, delay: Delay) -> usize
     let second = push_minimum(words, first, from, to, least);
     let third = push_maximum(words, second, from, to, most);
     push_finish(words, third, from, to, delay, latest)
-}
-
-// The index of an operation: its own number where that is below 64.
-fn place(x: u8) -> usize
-    ensures { λ r. ⌜ (x < 64 → r ≡ x) × (r < 64) ⌝ }
-{
-    (x % 64) as usize
-}
-
-// The delay of an operation: 0 for one that is not there.
-fn delay_within(inside: bool, operation: Operation) -> Delay
-    ensures { λ r. ⌜ r ≡ delay-within inside operation ⌝ }
-{
-    if inside {
-        operation.delay
-    } else {
-        Delay::Fixed(0)
-    }
-}
-
-// The edges of a sheet, as the first count words. What the words past them hold is not said.
-pub struct EdgeWords {
-    pub count: usize,
-    pub words: [u64; 2048],
-}
-
-// The one function that turns a sheet into its edges.
-pub fn edges_of(sheet: Sheet) -> EdgeWords
-    requires { ⌜ (sheet .n ≤ 64) × (sheet .r ≤ 512) ⌝ }
-    ensures { λ e. ⌜ Listed (take (sheet .n) (sheet .operations)) (take (sheet .r) (sheet .links)) (sheet .r) (e .words) (e .count) ⌝ }
-{
-    let n = sheet.n;
-    let r = sheet.r;
-    let mut words = [0u64; 2048];
-    let mut count = 0;
-    let mut k = 0;
-    while k < r {
-        let link = sheet.links[k];
-        let i = place(link.from);
-        let operation = sheet.operations[i];
-        let delay = delay_within(i < n, operation);
-        count = push_link(&mut words, count, link, delay);
-        k += 1;
-    }
-    EdgeWords {
-        count: count,
-        words: words,
-    }
 }

@@ -8,22 +8,20 @@ use native.Mathlib.Omega.{arith}
 use lib.ListN.{getD, length, replicate, take}
 use Rattle.definitions.specs.Answers.{count-of, edges-of, judge-edges, judge-records, judged, no-waits, plan-read, plan-verdict, planned, serialized-of, starts-answer, starts-read, starts-verdict, waits-answer, waits-read, waits-when}
 use Rattle.definitions.specs.Basics.{Outcome, given, refused, test-bit, when-given}
-use Rattle.definitions.specs.Bytes.{Records, held, read}
+use Rattle.definitions.specs.Bytes.{Records, read}
 use Rattle.definitions.specs.Links.{Edge, members}
 use Rattle.definitions.specs.Numbers.{verdict-of}
 use Rattle.definitions.specs.Plan.{delays, plan-table, start-times}
 use Rattle.definitions.specs.Waits.{serialized}
 use Rattle.definitions.specs.declared.Operation.{Operation}
-use Rattle.definitions.specs.declared.Report.{Report}
 use Rattle.definitions.specs.declared.Reading.the-variants as Readings
-use Rattle.definitions.specs.declared.Sheet.{Sheet}
 use Rattle.definitions.specs.declared.Verdict.{Verdict}
 use Rattle.demands.specs.Demands.{Bytes}
 use Rattle.demands.proofs.Reading.{Fits, read-fits}
-use Rattle.links.specs.Sheets.{Listed}
 use Rattle.edges.specs.Words.{graph}
-use Rattle.reader.specs.Answers.{Reports}
-use Rattle.reader.proofs.Reports.{Holds, report-given}
+use Rattle.reader.specs.Answers.{Holds, Reports}
+use Rattle.reader.specs.declared.Report.{Report}
+use Rattle.reader.proofs.Reports.{Found, report-given}
 use Rattle.delays.specs.Delays.{unbounded-at}
 use Rattle.theory.specs.Graphs.{Gains, Shape}
 use Rattle.analysis.specs.declared.Analysis.{Analysis}
@@ -31,7 +29,7 @@ use Rattle.planner.specs.declared.WaitMaps.{WaitMaps}
 use Rattle.analysis.specs.Analysis.{Analysed}
 use Rattle.planning.specs.Outcomes.{plan-outcome, starts-outcome}
 use Rattle.planner.specs.Answers.{Lists}
-use Rattle.planner.proofs.Held.{by-held, held-count, held-gains, held-shape, held-steps}
+use Rattle.planner.proofs.Held.{by-held, held-gains, held-shape, held-steps}
 use Rattle.planning.proofs.Writing.{Answered}
 
 -- The elements of a list of bytes are below 256, from each place.
@@ -44,14 +42,14 @@ bytes-by (x ∷ s) h b m = go (List·Memᴰ·cases-cons m) (bytes-by s (λ i. h 
     go (inr n) below = below n
 
 -- A report on bytes that are read whole: the sheet's records, within their limits.
-pub record Whole (s : List ℕ) (report : Report) : Type 0 where
-  pub holds : Holds (read s) (report .sheet)
-  pub fits : Fits (holds .whole)
+pub record Whole (s words : List ℕ) (report : Report) : Type 0 where
+  pub found : Found (read s) words report
+  pub fits : Fits (found .whole)
 
-pub whole : (s : List ℕ) (report : Report) → ((i : ℕ) → getD s i 0 < 256) → Reports (read s) report → report .reading ≡ Readings.Whole → Whole s report
-whole s report small reports e =
-    let h = report-given (read s) report reports e in
-    record { holds = h; fits = read-fits s (h .whole) (bytes-by s small) (h .is-given) }
+pub whole : (s words : List ℕ) (report : Report) → ((i : ℕ) → getD s i 0 < 256) → Reports (read s) words report → report .reading ≡ Readings.Whole → Whole s words report
+whole s words report small reports e =
+    let h = report-given (read s) words report reports e in
+    record { found = h; fits = read-fits s (h .whole) (bytes-by s small) (h .is-given) }
 
 -- Where reading refuses, each call does, and leaves the lent numbers.
 module _ (s : List ℕ) {k : ℕ} (e : read s ≡ refused k) where
@@ -72,28 +70,32 @@ module _ (s : List ℕ) {k : ℕ} (e : read s ≡ refused k) where
   starts-refused allow list out = (rw e, rw e)
 
 -- The answer of a sheet as it is held, from that of the words that stand for its edges: the definitions of records are those of their steps and edges.
-module _ {q : Records} {sheet : Sheet} (fits : Fits q) (same : sheet ≡ held (given q)) {words : List ℕ} {count : ℕ} (listed : Listed (take (sheet .n) (sheet .operations)) (take (sheet .r) (sheet .links)) (sheet .r) words count) (allow : Bool) (r : Verdict) where
+module _ {q : Records} {words : List ℕ} {report : Report} (fits : Fits q) (holds : Holds q words report) where
   abbrev word-edges : List Edge
-  word-edges = graph (take count words)
+  word-edges = graph (take (report .count) words)
 
-  plan-records : (table after : List ℕ) → Answered (plan-outcome (count-of q) (edges-of q) allow table) (plan-table (count-of q) (serialized (count-of q) (edges-of q))) table r after → Answered (plan-verdict q allow table) (plan-table (count-of q) (serialized-of q)) table r after
-  unfolding plan-outcome plan-verdict judge-records serialized-of
-  plan-records table after a = a
+  pub sheet-analysed : (allow : Bool) {r : Analysis} → (Shape (report .n) (members word-edges) → Gains (members word-edges) 65535 → Analysed (report .n) word-edges allow r) → Analysed (count-of q) (edges-of q) allow r
+  sheet-analysed allow {r} answer = by-held fits holds (λ n g. Analysed n g allow r) (answer (held-shape fits holds) (held-gains fits holds))
 
-  pub sheet-planned : (table : List ℕ) {after : List ℕ} → (Shape (sheet .n) (members word-edges) → Gains (members word-edges) 65535 → Answered (plan-outcome (sheet .n) word-edges allow table) (plan-table (sheet .n) (serialized (sheet .n) word-edges)) table r after) → Answered (plan-verdict q allow table) (plan-table (count-of q) (serialized-of q)) table r after
-  sheet-planned table {after} answer =
-      plan-records table after
-      (by-held fits same listed (λ n g. Answered (plan-outcome n g allow table) (plan-table n (serialized n g)) table r after) (answer (held-shape fits same listed) (held-gains fits same listed)))
+  module _ (allow : Bool) (r : Verdict) where
+    plan-records : (table after : List ℕ) → Answered (plan-outcome (count-of q) (edges-of q) allow table) (plan-table (count-of q) (serialized (count-of q) (edges-of q))) table r after → Answered (plan-verdict q allow table) (plan-table (count-of q) (serialized-of q)) table r after
+    unfolding plan-outcome plan-verdict judge-records serialized-of
+    plan-records table after a = a
 
-  starts-records : (list out after : List ℕ) → Answered (starts-outcome (count-of q) (edges-of q) allow (q .steps) list out) (start-times (count-of q) (serialized (count-of q) (edges-of q)) (delays list)) out r after → Answered (starts-verdict q allow list out) (start-times (count-of q) (serialized-of q) (delays list)) out r after
-  unfolding starts-outcome starts-verdict judge-records serialized-of
-  starts-records list out after a = a
+    pub sheet-planned : (table : List ℕ) {after : List ℕ} → (Shape (report .n) (members word-edges) → Gains (members word-edges) 65535 → Answered (plan-outcome (report .n) word-edges allow table) (plan-table (report .n) (serialized (report .n) word-edges)) table r after) → Answered (plan-verdict q allow table) (plan-table (count-of q) (serialized-of q)) table r after
+    sheet-planned table {after} answer =
+        plan-records table after
+        (by-held fits holds (λ n g. Answered (plan-outcome n g allow table) (plan-table n (serialized n g)) table r after) (answer (held-shape fits holds) (held-gains fits holds)))
 
-  pub sheet-started : (unbounded : ℕ) (list out : List ℕ) {after : List ℕ} → ((i : ℕ) → test-bit unbounded i ≡ unbounded-at (take (sheet .n) (sheet .operations)) i) → (Shape (sheet .n) (members word-edges) → Gains (members word-edges) 65535 → (os : List Operation) → length os ≡ sheet .n → ((i : ℕ) → i < sheet .n → test-bit unbounded i ≡ unbounded-at os i) → Answered (starts-outcome (sheet .n) word-edges allow os list out) (start-times (sheet .n) (serialized (sheet .n) word-edges) (delays list)) out r after) → Answered (starts-verdict q allow list out) (start-times (count-of q) (serialized-of q) (delays list)) out r after
-  sheet-started unbounded list out {after} map answer =
-      starts-records list out after
-      (by-held fits same listed (λ n g. Answered (starts-outcome n g allow (q .steps) list out) (start-times n (serialized n g) (delays list)) out r after)
-      (answer (held-shape fits same listed) (held-gains fits same listed) (q .steps) (sym (held-count fits same)) (λ i b. map i ∙ ap (λ (os : List Operation). unbounded-at os i) (held-steps fits same))))
+    starts-records : (list out after : List ℕ) → Answered (starts-outcome (count-of q) (edges-of q) allow (q .steps) list out) (start-times (count-of q) (serialized (count-of q) (edges-of q)) (delays list)) out r after → Answered (starts-verdict q allow list out) (start-times (count-of q) (serialized-of q) (delays list)) out r after
+    unfolding starts-outcome starts-verdict judge-records serialized-of
+    starts-records list out after a = a
+
+    pub sheet-started : (unbounded : ℕ) (list out : List ℕ) {after : List ℕ} → ((i : ℕ) → test-bit unbounded i ≡ unbounded-at (take (report .n) (report .operations)) i) → (Shape (report .n) (members word-edges) → Gains (members word-edges) 65535 → (os : List Operation) → length os ≡ report .n → ((i : ℕ) → i < report .n → test-bit unbounded i ≡ unbounded-at os i) → Answered (starts-outcome (report .n) word-edges allow os list out) (start-times (report .n) (serialized (report .n) word-edges) (delays list)) out r after) → Answered (starts-verdict q allow list out) (start-times (count-of q) (serialized-of q) (delays list)) out r after
+    sheet-started unbounded list out {after} map answer =
+        starts-records list out after
+        (by-held fits holds (λ n g. Answered (starts-outcome n g allow (q .steps) list out) (start-times n (serialized n g) (delays list)) out r after)
+        (answer (held-shape fits holds) (held-gains fits holds) (q .steps) (sym (holds .n)) (λ i b. map i ∙ ap (λ (os : List Operation). unbounded-at os i) (held-steps fits holds))))
 
 -- The waits of the analysis, by whether it accepts.
 waits-when-lists : (q : Records) (found : Analysis) (o : Outcome ℕ) → judge-edges (count-of q) (edges-of q) true ≡ o → Analysed (count-of q) (edges-of q) true found → Lists (waits-when q o) (record { verdict = found .verdict; maps = found .maps; count = found .count })

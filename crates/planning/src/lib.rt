@@ -15,6 +15,7 @@ ghost use Rattle.definitions.specs.Numbers.{verdict-of};
 ghost use Rattle.definitions.specs.Plan.{delays, delays-wrong, plan-table, start-times};
 ghost use Rattle.definitions.specs.Waits.{serialized};
 ghost use Rattle.definitions.specs.declared.Operation.{Operation};
+ghost use Rattle.adjacency.specs.Lists.{Lists};
 ghost use Rattle.edges.specs.Words.{graph};
 ghost use Rattle.relations.specs.Rows.{row-bit};
 ghost use Rattle.delays.specs.Delays.{unbounded-at};
@@ -48,22 +49,25 @@ fn with_source(reach: &[u64; 64], n: usize) -> [u64; 64]
 
 fn write_plan(
     es: &[u64],
+    lists: &[u16],
     n: usize,
     order: &[u8; 64],
     reach: &[u64; 64],
     maps: &[u64; 64],
     table: &mut [u32],
 )
-    requires { ⌜ (1 ≤ n) × (n ≤ 64) × (length (now es) ≤ 2048) × (n * n ≤ length (now table)) ⌝ }
+    requires { ⌜ (1 ≤ n) × (n ≤ 64) × (length (now es) ≤ 2048) × Lists (now es) (now lists) × (n * n ≤ length (now table)) ⌝ }
     ensures { λ r. ⌜ (Plannable n (graph (now (es .entry))) (now (reach .entry)) (now (maps .entry)) → now (table .exit) ≡ plan-table n (serialized n (graph (now (es .entry)))) ++ drop (n * n) (now (table .entry))) ⌝ }
 {
-    let d = heaviest::walks(es, maps, order, n);
+    let mut d = heaviest::first_table();
+    heaviest::walks(&mut d, es, lists, maps, order, n);
     let sets = with_source(reach, n);
     schedule::fill_plan(&d, &sets, n, table);
 }
 
 fn write_starts(
     es: &[u64],
+    lists: &[u16],
     n: usize,
     order: &[u8; 64],
     reach: &[u64; 64],
@@ -71,10 +75,11 @@ fn write_starts(
     list: &[u32],
     out: &mut [u32],
 )
-    requires { ⌜ (1 ≤ n) × (n ≤ 64) × (length (now es) ≤ 2048) × (n ≤ length (now list)) × (n ≤ length (now out)) ⌝ }
+    requires { ⌜ (1 ≤ n) × (n ≤ 64) × (length (now es) ≤ 2048) × Lists (now es) (now lists) × (n ≤ length (now list)) × (n ≤ length (now out)) ⌝ }
     ensures { λ r. ⌜ (Plannable n (graph (now (es .entry))) (now (reach .entry)) (now (maps .entry)) → (os : List Operation) → length os ≡ n → delays-wrong os (now (list .entry)) ≡ false → now (out .exit) ≡ start-times n (serialized n (graph (now (es .entry)))) (delays (now (list .entry))) ++ drop n (now (out .entry))) ⌝ }
 {
-    let d = heaviest::walks(es, maps, order, n);
+    let mut d = heaviest::first_table();
+    heaviest::walks(&mut d, es, lists, maps, order, n);
     let sets = with_source(reach, n);
     starts::fill_starts(&d, &sets, n, list, out);
 }
@@ -84,7 +89,9 @@ pub fn plan_edges(es: &[u64], n: usize, allow: bool, table: &mut [u32]) -> Verdi
     requires { ⌜ (1 ≤ n) × (n ≤ 64) × (length (now es) ≤ 2048) ⌝ }
     ensures { λ r. ⌜ (Shape n (members (graph (now (es .entry)))) → Gains (members (graph (now (es .entry)))) 65535 → (verdict-of r ≡ plan-outcome n (graph (now (es .entry))) allow (now (table .entry))) × (now (table .exit) ≡ written (plan-outcome n (graph (now (es .entry))) allow (now (table .entry))) (plan-table n (serialized n (graph (now (es .entry))))) (now (table .entry)))) ⌝ }
 {
-    let found = analyse(es, n, allow);
+    let mut lists = [0u16; 2112];
+    adjacency::list(es, &mut lists);
+    let found = analyse(es, &lists, n, allow);
     let verdict = found.verdict;
     if !accepted(verdict) {
         return verdict;
@@ -95,7 +102,7 @@ pub fn plan_edges(es: &[u64], n: usize, allow: bool, table: &mut [u32]) -> Verdi
     let order = found.order;
     let reach = found.reach;
     let maps = found.maps;
-    write_plan(es, n, &order, &reach, &maps, table);
+    write_plan(es, &lists, n, &order, &reach, &maps, table);
     verdict
 }
 
@@ -111,7 +118,9 @@ pub fn starts_edges(
     requires { ⌜ (1 ≤ n) × (n ≤ 64) × (length (now es) ≤ 2048) ⌝ }
     ensures { λ r. ⌜ (Shape n (members (graph (now (es .entry)))) → Gains (members (graph (now (es .entry)))) 65535 → (os : List Operation) → length os ≡ n → ((i : ℕ) → i < n → test-bit unbounded i ≡ unbounded-at os i) → (verdict-of r ≡ starts-outcome n (graph (now (es .entry))) allow os (now (list .entry)) (now (out .entry))) × (now (out .exit) ≡ written (starts-outcome n (graph (now (es .entry))) allow os (now (list .entry)) (now (out .entry))) (start-times n (serialized n (graph (now (es .entry)))) (delays (now (list .entry)))) (now (out .entry)))) ⌝ }
 {
-    let found = analyse(es, n, allow);
+    let mut lists = [0u16; 2112];
+    adjacency::list(es, &mut lists);
+    let found = analyse(es, &lists, n, allow);
     let verdict = found.verdict;
     if !accepted(verdict) {
         return verdict;
@@ -128,6 +137,6 @@ pub fn starts_edges(
     let order = found.order;
     let reach = found.reach;
     let maps = found.maps;
-    write_starts(es, n, &order, &reach, &maps, list, out);
+    write_starts(es, &lists, n, &order, &reach, &maps, list, out);
     verdict
 }

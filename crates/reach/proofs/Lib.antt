@@ -1,3 +1,3 @@
-pub mod Rows
-pub mod Sources
-pub mod Turns
+pub mod Pushing
+pub mod Passing
+pub mod Searching

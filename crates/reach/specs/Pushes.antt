@@ -1,63 +1,75 @@
--- Anchors pushed along the edges, as maps of bits: bit a of row v comes to stand where a walk from the end of a reaches v. Such a walk takes no late return into a.
+-- Anchors handed on along the edges, as maps of bits: bit a of row v comes to stand where a walk from the end of a reaches v. Such a walk takes no late return into a.
+-- Bit v of a map of marks stands where step v may have something that it has not handed on.
 use mathlib.Core.Path.{_≡_}
-use mathlib.Core.Bool.{Bool, _&&_, _||_, cond, false, not}
-use mathlib.Core.List.{List, [], _∷_}
-use Prim.Native.Nat.{_-_, _^_, _≤_, suc, zero, ℕ}
-use lib.Bits.{bitAnd, bitOr}
+use mathlib.Core.Bool.{Bool, true, false, not, _&&_, _||_}
+use mathlib.Core.List.{List}
+use mathlib.Core.Logic.{_⊎_, _≢_}
+use Prim.Native.Nat.{ℕ}
 use lib.Dec.{eqb}
-use lib.ListN.{getD, length, replicate, set}
+use lib.ListN.{getD, length}
 use Rattle.definitions.specs.Basics.{test-bit}
-use Rattle.definitions.specs.Links.{Edge, members, usable}
+use Rattle.definitions.specs.Links.{Edge, Graph, members, usable}
 use Rattle.definitions.specs.Rounds.{after-reaches}
 use Rattle.theory.specs.Graphs.{Shape}
+use Rattle.theory.specs.Sweeps.{Leads}
 
--- The anchors of row v, a map.
-abbrev pub row : List ℕ → ℕ → ℕ
-row rows v = getD rows v 0
+-- The rows are read by columns: the column of anchor a has its bit of each step.
+abbrev pub column : List ℕ → ℕ → ℕ → Bool
+column rows a v = test-bit (getD rows v 0) a
 
--- The anchors m at an edge's start, with the start itself where the edge is counted. Step 0 is no anchor here: its delay counts as 0.
-unfoldable pub begun : ℕ → Edge → ℕ
-begun m e = cond (e .counted && not (eqb (e .from) 0)) (bitOr m (2 ^ e .from)) m
+-- What stands in one column, or map, stands in the other.
+abbrev pub Within : (ℕ → Bool) → (ℕ → Bool) → Type 0
+Within r s = (v : ℕ) → r v ≡ true → s v ≡ true
 
--- A map without k as a member.
-unfoldable pub without : ℕ → ℕ → ℕ
-without m k = m - bitAnd m (2 ^ k)
+-- An edge has something for the column of a: its start is in the column, or it begins the walks of a.
+abbrev pub Gives : ℕ → (ℕ → Bool) → Edge → Type 0
+Gives a r e = (r (e .from) ≡ true) ⊎ Leads a e
 
--- What an edge hands on of the anchors m at its start: all of them and those that it begins, but its end where it is late.
-unfoldable pub handed : ℕ → Edge → ℕ
-handed m e = cond (e .late) (without (begun m e) (e .to)) (begun m e)
+-- Every edge has handed on; and those have that leave a step without a mark.
+abbrev pub Settled : ℕ → Graph → (ℕ → Bool) → Type 0
+Settled a E r = (e : Edge) → E e → Gives a r e → r (e .to) ≡ true
 
--- The row of an edge's end once the edge has handed on, and the rows then.
-unfoldable pub pushed : List ℕ → Edge → ℕ
-pushed rows e = bitOr (row rows (e .to)) (handed (row rows (e .from)) e)
+abbrev pub Covered : ℕ → Graph → (ℕ → Bool) → (ℕ → Bool) → Type 0
+Covered a E r f = (e : Edge) → E e → f (e .from) ≡ false → Gives a r e → r (e .to) ≡ true
 
-unfoldable pub push : List ℕ → Edge → List ℕ
-push rows e = set rows (e .to) (pushed rows e)
+-- The anchors in h came into row v. No mark is taken away, and a row that grows gets one.
+pub record Joined (v h : ℕ) (rows rows′ : List ℕ) (k k′ : ℕ) : Type 0 where
+  pub long : length rows′ ≡ 64
+  pub here : (a : ℕ) → column rows′ a v ≡ (column rows a v || test-bit h a)
+  pub other : (a u : ℕ) → u ≢ v → column rows′ a u ≡ column rows a u
+  pub marks : Within (test-bit k) (test-bit k′)
+  pub marked : (a u : ℕ) → test-bit k′ u ≡ false → column rows′ a u ≡ column rows a u
 
--- Whether that changes the row.
-unfoldable pub changes : List ℕ → Edge → Bool
-changes rows e = not (eqb (pushed rows e) (row rows (e .to)))
+-- Edges of a graph on one column and its marks, some of them one or more times. Each edge out of u has handed on, from a start where `held` stands. Nothing goes beyond a column in which every edge has handed on. No
+-- mark is taken away, and a step that comes into the column gets one.
+pub record Handed (a : ℕ) (E : Graph) (u : ℕ) (held : Bool) (r s f g : ℕ → Bool) : Type 0 where
+  pub up : Within r s
+  pub hands : (e : Edge) → E e → e .from ≡ u → (held ≡ true) ⊎ Leads a e → s (e .to) ≡ true
+  pub sound : (t : ℕ → Bool) → Settled a E t → (held ≡ true → t u ≡ true) → Within r t → Within s t
+  pub marks : Within f g
+  pub marked : (v : ℕ) → g v ≡ false → s v ≡ r v
 
--- Each edge once, in order, and whether one of them changes a row; then k such rounds.
-unfoldable pub push-round : List Edge → List ℕ → List ℕ
-push-round [] rows = rows
-push-round (e ∷ es) rows = push-round es (push rows e)
+-- The same for every anchor, in its own graph; u hands on the anchors in m.
+pub record HandedAll (E : ℕ → Graph) (u m : ℕ) (rows rows′ : List ℕ) (k k′ : ℕ) : Type 0 where
+  pub long : length rows′ ≡ 64
+  pub each : (a : ℕ) → Handed a (E a) u (test-bit m a) (column rows a) (column rows′ a) (test-bit k) (test-bit k′)
 
-unfoldable pub round-changes : List Edge → List ℕ → Bool
-round-changes [] rows = false
-round-changes (e ∷ es) rows = changes rows e || round-changes es (push rows e)
+-- The anchors that the counted edges of u hand on: those in m, and u itself. Step 0 is no anchor here: its delay counts as 0.
+abbrev pub Begun : ℕ → ℕ → ℕ → Type 0
+Begun u m all = (a : ℕ) → test-bit all a ≡ (test-bit m a || (not (eqb u 0) && eqb a u))
 
-unfoldable pub push-rounds : List Edge → ℕ → List ℕ → List ℕ
-push-rounds es zero rows = rows
-push-rounds es (suc k) rows = push-round es (push-rounds es k rows)
+-- Steps hand on, one after another: those of On at least once, unless they have no mark. A step without a mark has then handed on all that it has.
+pub record Swept (a : ℕ) (E : Graph) (On : ℕ → Type 0) (r s f g : ℕ → Bool) : Type 0 where
+  pub up : Within r s
+  pub sound : (t : ℕ → Bool) → Settled a E t → Within r t → Within s t
+  pub covers : Covered a E r f → Covered a E s g
+  pub hands : Covered a E r f → (e : Edge) → E e → On (e .from) → Gives a r e → s (e .to) ≡ true
 
--- n rounds from rows without anchors.
-unfoldable pub pushed-rows : ℕ → List Edge → List ℕ
-pushed-rows n es = push-rounds es n (replicate 64 0)
+pub record SweptAll (E : ℕ → Graph) (On : ℕ → Type 0) (rows rows′ : List ℕ) (k k′ : ℕ) : Type 0 where
+  pub long : length rows′ ≡ 64
+  pub each : (a : ℕ) → Swept a (E a) On (column rows a) (column rows′ a) (test-bit k) (test-bit k′)
 
--- What `reach` gives: the rows of n rounds. On the edges of a sheet of n steps, bit a of row v says whether a walk that begins with a counted edge out of a reaches v over the edges that it may use, and rows from n on are 0.
+-- What `reach` gives. On the edges of a sheet of n steps, bit a of row v says whether a walk that begins with a counted edge out of a reaches v over the edges that it may use.
 pub record Reached (n : ℕ) (es : List Edge) (r : List ℕ) : Type 0 where
-  pub same : r ≡ pushed-rows n es
   pub long : length r ≡ 64
-  pub reaches : Shape n (members es) → (a v : ℕ) → test-bit (row r v) a ≡ after-reaches n (usable es a) a v
-  pub blank : Shape n (members es) → (v : ℕ) → n ≤ v → row r v ≡ 0
+  pub reaches : Shape n (members es) → (a v : ℕ) → column r a v ≡ after-reaches n (usable es a) a v

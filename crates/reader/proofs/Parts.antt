@@ -1,20 +1,21 @@
 -- What a sheet's parser finds, case by case: the laws that the functions' proofs cite. Each is the parser's text, computed at what is there.
-use mathlib.Core.Path.{_≡_, refl, ap, _∙_}
+use mathlib.Core.Path.{_≡_, refl, sym, _∙_}
+use mathlib.Core.Bool.{true}
 use mathlib.Core.List.{List, [], _∷_}
-use Prim.Native.Nat.{ℕ, suc, _≤_, _<_}
+use Prim.Native.Nat.{ℕ, suc, _*_, _≤_, _<_, min}
+use native.Mathlib.Decide.{decLt}
 use native.Mathlib.Omega.{arith}
 use lib.Dec.{leb}
 use lib.ListN.{length, getD, drop}
-use borrow.Author.Tests.{le-leb, lt-leb}
+use borrow.Author.Tests.{le-leb, lt-leb, leb-true}
 use Rattle.definitions.specs.Basics.{Outcome, given, refused, when-given}
 use Rattle.definitions.specs.Bytes.{Taken, _>>=_, _>>_, give, demand, byte, two-bytes, at-end, links, operations, sheet}
-use Rattle.definitions.specs.declared.Link.{Link}
 use Rattle.definitions.specs.declared.Operation.{Operation}
 use Rattle.definitions.specs.Bytes as Bytes
 use Rattle.laws.proofs.Parsers.{when-given-twice}
 use Rattle.fields.specs.Parts.{outcome}
 use Rattle.link_records.specs.Parts.{last-links}
-use Rattle.reader.specs.Parts.{sheet-records, sheet-counted}
+use Rattle.reader.specs.Parts.{count-within, link-count, sheet-records, sheet-counted}
 
 -- A value made from what a parser gives: before or after the rest of the bytes is left out.
 outcome-made : {A B : Type 0} (p : Outcome (Taken A)) (f : A → B) → when-given {A = Taken B} (when-given p (λ t. given (record { value = f (t .value); rest = t .rest }))) (λ t. given (t .value)) ≡ when-given (when-given p (λ t. given (t .value))) (λ a. given (f a))
@@ -29,17 +30,9 @@ module _ (n r : ℕ) (t : List ℕ) where
   steps-refused e = rw e
 
   module _ {os : List Operation} {rest : List ℕ} (there : operations n t ≡ given (record { value = os; rest = rest })) where
-    with-pairs : outcome (sheet-records n r) t ≡ when-given (outcome (last-links n r) rest) (λ ls. given (record { steps = os; pairs = ls }))
+    pub with-pairs : outcome (sheet-records n r) t ≡ when-given (outcome (last-links n r) rest) (λ ls. given (record { steps = os; pairs = ls }))
     unfolding outcome sheet-records when-given
     with-pairs = rw there (outcome-made (last-links n r rest) (λ ls. record { steps = os; pairs = ls }))
-
-    pub pairs-refused : {k : ℕ} → outcome (last-links n r) rest ≡ refused k → outcome (sheet-records n r) t ≡ refused k
-    unfolding when-given
-    pairs-refused e = with-pairs ∙ ap (λ (p : Outcome (List Link)). when-given p (λ ls. given (record { steps = os; pairs = ls }))) e
-
-    pub records-whole : {ls : List Link} → outcome (last-links n r) rest ≡ given ls → outcome (sheet-records n r) t ≡ given (record { steps = os; pairs = ls })
-    unfolding when-given
-    records-whole e = with-pairs ∙ ap (λ (p : Outcome (List Link)). when-given p (λ ls. given (record { steps = os; pairs = ls }))) e
 
 -- R, and what comes after it.
 module _ (n : ℕ) (t : List ℕ) where
@@ -55,6 +48,38 @@ module _ (n : ℕ) (t : List ℕ) where
     pub counted-there : r ≤ 512 → outcome (sheet-counted n) t ≡ outcome (sheet-records n r) rest
     unfolding outcome sheet-counted demand when-given
     counted-there h = rw (there, le-leb r 512 h)
+
+-- The room that link records need: for all of them, where their number is within its limit.
+pub count-there : (s : List ℕ) {r : ℕ} {rest : List ℕ} → two-bytes (drop 1 s) ≡ given (record { value = r; rest = rest }) → r ≤ 512 → link-count s ≡ r
+unfolding link-count count-within
+count-there s e h = rw e (omega arith)
+
+count-most : (o : Outcome (Taken ℕ)) → count-within o ≤ 512
+unfolding count-within
+count-most (given t) = omega arith
+count-most (refused k) = omega arith
+
+-- Words that are enough for a brief sheet's edges, and for any sheet's.
+pub room-brief : (s : List ℕ) (most : ℕ) → leb (link-count s) most ≡ true → 4 * link-count s ≤ 4 * most
+room-brief s most e = let b = leb-true (link-count s) most e in omega arith
+
+pub room-any : (s : List ℕ) → 4 * link-count s ≤ 2048
+unfolding link-count
+room-any s = let b = count-most (two-bytes (drop 1 s)) in omega arith
+
+-- Whether their number is small.
+module _ (s : List ℕ) (most : ℕ) where
+  pub brief-there : {r : ℕ} {rest : List ℕ} → two-bytes (drop 1 s) ≡ given (record { value = r; rest = rest }) → most < 512 → leb r most ≡ leb (link-count s) most
+  unfolding link-count count-within
+  brief-there {r} e below = rw e (go (decLt most r))
+    where
+      go : Dec (most < r) → leb r most ≡ leb (min 512 r) most
+      go (yes h) = lt-leb r most h ∙ sym (lt-leb (min 512 r) most (omega arith))
+      go (no h) = let b : r ≤ most = omega arith in le-leb r most b ∙ sym (le-leb (min 512 r) most (omega arith))
+
+  pub brief-refused : {k : ℕ} → two-bytes (drop 1 s) ≡ refused k → true ≡ leb (link-count s) most
+  unfolding link-count count-within
+  brief-refused e = rw e (sym (le-leb 0 most (omega arith)))
 
 -- N, and the whole sheet.
 pub sheet-none : (s : List ℕ) → length s ≡ 0 → Bytes.read s ≡ refused 1

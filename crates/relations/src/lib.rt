@@ -31,7 +31,7 @@ fn spread(out: &mut [u64], m: u64, v: usize)
         let k = bitmaps::lowest(left);
         let row = bitmaps::insert(out[k], v);
         out[k] = row;
-        left = bitmaps::remove(left, k);
+        left = bitmaps::without_lowest(left);
     }
 }
 

@@ -68,6 +68,17 @@ unfolding extend
 extend-some zero g l h = absurd (h refl)
 extend-some (suc c) g l h = omega arith
 
+-- Only what an edge gains more than it loses counts, or loses more than it gains.
+pub extend-gain : (c g gain loss : ℕ) → gain ≡ g + loss → extend c g 0 ≡ extend c gain loss
+unfolding extend
+extend-gain zero g gain loss h = refl
+extend-gain (suc c) g gain loss h = omega arith
+
+pub extend-loss : (c l gain loss : ℕ) → loss ≡ l + gain → extend c 0 l ≡ extend c gain loss
+unfolding extend
+extend-loss zero l gain loss h = refl
+extend-loss (suc c) l gain loss h = omega arith
+
 -- The loop over the anchors of a map: those that are left have their columns as they were, the others are relaxed.
 pub record Relaxing (e : Edge) (m left moved : ℕ) (d₀ d : List (List ℕ)) : Type 0 where
   pub square : Square d
@@ -178,6 +189,6 @@ module _ (e : Edge) (m : ℕ) (d₀ : List (List ℕ)) where
         done b h (inr q) = other-done b q (R .done b (sym (left-other b q) ∙ h))
 
 -- The same with the edge's parts as the code has them.
-pub relaxing-next : (e : Edge) (m : ℕ) (d₀ : List (List ℕ)) (left moved left′ moved′ a c : ℕ) (grew : Bool) (d d′ : List (List ℕ)) {from to gain loss : ℕ} → e .from ≡ from → e .to ≡ to → e .gain ≡ gain → e .loss ≡ loss → test-bit left a ≡ true → c ≡ min (extend (entry d from a) gain loss) 4294967295 → Raised to a c d d′ grew → ((j : ℕ) → test-bit moved′ j ≡ (test-bit moved j || (grew && eqb j a))) → ((j : ℕ) → test-bit left′ j ≡ (test-bit left j && not (eqb j a))) → Relaxing e m left moved d₀ d → Relaxing e m left′ moved′ d₀ d′
-relaxing-next e m d₀ left moved left′ moved′ a c grew d d′ f t g l member value raised moves leaves R =
-    relaxing-turn e m d₀ left moved left′ moved′ a c grew d d′ member (rw (f, g, l) value) (rw t raised) moves leaves R
+pub relaxing-next : (e : Edge) (m : ℕ) (d₀ : List (List ℕ)) (left moved left′ moved′ a c : ℕ) (grew : Bool) (d d′ : List (List ℕ)) (gain loss : ℕ) {from to : ℕ} → e .from ≡ from → e .to ≡ to → ((x : ℕ) → extend x gain loss ≡ extend x (e .gain) (e .loss)) → test-bit left a ≡ true → c ≡ min (extend (entry d from a) gain loss) 4294967295 → Raised to a c d d′ grew → ((j : ℕ) → test-bit moved′ j ≡ (test-bit moved j || (grew && eqb j a))) → ((j : ℕ) → test-bit left′ j ≡ (test-bit left j && not (eqb j a))) → Relaxing e m left moved d₀ d → Relaxing e m left′ moved′ d₀ d′
+relaxing-next e m d₀ left moved left′ moved′ a c grew d d′ gain loss {from} f t same member value raised moves leaves R =
+    relaxing-turn e m d₀ left moved left′ moved′ a c grew d d′ member (rw f (value ∙ ap (λ (x : ℕ). min x 4294967295) (same (entry d from a)))) (rw t raised) moves leaves R

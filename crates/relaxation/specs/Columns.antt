@@ -1,11 +1,11 @@
 -- A working table, by rows of steps, is read by columns. The column of an anchor has its cell of each step: 0 where no walk comes, w + 1 for the weight w.
 -- Marks, bit a of map v, stand where the cell of step v and anchor a may have been raised since step v last handed on.
 use mathlib.Core.Path.{_≡_}
-use mathlib.Core.Bool.{Bool, true, false}
+use mathlib.Core.Bool.{Bool, true, false, _&&_, _||_}
 use mathlib.Core.Logic.{_≢_, _⊎_}
 use mathlib.Core.List.{List, []}
 use Prim.Native.Nat.{ℕ, _≤_, _<_, max, min}
-use lib.Dec.{ltb}
+use lib.Dec.{eqb, ltb}
 use lib.ListN.{length, getD}
 use Rattle.definitions.specs.Basics.{test-bit}
 use Rattle.definitions.specs.Links.{Edge, Graph}
@@ -33,6 +33,12 @@ pub record Raised (v a c : ℕ) (d d′ : List (List ℕ)) (raised : Bool) : Typ
   pub here : entry d′ v a ≡ max (entry d v a) c
   pub other : (w b : ℕ) → (w ≢ v) ⊎ (b ≢ a) → entry d′ w b ≡ entry d w b
   pub grew : raised ≡ ltb (entry d v a) c
+
+-- The same, where a map has the cell's anchor put in if the cell grew.
+pub record RaisedIn (v a c moved moved′ : ℕ) (d d′ : List (List ℕ)) : Type 0 where
+  pub grew : Bool
+  pub cell : Raised v a c d d′ grew
+  pub map : (j : ℕ) → test-bit moved′ j ≡ (test-bit moved j || (grew && eqb j a))
 
 -- What an edge hands on, cut at the largest number of a cell.
 abbrev pub cut-hand : (ℕ → ℕ) → Edge → ℕ

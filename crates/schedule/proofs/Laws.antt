@@ -1,27 +1,76 @@
 -- Rows and entries of the plan's table as they are read off the working tables, and that on the tables of an edge list they are the definition's. Assumes nothing.
 use mathlib.Core.Path.{_≡_, refl, sym, ap, ap₂, _∙_}
-use mathlib.Core.Bool.{Bool, cond}
+use mathlib.Core.Bool.{Bool, true, false, cond, not, _&&_, and-true, and-false}
+use mathlib.Core.Logic.{_⊎_, inl, inr, _≢_}
 use mathlib.Core.List.{List, _++_, append-assoc}
 use Prim.Native.Nat.{ℕ, zero, suc, _+_, _-_, _*_, _<_, _≤_}
 use native.Mathlib.Omega.{arith}
 use native.Mathlib.Nat.{suc-mul, zero-mul, mul-le-mul, le-refl}
 use native.Mathlib.Numerals.{add-one}
-use lib.ListN.{length, take, drop, length-append}
-use lib.Seq.{drop-drop}
+use native.Mathlib.Decide.{decLt}
+use lib.Dec.{eqb}
+use lib.ListN.{length, getD, set, take, drop, length-append, length-set}
+use lib.Seq.{drop-drop, ext-getD, getD-set-same, getD-set-other}
+use borrow.Author.Tests.{eq-eqb, ne-eqb}
 use borrow.Rule.Slice.PartMut.{putMid}
 use Rattle.definitions.specs.Basics.{tabulate, test-bit}
 use Rattle.definitions.specs.Links.{Edge}
 use Rattle.definitions.specs.Plan.{undecided, plan-entry, plan-row, plan-rows, plan-table}
-use Rattle.laws.proofs.Fronts.{put-rest}
+use Rattle.laws.proofs.Fronts.{laid, laid-at, laid-past, put-rest}
+use Rattle.laws.proofs.Bools.{cond-true, cond-false, same-or-not}
 use Rattle.laws.proofs.Tests.{tabulate-length, tabulate-same}
 use Rattle.irredundant.specs.Working.{Holds, weight, deciding}
 use Rattle.irredundant.proofs.Laws.{weight-offset, deciding-same}
-use Rattle.schedule.specs.Rows.{Planned, entry-at, first-rows}
+use Rattle.schedule.specs.Rows.{Planned, Put, cleared, entry-at, first-rows}
 
--- An entry by the map of the deciding set.
-pub entry-by : (d : List (List ℕ)) (sets : List ℕ) (v a map x : ℕ) → ((j : ℕ) → test-bit map j ≡ deciding d sets v j) → x ≡ cond (test-bit map a) (weight d v a) undecided → x ≡ entry-at d sets v a
+-- ---- offsets put into a row, a member at a time
+
+-- The row, with the values of the members left put in, is what is asked for.
+pub record Putting (n : ℕ) (value : ℕ → ℕ) (map left : ℕ) (row₀ row : List ℕ) : Type 0 where
+  pub long : length row ≡ length row₀
+  pub fits : n ≤ length row
+  pub front : (a : ℕ) → a < n → cond (test-bit left a) (value a) (getD row a 0) ≡ cond (test-bit map a) (value a) (getD row₀ a 0)
+  pub rest : (a : ℕ) → n ≤ a → getD row a 0 ≡ getD row₀ a 0
+
+pub none-put : (n : ℕ) (value : ℕ → ℕ) (map : ℕ) (row : List ℕ) → n ≤ length row → Putting n value map map row row
+none-put n value map row b = record { long = refl; fits = b; front = λ a _. refl; rest = λ a _. refl }
+
+module _ {n : ℕ} {value : ℕ → ℕ} {map left : ℕ} {row₀ row : List ℕ} where
+  -- A member's value is put in; at another place nothing changes.
+  pub one-put : {x y next : ℕ} → x < n → test-bit left x ≡ true → y ≡ value x → ((j : ℕ) → test-bit next j ≡ (test-bit left j && not (eqb j x)))
+      → Putting n value map left row₀ row → Putting n value map next row₀ (set row x y)
+  one-put {x} {y} {next} b stood is next-is P =
+      record { long = length-set row x y ∙ P .long; fits = simp length-set (P .fits); front = λ a c. front a (same-or-not a x) ∙ P .front a c; rest = λ a c. getD-set-other row x a y 0 (λ e. omega arith) ∙ P .rest a c }
+    where
+      front : (a : ℕ) → (a ≡ x) ⊎ (a ≢ x) → cond (test-bit next a) (value a) (getD (set row x y) a 0) ≡ cond (test-bit left a) (value a) (getD row a 0)
+      front a (inl e) =
+          let gone : test-bit next a ≡ false = next-is a ∙ ap (λ (t : Bool). test-bit left a && not t) (eq-eqb a x e) ∙ and-false (test-bit left a) in
+          cond-false _ _ gone ∙ ap (λ (i : ℕ). getD (set row x y) i 0) e ∙ getD-set-same row x y 0 (omega (arith, P .fits)) ∙ is ∙ ap value (sym e) ∙ sym (cond-true _ _ (ap (test-bit left) e ∙ stood))
+      front a (inr p) =
+          let kept : test-bit next a ≡ test-bit left a = next-is a ∙ ap (λ (t : Bool). test-bit left a && not t) (ne-eqb a x p) ∙ and-true (test-bit left a) in
+          ap₂ (λ (t : Bool) (z : ℕ). cond t (value a) z) kept (getD-set-other row x a y 0 p)
+
+  -- No member below n is left.
+  pub all-put : ((a : ℕ) → a < n → test-bit left a ≡ false) → Putting n value map left row₀ row → Put n (test-bit map) value row₀ row
+  all-put none P = record { long = P .long; front = λ a b. sym (cond-false _ _ (none a b)) ∙ P .front a b; rest = P .rest }
+
+-- A cleared row with the offsets of the deciding set is the row of the plan.
+pub row-filled : (d : List (List ℕ)) (sets : List ℕ) (n v map : ℕ) (l row row′ : List ℕ) → ((j : ℕ) → test-bit map j ≡ deciding d sets v j) → row ≡ laid cleared n l → Put n (test-bit map) (weight d v) row row′ → row′ ≡ laid (entry-at d sets v) n l
 unfolding entry-at
-entry-by d sets v a map x h e = e ∙ ap (λ (t : Bool). cond t (weight d v a) undecided) (h a)
+row-filled d sets n v map l row row′ h e P =
+    ext-getD 0 row′ (laid f n l) (P .long ∙ ap length e ∙ same-size) (λ a b. by a (decLt a n))
+  where
+    f : ℕ → ℕ
+    f a = cond (deciding d sets v a) (weight d v a) undecided
+
+    same-size : length (laid cleared n l) ≡ length (laid f n l)
+    same-size = omega (arith, length-append (tabulate cleared n) (drop n l), length-append (tabulate f n) (drop n l), tabulate-length cleared n, tabulate-length f n)
+
+    by : (a : ℕ) → Dec (a < n) → getD row′ a 0 ≡ getD (laid f n l) a 0
+    by a (yes b) = P .front a b ∙ ap₂ (λ (t : Bool) (x : ℕ). cond t (weight d v a) x) (h a) (ap (λ (r : List ℕ). getD r a 0) e ∙ laid-at cleared n l a 0 b) ∙ sym (laid-at f n l a 0 b)
+    by a (no b) = let c : n ≤ a = omega arith in P .rest a c ∙ ap (λ (r : List ℕ). getD r a 0) e ∙ laid-past cleared n l a 0 c ∙ sym (laid-past f n l a 0 c)
+
+-- ---- where rows stand
 
 -- Row v of n rows of n is within the table, whose size is small.
 pub row-place : (v n : ℕ) → v < n → v * n + n ≤ n * n

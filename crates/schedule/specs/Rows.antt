@@ -1,13 +1,23 @@
 -- The plan's table, a row at a time, as it is read off the working tables.
 use mathlib.Core.Path.{_≡_}
-use mathlib.Core.Bool.{cond}
+use mathlib.Core.Bool.{Bool, cond}
 use mathlib.Core.List.{List, [], _++_}
-use Prim.Native.Nat.{ℕ, zero, suc, _*_}
-use lib.ListN.{drop}
+use Prim.Native.Nat.{ℕ, zero, suc, _*_, _<_, _≤_}
+use lib.ListN.{length, getD, drop}
 use Rattle.definitions.specs.Basics.{tabulate}
 use Rattle.definitions.specs.Links.{Edge}
 use Rattle.definitions.specs.Plan.{plan-table, undecided}
 use Rattle.irredundant.specs.Working.{Holds, weight, deciding}
+
+-- A row of members that do not decide.
+abbrev pub cleared : ℕ → ℕ
+cleared a = undecided
+
+-- The places below n that pass a test have their values, every other is as it was.
+pub record Put (n : ℕ) (test : ℕ → Bool) (value : ℕ → ℕ) (row row′ : List ℕ) : Type 0 where
+  pub long : length row′ ≡ length row
+  pub front : (a : ℕ) → a < n → getD row′ a 0 ≡ cond (test a) (value a) (getD row a 0)
+  pub rest : (a : ℕ) → n ≤ a → getD row′ a 0 ≡ getD row a 0
 
 -- The plan's entries, and its first v rows.
 unfoldable pub entry-at : List (List ℕ) → List ℕ → ℕ → ℕ → ℕ

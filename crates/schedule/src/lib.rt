@@ -1,38 +1,50 @@
 // The plan's table (the relative schedule), from the working tables: see crate irredundant for what d and sets hold.
 // Every function is safe for any tables; on those of an edge list its answer is the definition's.
 ghost use mathlib.Core.Path.{_≡_};
-ghost use mathlib.Core.Bool.{cond};
 ghost use mathlib.Core.List.{_++_};
 ghost use Prim.Native.Nat.{_*_, _<_, _≤_};
 ghost use lib.ListN.{length, drop};
 ghost use Rattle.definitions.specs.Basics.{tabulate, test-bit};
-ghost use Rattle.definitions.specs.Plan.{undecided};
 ghost use Rattle.irredundant.specs.Working.{weight};
-ghost use Rattle.schedule.specs.Rows.{Planned, entry-at};
+ghost use Rattle.schedule.specs.Rows.{Planned, Put, cleared, entry-at};
 
-// The plan's entry for v and a, by the deciding set of v.
-fn entry(d: &[[u32; 64]; 64], deciding: u64, v: usize, a: usize) -> u32
-    requires { ⌜ (v < 64) × (a < 64) ⌝ }
-    ensures { λ r. ⌜ r ≡ cond (test-bit deciding a) (weight (now (d .entry)) v a) undecided ⌝ }
+// The first n entries of a row become those of members that do not decide.
+fn clear_row(n: usize, row: &mut [u32])
+    requires { ⌜ n ≤ length (now row) ⌝ }
+    ensures { λ r. ⌜ now (row .exit) ≡ tabulate cleared n ++ drop n (now (row .entry)) ⌝ }
 {
-    if bitmaps::has(deciding, a) {
-        return irredundant::offset_at(d, v, a);
+    let mut a = 0;
+    while a < n {
+        row[a] = 4294967295;
+        a += 1;
     }
-    4294967295
+}
+
+// The offsets of v for the members of a map below n, each at its place in the row.
+fn put_offsets(d: &[[u32; 64]; 64], map: u64, n: usize, v: usize, row: &mut [u32])
+    requires { ⌜ (v < 64) × (n ≤ length (now row)) ⌝ }
+    ensures { λ r. ⌜ Put n (test-bit map) (weight (now (d .entry)) v) (now (row .entry)) (now (row .exit)) ⌝ }
+{
+    let mut left = map;
+    while left != 0 {
+        let a = bitmaps::lowest(left);
+        if n <= a {
+            return;
+        }
+        let x = irredundant::offset_at(d, v, a);
+        row[a] = x;
+        left = bitmaps::without_lowest(left);
+    }
 }
 
 // Row v of the plan.
 fn fill_row(d: &[[u32; 64]; 64], sets: &[u64; 64], n: usize, v: usize, row: &mut [u32])
-    requires { ⌜ (n ≤ 64) × (v < 64) × (n ≤ length (now row)) ⌝ }
+    requires { ⌜ (v < 64) × (n ≤ length (now row)) ⌝ }
     ensures { λ r. ⌜ now (row .exit) ≡ tabulate (entry-at (now (d .entry)) (now (sets .entry)) v) n ++ drop n (now (row .entry)) ⌝ }
 {
     let deciding = irredundant::deciding_set(d, sets, v);
-    let mut a = 0;
-    while a < n {
-        let x = entry(d, deciding, v, a);
-        row[a] = x;
-        a += 1;
-    }
+    clear_row(n, row);
+    put_offsets(d, deciding, n, v, row);
 }
 
 // The plan's table, at the front of the lent numbers: a row at a time, each in the part of the table where it belongs.

@@ -66,7 +66,7 @@ fn seed_row(d: &mut [[u32; 64]; 64], fresh: &mut [u64; 64], waiting: u64, u: usi
         let i = bitmaps::lowest(left);
         let w = wait_word(u, i);
         seed_word(d, fresh, w);
-        left = bitmaps::remove(left, i);
+        left = bitmaps::without_lowest(left);
     }
 }
 

@@ -8,6 +8,7 @@ ghost use Rattle.definitions.specs.Answers.{closes-circle, infeasible, unserial
 ghost use Rattle.definitions.specs.Basics.{all-below, any};
 ghost use Rattle.definitions.specs.Links.{members};
 ghost use Rattle.definitions.specs.Waits.{serialized, wait-maps};
+ghost use Rattle.adjacency.specs.Lists.{Lists};
 ghost use Rattle.edges.specs.Words.{graph};
 ghost use Rattle.precedence.specs.Chains.{precedes};
 ghost use Rattle.relations.specs.Rows.{row-bit};
@@ -70,11 +71,12 @@ fn uncut(d: &[[u32; 64]; 64], n: usize) -> bool
 }
 
 // Whether start times keep edges and waits while no operation is delayed: whether the source's column of the working table is settled.
-fn leaves_times(es: &[u64], maps: &[u64; 64], order: &[u8; 64], n: usize) -> bool
-    requires { ⌜ (1 ≤ n) × (n ≤ 64) × (length (now es) ≤ 2048) ⌝ }
+fn leaves_times(es: &[u64], lists: &[u16], maps: &[u64; 64], order: &[u8; 64], n: usize) -> bool
+    requires { ⌜ (1 ≤ n) × (n ≤ 64) × (length (now es) ≤ 2048) × Lists (now es) (now lists) ⌝ }
     ensures { λ r. ⌜ (Well n (members (graph (now (es .entry)))) → Gains (members (graph (now (es .entry)))) 65535 → now (maps .entry) ≡ wait-maps n (graph (now (es .entry))) → closes-circle n (serialized n (graph (now (es .entry)))) ≡ false → r ≡ not (infeasible n (serialized n (graph (now (es .entry)))))) ⌝ }
 {
-    let d = heaviest::walks(es, maps, order, n);
+    let mut d = heaviest::first_table();
+    heaviest::walks(&mut d, es, lists, maps, order, n);
     if d[0][0] == 0 {
         return false;
     }
@@ -85,8 +87,14 @@ fn leaves_times(es: &[u64], maps: &[u64; 64], order: &[u8; 64], n: usize) -> boo
 }
 
 // Whether the waits can be put in, for edges that can be scheduled. Where no return counts from a finish they always can. The order decides speed alone.
-pub fn can_serialize(es: &[u64], maps: &[u64; 64], order: &[u8; 64], n: usize) -> bool
-    requires { ⌜ (1 ≤ n) × (n ≤ 64) × (length (now es) ≤ 2048) ⌝ }
+pub fn can_serialize(
+    es: &[u64],
+    lists: &[u16],
+    maps: &[u64; 64],
+    order: &[u8; 64],
+    n: usize,
+) -> bool
+    requires { ⌜ (1 ≤ n) × (n ≤ 64) × (length (now es) ≤ 2048) × Lists (now es) (now lists) ⌝ }
     ensures { λ r. ⌜ (Well n (members (graph (now (es .entry)))) → ForwardAcyclic (members (graph (now (es .entry)))) → Gains (members (graph (now (es .entry)))) 65535 → now (maps .entry) ≡ wait-maps n (graph (now (es .entry))) → r ≡ not (unserializable n (graph (now (es .entry))))) ⌝ }
 {
     if !has_late(es) {
@@ -95,5 +103,5 @@ pub fn can_serialize(es: &[u64], maps: &[u64; 64], order: &[u8; 64], n: usize) -
     if closes_circle(es, maps, n) {
         return false;
     }
-    leaves_times(es, maps, order, n)
+    leaves_times(es, lists, maps, order, n)
 }

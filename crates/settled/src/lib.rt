@@ -64,7 +64,7 @@ fn settled_row(d: &[[u32; 64]; 64], map: u64, i: usize) -> bool
         if !handed(d, a, i, 0, 0) {
             return false;
         }
-        left = bitmaps::remove(left, a);
+        left = bitmaps::without_lowest(left);
     }
     true
 }

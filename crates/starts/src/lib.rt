@@ -60,7 +60,7 @@ fn latest(
         }
         let x = term_of(d, list, old, v, a);
         most = larger(most, x);
-        left = bitmaps::remove(left, a);
+        left = bitmaps::without_lowest(left);
     }
     most
 }

@@ -2,21 +2,20 @@
 use mathlib.Core.Path.{_≡_, refl, sym, ap, _∙_}
 use mathlib.Core.Bool.{Bool, true, false, not, _&&_}
 use mathlib.Core.Logic.{_⊎_, inl, inr, _≢_}
-use mathlib.Core.List.{List, Memᴰ·cast}
+use mathlib.Core.List.{List}
 use Prim.Native.Nat.{ℕ, suc, _+_, _-_, _≤_, _<_, min}
 use native.Mathlib.Omega.{arith}
-use native.Mathlib.Decide.{decLe}
 use lib.Dec.{eqb}
 use lib.ListN.{length, getD}
 use borrow.Author.Tests.{eq-eqb, ne-eqb}
 use Rattle.adjacency.specs.Lists.{Lists, last-from}
 use Rattle.adjacency.proofs.Laws.{last-below, last-leaves, last-skips}
+use Rattle.adjacency.proofs.Following.{Behind, behind-mem, behind-split, mem-behind}
 use Rattle.definitions.specs.Basics.{test-bit}
 use Rattle.definitions.specs.Links.{Edge, Graph, LateInto, UsableFrom, _⊑_, members}
 use Rattle.definitions.specs.Rounds.{extend}
 use Rattle.definitions.specs.Waits.{wait-edge}
 use Rattle.edges.specs.Words.{graph, unpack}
-use Rattle.edges.proofs.Places.{graph-at, graph-place}
 use Rattle.laws.proofs.Bools.{and-split, both-ways, same-or-not}
 use Rattle.laws.proofs.Maps.{test-zero}
 use Rattle.relaxation.specs.Columns.{Handed, HandedAll, Only, Square, WaitsFor, column, cut-hand, marks}
@@ -57,34 +56,10 @@ pub handed-none : {E : ℕ → Graph} {u m : ℕ} (d : List (List ℕ)) (f : Lis
 handed-none d f S l away =
     record { square = S; long = l; each = λ a. record { up = λ v. omega arith; hands = λ q e m o. absurd (away a e m o); sound = λ t st below v. below v; marks = λ v q. q; marked = λ v q. refl } }
 
--- The edges at place k or a later one of the list.
-pub record Behind (es : List ℕ) (k : ℕ) (e : Edge) : Type 0 where
-  pub place : ℕ
-  pub behind : k ≤ place
-  pub inside : place < length es
-  pub same : e ≡ unpack (getD es place 0)
-
 -- What an anchor may use of one of two graphs.
 usable-split : (E F : Graph) {a : ℕ} {e : Edge} → ¬ LateInto e a → E e ⊎ F e → UsableFrom E a e ⊎ UsableFrom F a e
 usable-split E F timely (inl m) = inl (m, timely)
 usable-split E F timely (inr m) = inr (m, timely)
-
--- From edge k - 1 of the list of u to the one before it in that list, no edge leaves u.
-pub behind-split : (es : List ℕ) (u k k′ : ℕ) → k′ ≡ last-from es u (k - 1) → (e : Edge) → e .from ≡ u → Behind es k′ e → Behind es k e ⊎ Only (unpack (getD es (k - 1) 0)) e
-behind-split es u k k′ next e o b = by (decLe k (b .place)) (decLe (k - 1) (b .place))
-  where
-    by : Dec (k ≤ b .place) → Dec (k - 1 ≤ b .place) → Behind es k e ⊎ Only (unpack (getD es (k - 1) 0)) e
-    by (yes c) s = inl (record { place = b .place; behind = c; inside = b .inside; same = b .same })
-    by (no c) (yes s) =
-        let i : b .place ≡ k - 1 = omega arith in
-        inr (b .same ∙ ap (λ (x : ℕ). unpack (getD es x 0)) i)
-    by (no c) (no s) = absurd (last-skips es u (k - 1) (b .place) (omega (arith, b .behind)) (omega arith) (ap (λ (x : Edge). x .from) (sym (b .same)) ∙ o))
-
-pub behind-mem : (es : List ℕ) (k : ℕ) → Behind es k ⊑ members (graph es)
-behind-mem es k e b = Memᴰ·cast (b .same) (graph-at es (b .place) (b .inside))
-
-pub mem-behind : (es : List ℕ) (k : ℕ) → k ≡ 0 → members (graph es) ⊑ Behind es k
-mem-behind es k z e i = let p = graph-place es e i in record { place = p .0; behind = omega arith; inside = p .1; same = sym (p .2) }
 
 -- The loop over the list of a step: k is one more than the index of the edge that comes next, and those behind it have handed on.
 pub record Listing (es : List ℕ) (u m : ℕ) (d₀ d : List (List ℕ)) (f₀ f : List ℕ) (k : ℕ) : Type 0 where

@@ -5,9 +5,9 @@ use mathlib.Core.Logic.{_⊎_, inl, inr, _≢_}
 use mathlib.Core.List.{List}
 use Prim.Native.Nat.{ℕ, _-_, _≤_, _<_}
 use native.Mathlib.Omega.{arith}
-use native.Mathlib.Decide.{decLe}
 use lib.ListN.{length, getD, set}
 use lib.Seq.{getD-set-other}
+use Rattle.adjacency.proofs.Following.{down-split}
 use Rattle.definitions.specs.Basics.{test-bit}
 use Rattle.definitions.specs.Links.{Edge, Graph, UsableFrom, members}
 use Rattle.edges.specs.Words.{graph}
@@ -74,12 +74,5 @@ module _ (es waiting : List ℕ) (u : ℕ) (d d′ d″ : List (List ℕ)) (f f�
       record { square = whole .square; long = whole .long; each = λ a. swept-visit refl (λ v o. ap (λ (x : ℕ). test-bit x a) (getD-set-other f u v 0 0 o)) (whole .each a) }
 
 -- The loop from the last step to the first.
-pub down-split : (n k v : ℕ) → (k - 1 ≤ v) × (v < n) → ((k ≤ v) × (v < n)) ⊎ (v ≡ k - 1)
-down-split n k v o = by (decLe k v)
-  where
-    by : Dec (k ≤ v) → ((k ≤ v) × (v < n)) ⊎ (v ≡ k - 1)
-    by (yes c) = inl (c, o .1)
-    by (no c) = inr (omega (arith, o .0))
-
 pub swept-down : {E : ℕ → Graph} (n k : ℕ) {d d′ d″ : List (List ℕ)} {f f′ f″ : List ℕ} → 1 ≤ k → SweptAll E (λ v. (k ≤ v) × (v < n)) d d′ f f′ → SweptAll E (λ v. v ≡ k - 1) d′ d″ f′ f″ → SweptAll E (λ v. (k - 1 ≤ v) × (v < n)) d d″ f f″
 swept-down n k some P Q = swept-then (down-split n k) P Q

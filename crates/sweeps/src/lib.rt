@@ -22,7 +22,7 @@ fn push_edges(
     d: &mut [[u32; 64]; 64],
     fresh: &mut [u64; 64],
     es: &[u64],
-    lists: &[u16; 2112],
+    lists: &[u16],
     u: usize,
     m: u64,
 )
@@ -46,7 +46,7 @@ fn push_waits(d: &mut [[u32; 64]; 64], fresh: &mut [u64; 64], waiting: u64, u: u
         let i = bitmaps::lowest(left);
         let w = wait_word(u, i);
         push_word(d, fresh, w, m);
-        left = bitmaps::remove(left, i);
+        left = bitmaps::without_lowest(left);
     }
 }
 
@@ -55,7 +55,7 @@ fn visit(
     d: &mut [[u32; 64]; 64],
     fresh: &mut [u64; 64],
     es: &[u64],
-    lists: &[u16; 2112],
+    lists: &[u16],
     waiting: &[u64; 64],
     u: usize,
 )
@@ -83,7 +83,7 @@ fn sweep_order(
     d: &mut [[u32; 64]; 64],
     fresh: &mut [u64; 64],
     es: &[u64],
-    lists: &[u16; 2112],
+    lists: &[u16],
     waiting: &[u64; 64],
     order: &[u8; 64],
     n: usize,
@@ -104,7 +104,7 @@ fn sweep_down(
     d: &mut [[u32; 64]; 64],
     fresh: &mut [u64; 64],
     es: &[u64],
-    lists: &[u16; 2112],
+    lists: &[u16],
     waiting: &[u64; 64],
     n: usize,
 )
@@ -123,7 +123,7 @@ pub fn sweep(
     d: &mut [[u32; 64]; 64],
     fresh: &mut [u64; 64],
     es: &[u64],
-    lists: &[u16; 2112],
+    lists: &[u16],
     waiting: &[u64; 64],
     order: &[u8; 64],
     n: usize,

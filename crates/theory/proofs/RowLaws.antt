@@ -1,13 +1,13 @@
 -- Rounds as a loop takes them: one edge more at the end, one round more, and no more rounds once a row is stable.
 use mathlib.Core.Path.{_∙_, _≡_, ap, refl}
 use mathlib.Core.Bool.{true}
-use mathlib.Core.List.{List, List·Memᴰ·head, List·Memᴰ·tail, [], _++_, _∷_}
+use mathlib.Core.List.{List, List·Memᴰ·head, List·Memᴰ·tail, [], _∷_}
 use Prim.Native.Nat.{_+_, _-_, _≤_, max, suc, zero, ℕ}
 use native.Mathlib.Omega.{arith}
 use lib.ListN.{set}
 use lib.Seq.{set-getD}
 use Rattle.definitions.specs.Links.{Edge}
-use Rattle.definitions.specs.Rounds.{cell, extend, offer, raise, relax, round, rounds, seed, seeds, stable}
+use Rattle.definitions.specs.Rounds.{cell, extend, offer, raise, round, rounds, stable}
 use Rattle.theory.proofs.Relaxation.{Stable, stable-iff}
 
 pub raise-skip : (row : List ℕ) (v c : ℕ) → c ≤ cell row v → raise row v c ≡ row
@@ -15,12 +15,6 @@ unfolding raise
 raise-skip row v c h =
     let e : max (cell row v) c ≡ cell row v = omega arith in
     ap (set row v) e ∙ set-getD row v 0
-
-pub raise-store : (row : List ℕ) (v c : ℕ) → cell row v ≤ c → raise row v c ≡ set row v c
-unfolding raise
-raise-store row v c h =
-    let e : max (cell row v) c ≡ c = omega arith in
-    ap (set row v) e
 
 pub extend-none : (r g l : ℕ) → r ≡ 0 → extend r g l ≡ 0
 unfolding extend
@@ -31,24 +25,6 @@ pub extend-some : (r g l : ℕ) → 1 ≤ r → extend r g l ≡ max (r + g - l)
 unfolding extend
 extend-some zero g l h = absurd (omega arith)
 extend-some (suc r) g l h = omega arith
-
-pub round-append : (s t : List Edge) (row : List ℕ) → round (s ++ t) row ≡ round t (round s row)
-unfolding round
-round-append [] t row = refl
-round-append (x ∷ s) t row = round-append s t (relax row x)
-
-pub round-last : (s : List Edge) (e : Edge) (row : List ℕ) → round (s ++ e ∷ []) row ≡ relax (round s row) e
-unfolding round
-round-last s e row = round-append s (e ∷ []) row
-
-pub seeds-append : (a : ℕ) (s t : List Edge) (row : List ℕ) → seeds a (s ++ t) row ≡ seeds a t (seeds a s row)
-unfolding seeds
-seeds-append a [] t row = refl
-seeds-append a (x ∷ s) t row = seeds-append a s t (raise row (x .to) (seed a x))
-
-pub seeds-last : (a : ℕ) (s : List Edge) (e : Edge) (row : List ℕ) → seeds a (s ++ e ∷ []) row ≡ raise (seeds a s row) (e .to) (seed a e)
-unfolding seeds
-seeds-last a s e row = seeds-append a s (e ∷ []) row
 
 -- A stable row stays: each edge offers no more than is there.
 pub stable-round : (es : List Edge) (row : List ℕ) → stable es row ≡ true → round es row ≡ row
@@ -68,9 +44,3 @@ pub rounds-add : (es : List Edge) (j k : ℕ) (row : List ℕ) → rounds es (j 
 unfolding rounds
 rounds-add es j zero row = let e : j + 0 ≡ j = omega arith in ap (λ (i : ℕ). rounds es i row) e
 rounds-add es j (suc k) row = let e : j + suc k ≡ suc (j + k) = omega arith in ap (λ (i : ℕ). rounds es i row) e ∙ ap (round es) (rounds-add es j k row)
-
--- So rounds may stop at the first stable row.
-pub rounds-stop : (es : List Edge) (j n : ℕ) (row : List ℕ) → j ≤ n → stable es (rounds es j row) ≡ true → rounds es n row ≡ rounds es j row
-rounds-stop es j n row b h =
-    let e : n ≡ j + (n - j) = omega arith in
-    ap (λ (i : ℕ). rounds es i row) e ∙ rounds-add es j (n - j) row ∙ stable-rounds es (rounds es j row) h (n - j)

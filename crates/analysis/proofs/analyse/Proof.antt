@@ -1,6 +1,6 @@
 -- `analysis::analyse` meets its contract.
-use mathlib.Core.Path.{sym, ap, _∙_}
 use borrow.Author.Needs.{needs}
+use mathlib.Core.Path.{sym, ap, _∙_}
 use Rattle.definitions.specs.Numbers.{status-of}
 use Rattle.definitions.specs.declared.Status.{Status}
 use Rattle.analysis.proofs.Judging.{analysed-refused, analysed-rest}
@@ -8,11 +8,11 @@ use Rattle.analysis.proofs.analyse.Statement.{statement}
 use Rattle.analysis.proofs.analyse.Tie as tie
 use Rattle.analysis.proofs.analyse.Reads as reads
 use Rattle.analysis.proofs.analyse.Lts as lts
-use Rattle.order.proofs.order.Reads as order-reads
-use Rattle.precedence.proofs.forward.Reads as forward-reads
 use Rattle.analysis.proofs.first_fault.Reads as first-fault-reads
 use Rattle.analysis.proofs.refused_analysis.Reads as refused-analysis-reads
 use Rattle.analysis.proofs.serialize.Reads as serialize-reads
+use Rattle.order.proofs.order.Reads as order-reads
+use Rattle.precedence.proofs.forward.Reads as forward-reads
 
 forward-requires : tie.Need-forward-requires
 forward-requires c κs = search needs

@@ -1,6 +1,6 @@
 -- `analysis::serialize` meets its contract.
-use mathlib.Core.Path.{sym, _∙_}
 use borrow.Author.Needs.{needs}
+use mathlib.Core.Path.{sym, _∙_}
 use Rattle.analysis.proofs.Judging.{passed-acyclic, passed-well, reached-reaches, serialized-clash, serialized-found, serialized-refused}
 use Rattle.analysis.proofs.serialize.Statement.{statement}
 use Rattle.analysis.proofs.serialize.Tie as tie
@@ -44,7 +44,7 @@ returns-2 : tie.Need-returns-2
 returns-2 c closed gains first =
     let w = c .before .before in
     let before = w .before .before .before .before .before .before .before .before in
-    let pre = before .before .before .before .before .pre in
+    let pre = before .before .before .before .before .before .before .pre in
     let reaches = reached-reaches (closed .shape) (before .before .before .reach .ensures) in
     let consistent = sym (before .is-inconsistent .ensures .1 _ reaches) ∙ w .before .before .before .before .before .before .before .if1 .left in
     let maps = w .before .before .before .before .before .waits-from .ensures closed reaches in
@@ -59,7 +59,7 @@ returns-3 : tie.Need-returns-3
 returns-3 c closed gains first =
     let w = c .before .before in
     let before = w .before .before .before .before .before .before .before .before in
-    let pre = before .before .before .before .before .pre in
+    let pre = before .before .before .before .before .before .before .pre in
     let reaches = reached-reaches (closed .shape) (before .before .before .reach .ensures) in
     let consistent = sym (before .is-inconsistent .ensures .1 _ reaches) ∙ w .before .before .before .before .before .before .before .if1 .left in
     let maps = w .before .before .before .before .before .waits-from .ensures closed reaches in

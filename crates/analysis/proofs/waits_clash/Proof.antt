@@ -1,10 +1,10 @@
 -- `analysis::waits_clash` meets its contract.
+use borrow.Author.Needs.{needs}
 use mathlib.Core.Path.{ap, sym, _∙_}
 use mathlib.Core.Bool.{not, Bool·not-not}
 use lib.Dec.{ltb}
 use Rattle.definitions.specs.Waits.{needs-waits}
 use Rattle.demands.proofs.Sheets.{unneeded-serializable}
-use borrow.Author.Needs.{needs}
 use Rattle.analysis.proofs.waits_clash.Statement.{statement}
 use Rattle.analysis.proofs.waits_clash.Tie as tie
 use Rattle.analysis.proofs.waits_clash.Reads as reads

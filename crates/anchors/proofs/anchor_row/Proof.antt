@@ -41,18 +41,18 @@ meets-requires c κs = search needs
 insert-if-requires : tie.Need-insert-if-requires Inv-loop μ-loop
 insert-if-requires c κs = search needs
 
-remove-requires : tie.Need-remove-requires Inv-loop μ-loop
-remove-requires c κs = search needs
+without-lowest-requires : tie.Need-without-lowest-requires Inv-loop μ-loop
+without-lowest-requires c κs = omega arith
 
 loop-less : tie.Need-loop-less Inv-loop μ-loop
-loop-less c = removed-lt _ _ _ (c .before .before .before .before .lowest .ensures .member) (c .remove .ensures)
+loop-less c = removed-lt _ _ _ (c .before .before .before .before .lowest .ensures .member) (c .without-lowest .ensures _ (c .before .before .before .before .lowest .ensures))
 
 loop-again : tie.Need-loop-again Inv-loop μ-loop
 loop-again c =
     let s = c .before .before .before .before .before .before in
     let a = c .before .before .before .before .lowest in
     let P = met (s .before .args .targets .now) (s .before .args .before) in
-    λ k. pick-more P (s .loop .row) (c .before .insert-if .result) (s .loop .left) (c .remove .result) (a .result) (a .ensures .member) (λ j. c .before .insert-if .ensures j ∙ ap (λ (b : Bool). test-bit (s .loop .row) j || (b && eqb j (a .result))) (c .before .before .meets .ensures)) (c .remove .ensures) k
+    λ k. pick-more P (s .loop .row) (c .before .insert-if .result) (s .loop .left) (c .without-lowest .result) (a .result) (a .ensures .member) (λ j. c .before .insert-if .ensures j ∙ ap (λ (b : Bool). test-bit (s .loop .row) j || (b && eqb j (a .result))) (c .before .before .meets .ensures)) (c .without-lowest .ensures _ (a .ensures)) k
     ∙ s .loop .inv k
 
 returns : tie.Need-returns Inv-loop μ-loop
@@ -70,7 +70,7 @@ anchor-row-spec =
     element-copy-out-meets
     meets-requires
     insert-if-requires
-    remove-requires
+    without-lowest-requires
     loop-less
     loop-again
     returns)

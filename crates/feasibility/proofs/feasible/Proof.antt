@@ -7,7 +7,6 @@ use Rattle.feasibility.proofs.feasible.Statement.{statement}
 use Rattle.feasibility.proofs.feasible.Tie as tie
 use Rattle.feasibility.proofs.feasible.Reads as reads
 use Rattle.feasibility.proofs.feasible.Lts as lts
-use Rattle.adjacency.proofs.lists.Reads as lists-reads
 use Rattle.bitmaps.proofs.lowest.Reads as lowest-reads
 use Rattle.feasibility.proofs.closes_above.Reads as closes-above-reads
 use Rattle.feasibility.proofs.far_back.Reads as far-back-reads
@@ -15,13 +14,10 @@ use Rattle.feasibility.proofs.sweep.Reads as sweep-reads
 use Rattle.feasibility.proofs.uncut.Reads as uncut-reads
 
 abbrev Inv-loop : tie.InvT-loop
-Inv-loop es order n lists row₀ via₀ marks₀ k₀ row via marks k = Searched es n k row via marks
+Inv-loop es lists order n row₀ via₀ marks₀ k₀ row via marks k = Searched es n k row via marks
 
 abbrev μ-loop : tie.MeasureT-loop
-μ-loop es order n lists row₀ via₀ marks₀ k₀ row via marks k = n + 1 - k
-
-lists-requires : tie.Need-lists-requires Inv-loop μ-loop
-lists-requires c κs = search needs
+μ-loop es lists order n row₀ via₀ marks₀ k₀ row via marks k = n + 1 - k
 
 array-write-row : tie.Need-array-write-row Inv-loop μ-loop
 array-write-row c = search needs
@@ -30,13 +26,13 @@ loop-holds : tie.Need-loop-holds Inv-loop μ-loop
 loop-holds c = searched-start _ _
 
 sweep-requires : tie.Need-sweep-requires Inv-loop μ-loop
-sweep-requires c κs = let p = c .before .before .before .before .before .before .before .pre in let h = c .before .before .before .before .loop .inv in (p .1, p .2, c .before .before .before .before .before .lists .ensures, h .long, h .noted)
+sweep-requires c κs = let p = c .before .before .before .before .before .before .pre in let h = c .before .before .before .loop .inv in (p .1, p .2, p .3, h .long, h .noted)
 
 uncut-requires : tie.Need-uncut-requires Inv-loop μ-loop
 uncut-requires c κs = search needs
 
 returns : tie.Need-returns Inv-loop μ-loop
-returns c = let p = c .before .before .before .before .before .before .before .before .before .before .before .pre in searched-rest _ _ (p .0) (p .1) (c .before .before .before .before .before .before .before .before .loop .inv) (c .before .before .before .sweep .ensures) (omega arith) _ (c .uncut .ensures)
+returns c = let p = c .before .before .before .before .before .before .before .before .before .before .pre in searched-rest _ _ (p .0) (p .1) (c .before .before .before .before .before .before .before .loop .inv) (c .before .before .before .sweep .ensures) (omega arith) _ (c .uncut .ensures)
 
 lowest-requires : tie.Need-lowest-requires Inv-loop μ-loop
 lowest-requires c κs = omega arith
@@ -45,10 +41,10 @@ far-back-requires : tie.Need-far-back-requires Inv-loop μ-loop
 far-back-requires c κs = c .before .lowest .ensures .below
 
 closes-above-requires : tie.Need-closes-above-requires Inv-loop μ-loop
-closes-above-requires c κs = (c .before .far-back .ensures, c .before .before .before .before .before .before .before .before .before .before .before .before .before .pre .1)
+closes-above-requires c κs = (c .before .far-back .ensures, c .before .before .before .before .before .before .before .before .before .before .before .before .pre .1)
 
 returns-2 : tie.Need-returns-2 Inv-loop μ-loop
-returns-2 c = circle-found _ _ (c .before .before .before .before .before .before .before .before .before .before .before .before .before .before .before .pre .0) (c .before .closes-above .ensures (c .if2 .taken))
+returns-2 c = circle-found _ _ (c .before .before .before .before .before .before .before .before .before .before .before .before .before .before .pre .0) (c .before .closes-above .ensures (c .if2 .taken))
 
 add-k : tie.Need-add-k Inv-loop μ-loop
 add-k c = search needs
@@ -57,7 +53,7 @@ loop-less : tie.Need-loop-less Inv-loop μ-loop
 loop-less c = search needs
 
 loop-again : tie.Need-loop-again Inv-loop μ-loop
-loop-again c = let p = c .before .before .before .before .before .before .before .before .before .before .before .before .before .before .before .pre in searched-more _ _ (p .0) (p .1) (c .before .before .before .before .before .before .before .before .before .before .before .before .loop .inv) (c .before .before .before .before .before .before .before .sweep .ensures) _ (c .before .before .before .before .before .lowest .ensures .member) (c .before .before .before .before .before .before .before .before .before .before .before .loop-test .taken)
+loop-again c = let p = c .before .before .before .before .before .before .before .before .before .before .before .before .before .before .pre in searched-more _ _ (p .0) (p .1) (c .before .before .before .before .before .before .before .before .before .before .before .loop .inv) (c .before .before .before .before .before .before .before .sweep .ensures) _ (c .before .before .before .before .before .lowest .ensures .member) (c .before .before .before .before .before .before .before .before .before .before .loop-test .taken)
 
 returns-3 : tie.Need-returns-3 Inv-loop μ-loop
 returns-3 c = let p = c .before .before .before .before .pre in searched-spent _ _ (p .0) (p .1) (c .before .loop .inv) (omega arith)
@@ -68,7 +64,6 @@ feasible-spec =
     (tie.spec
     Inv-loop
     μ-loop
-    lists-requires
     array-write-row
     loop-holds
     sweep-requires

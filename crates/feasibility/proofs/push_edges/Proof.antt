@@ -20,14 +20,14 @@ abbrev μ-loop : tie.MeasureT-loop
 mul-index : tie.Need-mul-index Inv-loop μ-loop
 mul-index c = search needs
 
-element-copy-out-index : tie.Need-element-copy-out-index Inv-loop μ-loop
-element-copy-out-index c = search needs
+shared-slice-read-index : tie.Need-shared-slice-read-index Inv-loop μ-loop
+shared-slice-read-index c = search needs
 
 index-requires : tie.Need-index-requires Inv-loop μ-loop
 index-requires c κs = search needs
 
 loop-holds : tie.Need-loop-holds Inv-loop μ-loop
-loop-holds c = let s = c .before .before .before in listing-start _ _ _ _ _ _ (s .pre .3) (s .pre .4) (c .index .ensures ∙ s .pre .2 .heads _ (s .pre .0))
+loop-holds c = let s = c .before .before .before in listing-start _ _ _ _ _ _ (s .before .pre .3) (s .before .pre .4) (c .index .ensures ∙ s .before .pre .2 .heads _ (s .before .pre .0))
 
 sub-push-word : tie.Need-sub-push-word Inv-loop μ-loop
 sub-push-word c = search needs
@@ -42,22 +42,22 @@ push-word-requires : tie.Need-push-word-requires Inv-loop μ-loop
 push-word-requires c κs = let h = c .before .before .before .before .loop .inv .pushed in (h .long, h .noted)
 
 add-index : tie.Need-add-index Inv-loop μ-loop
-add-index c = omega (arith, c .before .before .before .before .before .loop .inv .few, c .before .before .before .before .before .before .before .before .before .pre .1)
+add-index c = omega (arith, c .before .before .before .before .before .loop .inv .few, c .before .before .before .before .before .before .before .before .before .before .pre .1)
 
 mul-index-2 : tie.Need-mul-index-2 Inv-loop μ-loop
-mul-index-2 c = omega (arith, c .before .before .before .before .before .loop .inv .few, c .before .before .before .before .before .before .before .before .before .pre .1)
+mul-index-2 c = omega (arith, c .before .before .before .before .before .loop .inv .few, c .before .before .before .before .before .before .before .before .before .before .pre .1)
 
-element-copy-out-index-2 : tie.Need-element-copy-out-index-2 Inv-loop μ-loop
-element-copy-out-index-2 c = omega (arith, c .before .before .before .before .before .loop .inv .few, c .before .before .before .before .before .before .before .before .before .pre .1)
+shared-slice-read-index-2 : tie.Need-shared-slice-read-index-2 Inv-loop μ-loop
+shared-slice-read-index-2 c = search needs
 
 index-requires-2 : tie.Need-index-requires-2 Inv-loop μ-loop
 index-requires-2 c κs = search needs
 
 loop-less : tie.Need-loop-less Inv-loop μ-loop
-loop-less c = let s = c .before .before .before .before .before .before .before in let some : 1 ≤ s .loop .k = omega arith in listing-less _ _ _ _ _ _ _ _ _ _ _ _ some (s .loop .inv) (c .before .before .push-word .ensures) (listing-next _ _ _ _ _ _ _ _ _ _ (c .before .before .before .before .before .before .before .before .before .before .before .pre .2) some (s .loop .inv) (c .index2 .ensures))
+loop-less c = let s = c .before .before .before .before .before .before .before in let some : 1 ≤ s .loop .k = omega arith in listing-less _ _ _ _ _ _ _ _ _ _ _ _ some (s .loop .inv) (c .before .before .push-word .ensures) (listing-next _ _ _ _ _ _ _ _ _ _ (c .before .before .before .before .before .before .before .before .before .before .before .before .pre .2) some (s .loop .inv) (c .index2 .ensures))
 
 loop-again : tie.Need-loop-again Inv-loop μ-loop
-loop-again c = let s = c .before .before .before .before .before .before .before in let some : 1 ≤ s .loop .k = omega arith in listing-turn _ _ _ _ _ _ _ _ _ _ _ _ some (s .loop .inv) (c .before .before .push-word .ensures) (listing-next _ _ _ _ _ _ _ _ _ _ (c .before .before .before .before .before .before .before .before .before .before .before .pre .2) some (s .loop .inv) (c .index2 .ensures))
+loop-again c = let s = c .before .before .before .before .before .before .before in let some : 1 ≤ s .loop .k = omega arith in listing-turn _ _ _ _ _ _ _ _ _ _ _ _ some (s .loop .inv) (c .before .before .push-word .ensures) (listing-next _ _ _ _ _ _ _ _ _ _ (c .before .before .before .before .before .before .before .before .before .before .before .before .pre .2) some (s .loop .inv) (c .index2 .ensures))
 
 returns : tie.Need-returns Inv-loop μ-loop
 returns c = listing-end _ _ _ _ _ _ _ _ (omega arith) (c .before .loop .inv)
@@ -69,7 +69,7 @@ push-edges-spec =
     Inv-loop
     μ-loop
     mul-index
-    element-copy-out-index
+    shared-slice-read-index
     index-requires
     loop-holds
     sub-push-word
@@ -78,7 +78,7 @@ push-edges-spec =
     push-word-requires
     add-index
     mul-index-2
-    element-copy-out-index-2
+    shared-slice-read-index-2
     index-requires-2
     loop-less
     loop-again

@@ -13,7 +13,7 @@ sweep-order-requires : tie.Need-sweep-order-requires
 sweep-order-requires c κs = search needs
 
 sweep-down-requires : tie.Need-sweep-down-requires
-sweep-down-requires c κs = let p = c .before .before .before .before .before .before .pre in let h = c .before .before .sweep-order .ensures in (p .0, p .1, p .2, h .long, h .noted)
+sweep-down-requires c κs = let p = c .before .before .before .before .before .before .before .pre in let h = c .before .before .sweep-order .ensures in (p .0, p .1, p .2, h .long, h .noted)
 
 returns : tie.Need-returns
 returns c = passed-then (λ v x. inr x) (c .before .before .before .sweep-order .ensures) (c .sweep-down .ensures)

@@ -5,7 +5,7 @@ use mathlib.Core.Logic.{inl}
 use Prim.Native.Nat.{_≤_, _<_}
 use Rattle.definitions.specs.Links.{members}
 use Rattle.edges.specs.Words.{graph}
-use Rattle.sweeps.proofs.Sweeping.{down-split}
+use Rattle.adjacency.proofs.Following.{down-split}
 use Rattle.feasibility.specs.Search.{Passed}
 use Rattle.feasibility.proofs.Passing.{passed-none, passed-then}
 use Rattle.feasibility.proofs.sweep_down.Statement.{statement}
@@ -21,13 +21,13 @@ abbrev μ-loop : tie.MeasureT-loop
 μ-loop row₀ via₀ marks es lists n m₀ k₀ row via m k = k
 
 loop-holds : tie.Need-loop-holds Inv-loop μ-loop
-loop-holds c = (omega arith, passed-none (c .before .pre .3) (c .before .pre .4) (λ v x. omega (arith, x .0, x .1)))
+loop-holds c = (omega arith, passed-none (c .before .before .pre .3) (c .before .before .pre .4) (λ v x. omega (arith, x .0, x .1)))
 
 sub-k : tie.Need-sub-k Inv-loop μ-loop
 sub-k c = search needs
 
 visit-requires : tie.Need-visit-requires Inv-loop μ-loop
-visit-requires c κs = let p = c .before .before .before .before .before .pre in let h = c .before .before .before .loop .inv in (omega (arith, h .0, p .0), p .1, p .2, h .1 .long, h .1 .noted)
+visit-requires c κs = let p = c .before .before .before .before .before .before .pre in let h = c .before .before .before .loop .inv in (omega (arith, h .0, p .0), p .1, p .2, h .1 .long, h .1 .noted)
 
 loop-less : tie.Need-loop-less Inv-loop μ-loop
 loop-less c = search needs

@@ -20,7 +20,7 @@ abbrev μ-loop : tie.MeasureT-loop
 μ-loop row₀ via₀ marks es lists order n m₀ k₀ row via m k = n - k
 
 loop-holds : tie.Need-loop-holds Inv-loop μ-loop
-loop-holds c = passed-none (c .before .pre .3) (c .before .pre .4) (λ v x. x)
+loop-holds c = passed-none (c .before .before .pre .3) (c .before .before .pre .4) (λ v x. x)
 
 element-copy-out-place : tie.Need-element-copy-out-place Inv-loop μ-loop
 element-copy-out-place c = search needs
@@ -29,7 +29,7 @@ place-requires : tie.Need-place-requires Inv-loop μ-loop
 place-requires c κs = search needs
 
 visit-requires : tie.Need-visit-requires Inv-loop μ-loop
-visit-requires c κs = let p = c .before .before .before .before .before .before .before .pre in let h = c .before .before .before .before .before .loop .inv in (c .before .before .place .ensures, p .1, p .2, h .long, h .noted)
+visit-requires c κs = let p = c .before .before .before .before .before .before .before .before .pre in let h = c .before .before .before .before .before .loop .inv in (c .before .before .place .ensures, p .1, p .2, h .long, h .noted)
 
 add-k : tie.Need-add-k Inv-loop μ-loop
 add-k c = search needs

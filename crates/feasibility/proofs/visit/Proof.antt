@@ -15,7 +15,7 @@ has-requires : tie.Need-has-requires
 has-requires c κs = search needs
 
 returns : tie.Need-returns
-returns c = let s = c .before .before .before in passed-idle _ (s .pre .3) (s .pre .4) (sym (c .before .has .ensures) ∙ not-true _ (c .if1 .taken))
+returns c = let s = c .before .before .before in passed-idle _ (s .before .pre .3) (s .before .pre .4) (sym (c .before .has .ensures) ∙ not-true _ (c .if1 .taken))
 
 remove-requires : tie.Need-remove-requires
 remove-requires c κs = search needs

@@ -21,7 +21,7 @@ abbrev μ-loop : tie.MeasureT-loop
 
 -- src/lib.rt:71:5
 loop-holds : tie.Need-loop-holds Inv-loop μ-loop
-loop-holds c = (omega arith, settling-start (c .before .pre .3) (c .before .pre .4))
+loop-holds c = (omega arith, settling-start (c .before .before .pre .3) (c .before .before .pre .4))
 
 -- src/lib.rt:72:12
 quiet-requires : tie.Need-quiet-requires Inv-loop μ-loop
@@ -33,7 +33,7 @@ returns c = let s = c .before .before .before .before in settling-rest (s .loop 
 
 -- src/lib.rt:75:9
 sweep-requires : tie.Need-sweep-requires Inv-loop μ-loop
-sweep-requires c κs = let p = c .before .before .before .before .before .before .before .before .pre in let h = c .before .before .before .before .before .before .loop .inv .1 in (p .0, p .1, p .2, h .square, h .long)
+sweep-requires c κs = let p = c .before .before .before .before .before .before .before .before .before .pre in let h = c .before .before .before .before .before .before .loop .inv .1 in (p .0, p .1, p .2, h .square, h .long)
 
 -- src/lib.rt:76:9
 add-k : tie.Need-add-k Inv-loop μ-loop

@@ -5,60 +5,44 @@ use Rattle.heaviest.proofs.walks.Statement.{statement}
 use Rattle.heaviest.proofs.walks.Tie as tie
 use Rattle.heaviest.proofs.walks.Reads as reads
 use Rattle.heaviest.proofs.walks.Lts as lts
-use Rattle.adjacency.proofs.lists.Reads as lists-reads
 use Rattle.heaviest.proofs.first_marks.Reads as first-marks-reads
-use Rattle.heaviest.proofs.first_table.Reads as first-table-reads
 use Rattle.heaviest.proofs.settle.Reads as settle-reads
 use Rattle.relations.proofs.transpose.Reads as transpose-reads
 use Rattle.seeding.proofs.seed_waits.Reads as seed-waits-reads
 use Rattle.seeding.proofs.seed_words.Reads as seed-words-reads
 
--- src/lib.rt:85:17
-lists-requires : tie.Need-lists-requires
-lists-requires c κs = search needs
-
--- src/lib.rt:86:19
 transpose-requires : tie.Need-transpose-requires
 transpose-requires c κs = search needs
 
--- src/lib.rt:87:17
-first-table-requires : tie.Need-first-table-requires
-first-table-requires c κs = search needs
-
--- src/lib.rt:88:21
 first-marks-requires : tie.Need-first-marks-requires
 first-marks-requires c κs = search needs
 
--- src/lib.rt:89:5
 seed-words-requires : tie.Need-seed-words-requires
 seed-words-requires c κs = search needs
 
--- src/lib.rt:90:5
 seed-waits-requires : tie.Need-seed-waits-requires
 seed-waits-requires c κs = search needs
 
--- src/lib.rt:91:5
 settle-requires : tie.Need-settle-requires
 settle-requires c κs = search needs
 
--- src/lib.rt:81:1
 returns : tie.Need-returns
 returns c =
-    let s = c .before .before .before .before .before .before .before .before .before .before .before .before .before .before .before .before .before in
-    let turned = c .before .before .before .before .before .before .before .before .before .before .before .before .before .before .transpose .ensures in (
+    let s = c .before .before .before .before .before .before .before .before .before .before .before .before .before .before .before in
+    let turned = c .before .before .before .before .before .before .before .before .before .before .before .before .transpose .ensures in (
       c .settle .ensures .square,
       λ within well posed gains a v inside below.
           walks-found
-          (s .args .es .now) (s .args .maps .now) (c .before .before .before .before .before .before .before .before .before .before .before .before .before .before .transpose .result) (s .args .n)
+          (s .args .es .now) (s .args .maps .now) (c .before .before .before .before .before .before .before .before .before .before .before .before .transpose .result) (s .args .n)
           (s .pre .0)
           within
           turned
           well
           posed
           gains
-          (c .before .before .before .before .before .before .before .before .before .before .before .before .before .first-table .ensures)
-          (c .before .before .before .before .before .before .before .before .before .before .before .before .first-marks .ensures)
-          (seeded-both (s .args .es .now) (s .args .maps .now) (c .before .before .before .before .before .before .before .before .before .before .before .before .before .before .transpose .result) (s .args .n) within turned (c .before .before .before .before .before .before .before .before .before .seed-words .ensures) (c .before .before .before .before .before .seed-waits .ensures))
+          (s .pre .3)
+          (c .before .before .before .before .before .before .before .before .before .before .before .first-marks .ensures)
+          (seeded-both (s .args .es .now) (s .args .maps .now) (c .before .before .before .before .before .before .before .before .before .before .before .before .transpose .result) (s .args .n) within turned (c .before .before .before .before .before .before .before .before .seed-words .ensures) (c .before .before .before .before .seed-waits .ensures))
           (c .settle .ensures)
           a
           inside
@@ -69,9 +53,7 @@ pub walks-spec : {M : Type 1} → statement M
 walks-spec =
     tie.close
     (tie.spec
-    lists-requires
     transpose-requires
-    first-table-requires
     first-marks-requires
     seed-words-requires
     seed-waits-requires

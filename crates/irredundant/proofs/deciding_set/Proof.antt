@@ -30,22 +30,22 @@ element-copy-out-left c = search needs
 loop-holds : tie.Need-loop-holds Inv-loop μ-loop
 loop-holds c a = none-left-out _ _ _ a
 
-lowest-requires : tie.Need-lowest-requires Inv-loop μ-loop
-lowest-requires c κs = omega arith
+highest-requires : tie.Need-highest-requires Inv-loop μ-loop
+highest-requires c κs = omega arith
 
 without-covered-requires : tie.Need-without-covered-requires Inv-loop μ-loop
-without-covered-requires c κs = (omega arith, c .lowest .ensures .below)
+without-covered-requires c κs = (omega arith, c .highest .ensures .below)
 
 remove-requires : tie.Need-remove-requires Inv-loop μ-loop
-remove-requires c κs = c .before .lowest .ensures .below
+remove-requires c κs = c .before .highest .ensures .below
 
 loop-less : tie.Need-loop-less Inv-loop μ-loop
-loop-less c = removed-lt _ _ _ (c .before .before .lowest .ensures .member) (c .remove .ensures)
+loop-less c = removed-lt _ _ _ (c .before .before .highest .ensures .member) (c .remove .ensures)
 
 loop-again : tie.Need-loop-again Inv-loop μ-loop
 loop-again c a =
-    let least = c .before .before in
-    one-left-out _ _ _ _ _ _ _ _ (least .lowest .ensures .below) (least .lowest .ensures .member) (c .before .without-covered .ensures) (c .remove .ensures) a ∙ least .before .before .loop .inv a
+    let top = c .before .before in
+    one-left-out _ _ _ _ _ _ _ _ (top .highest .ensures .below) (top .highest .ensures .member) (c .before .without-covered .ensures) (c .remove .ensures) a ∙ top .before .before .loop .inv a
 
 returns : tie.Need-returns Inv-loop μ-loop
 returns c a = sym (all-left-out _ _ _ _ (c .before .loop .left) _ (omega arith)) ∙ c .before .loop .inv a
@@ -61,7 +61,7 @@ deciding-set-spec =
     mul-left
     element-copy-out-left
     loop-holds
-    lowest-requires
+    highest-requires
     without-covered-requires
     remove-requires
     loop-less

@@ -25,16 +25,16 @@ reaches-requires c κs = (omega arith, c .lowest .ensures .below, omega arith)
 remove-if-requires : tie.Need-remove-if-requires Inv-loop μ-loop
 remove-if-requires c κs = c .before .lowest .ensures .below
 
-remove-requires : tie.Need-remove-requires Inv-loop μ-loop
-remove-requires c κs = c .before .before .lowest .ensures .below
+without-lowest-requires : tie.Need-without-lowest-requires Inv-loop μ-loop
+without-lowest-requires c κs = omega arith
 
 loop-less : tie.Need-loop-less Inv-loop μ-loop
-loop-less c = removed-lt _ _ _ (c .before .before .before .lowest .ensures .member) (c .remove .ensures)
+loop-less c = removed-lt _ _ _ (c .before .before .before .lowest .ensures .member) (c .without-lowest .ensures _ (c .before .before .before .lowest .ensures))
 
 loop-again : tie.Need-loop-again Inv-loop μ-loop
 loop-again c a =
     let least = c .before .before .before in
-    one-compared _ _ _ _ _ _ _ _ _ (least .lowest .ensures .member) (c .before .before .reaches .ensures) (c .before .remove-if .ensures) (c .remove .ensures) a ∙ least .before .before .loop .inv a
+    one-compared _ _ _ _ _ _ _ _ _ (least .lowest .ensures .member) (c .before .before .reaches .ensures) (c .before .remove-if .ensures) (c .without-lowest .ensures _ (least .lowest .ensures)) a ∙ least .before .before .loop .inv a
 
 returns : tie.Need-returns Inv-loop μ-loop
 returns c a = sym (all-compared _ _ _ _ (c .before .loop .left) _ (omega arith)) ∙ c .before .loop .inv a
@@ -49,7 +49,7 @@ without-reached-spec =
     lowest-requires
     reaches-requires
     remove-if-requires
-    remove-requires
+    without-lowest-requires
     loop-less
     loop-again
     returns)

@@ -1,6 +1,6 @@
 -- `links::push_finish` meets its contract.
 use borrow.Author.Needs.{needs}
-use Rattle.links.specs.Sheets.{finish-edges}
+use Rattle.links.specs.Pushes.{finish-edges}
 use Rattle.links.proofs.Pushing.{push-none, push-one}
 use Rattle.links.proofs.push_finish.Statement.{statement}
 use Rattle.links.proofs.push_finish.Tie as tie

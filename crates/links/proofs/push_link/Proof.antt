@@ -1,7 +1,7 @@
 -- `links::push_link` meets its contract.
 use native.Mathlib.Omega.{arith}
 use borrow.Author.Needs.{needs}
-use Rattle.links.specs.Sheets.{link-edges}
+use Rattle.links.specs.Pushes.{link-edges}
 use Rattle.links.proofs.Pushing.{push-both, room, sequencing-few, minimum-few, maximum-few}
 use Rattle.links.proofs.push_link.Statement.{statement}
 use Rattle.links.proofs.push_link.Tie as tie

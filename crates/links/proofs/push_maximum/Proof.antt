@@ -1,6 +1,6 @@
 -- `links::push_maximum` meets its contract.
 use borrow.Author.Needs.{needs}
-use Rattle.links.specs.Sheets.{maximum-edges}
+use Rattle.links.specs.Pushes.{maximum-edges}
 use Rattle.links.proofs.Pushing.{push-none, push-one}
 use Rattle.links.proofs.push_maximum.Statement.{statement}
 use Rattle.links.proofs.push_maximum.Tie as tie

@@ -1,6 +1,6 @@
 -- `links::push_minimum` meets its contract.
 use borrow.Author.Needs.{needs}
-use Rattle.links.specs.Sheets.{minimum-edges}
+use Rattle.links.specs.Pushes.{minimum-edges}
 use Rattle.links.proofs.Pushing.{push-none, push-one}
 use Rattle.links.proofs.push_minimum.Statement.{statement}
 use Rattle.links.proofs.push_minimum.Tie as tie

@@ -1,6 +1,6 @@
 -- `links::push_sequencing` meets its contract.
 use borrow.Author.Needs.{needs}
-use Rattle.links.specs.Sheets.{sequencing-edges}
+use Rattle.links.specs.Pushes.{sequencing-edges}
 use Rattle.links.proofs.Pushing.{push-none, push-one}
 use Rattle.links.proofs.push_sequencing.Statement.{statement}
 use Rattle.links.proofs.push_sequencing.Tie as tie

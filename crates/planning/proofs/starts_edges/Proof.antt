@@ -1,16 +1,30 @@
 -- `planning::starts_edges` meets its contract, path by path: a refusal of judging, 13, 14 for the list and for the numbers to be written, the starts.
-use mathlib.Core.Path.{sym, _∙_}
 use borrow.Author.Needs.{needs}
+use native.Mathlib.Omega.{arith}
+use Prim.Native.Nat.{ℕ}
+use lib.ListN.{length-replicate}
+use Rattle.adjacency.proofs.Linking.{zeros-empty}
+use mathlib.Core.Path.{sym, _∙_}
 use borrow.Author.Tests.{not-true, not-false}
 use Rattle.planning.proofs.Writing.{list-short, out-short, plannable, starts-passed, starts-short, starts-written, starts-wrong}
 use Rattle.planning.proofs.starts_edges.Statement.{statement}
 use Rattle.planning.proofs.starts_edges.Tie as tie
 use Rattle.planning.proofs.starts_edges.Reads as reads
 use Rattle.planning.proofs.starts_edges.Lts as lts
+use Rattle.adjacency.proofs.list.Reads as list-reads
 use Rattle.analysis.proofs.analyse.Reads as analyse-reads
-use Rattle.planning.proofs.accepted.Reads as accepted-reads
 use Rattle.delays.proofs.delays_bad.Reads as delays-bad-reads
+use Rattle.planning.proofs.accepted.Reads as accepted-reads
 use Rattle.planning.proofs.write_starts.Reads as write-starts-reads
+
+slice-aggregate-list : tie.Need-slice-aggregate-list
+slice-aggregate-list c = search needs
+
+list-requires : tie.Need-list-requires
+list-requires c κs = let few = c .before .before .before .before .pre .2 in (few, omega (arith, few, length-replicate {A = ℕ} 2112 0), zeros-empty 2112 (omega arith))
+
+slice-aggregate-analyse : tie.Need-slice-aggregate-analyse
+slice-aggregate-analyse c = search needs
 
 analyse-requires : tie.Need-analyse-requires
 analyse-requires c κs = search needs
@@ -37,6 +51,9 @@ returns-4 c shape gains os long map =
     let analysed = c .before .before .before .before .before .before .analyse .ensures shape gains in
     starts-short analysed os _ _ (sym (c .before .before .before .before .before .accepted .ensures) ∙ not-false _ (c .before .before .before .before .if1 .left)) (sym (c .before .before .before .delays-bad .ensures .wrong os long map) ∙ c .before .before .if2 .left) (out-short analysed os _ _ (c .if4 .taken))
 
+slice-aggregate-write-starts : tie.Need-slice-aggregate-write-starts
+slice-aggregate-write-starts c = search needs
+
 write-starts-requires : tie.Need-write-starts-requires
 write-starts-requires c κs = search needs
 
@@ -45,16 +62,19 @@ same-length c = search needs
 
 returns-5 : tie.Need-returns-5
 returns-5 c shape gains os long map =
-    let analysed = c .before .before .before .before .before .before .before .before .before .before .before .before .before .before .before .before .analyse .ensures shape gains in
-    let accepted = sym (c .before .before .before .before .before .before .before .before .before .before .before .before .before .before .before .accepted .ensures) ∙ not-false _ (c .before .before .before .before .before .before .before .before .before .before .before .before .before .before .if1 .left) in
-    let right = sym (c .before .before .before .before .before .before .before .before .before .before .before .before .before .delays-bad .ensures .wrong os long map) ∙ c .before .before .before .before .before .before .before .before .before .before .before .before .if2 .left in
-    starts-written analysed os _ _ accepted right (c .before .before .before .before .before .before .before .before .before .before .before .if3 .left) (c .before .before .before .before .before .before .before .before .before .before .if4 .left)
-    (c .before .before .write-starts .ensures (plannable analysed (search needs) shape gains accepted) os long right)
+    let analysed = c .before .before .before .before .before .before .before .before .before .before .before .before .before .before .before .before .before .analyse .ensures shape gains in
+    let accepted = sym (c .before .before .before .before .before .before .before .before .before .before .before .before .before .before .before .before .accepted .ensures) ∙ not-false _ (c .before .before .before .before .before .before .before .before .before .before .before .before .before .before .before .if1 .left) in
+    let right = sym (c .before .before .before .before .before .before .before .before .before .before .before .before .before .before .delays-bad .ensures .wrong os long map) ∙ c .before .before .before .before .before .before .before .before .before .before .before .before .before .if2 .left in
+    starts-written analysed os _ _ accepted right (c .before .before .before .before .before .before .before .before .before .before .before .before .if3 .left) (c .before .before .before .before .before .before .before .before .before .before .before .if4 .left)
+    (c .before .before .write-starts .ensures (plannable analysed (c .before .before .before .before .before .before .before .before .before .before .before .before .before .before .before .before .before .before .before .before .before .before .before .before .before .pre .0) shape gains accepted) os long right)
 
 pub starts-edges-spec : {M : Type 1} → statement M
 starts-edges-spec =
     tie.close
     (tie.spec
+    slice-aggregate-list
+    list-requires
+    slice-aggregate-analyse
     analyse-requires
     accepted-requires
     returns
@@ -62,6 +82,7 @@ starts-edges-spec =
     returns-2
     returns-3
     returns-4
+    slice-aggregate-write-starts
     write-starts-requires
     same-length
     returns-5)

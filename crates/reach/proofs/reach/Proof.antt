@@ -1,32 +1,30 @@
--- `reach::reach` meets its contract. The loop's invariant: the rows are those of as many rounds as are done; a round that changes nothing leaves those of n rounds. Assumes nothing.
-use mathlib.Core.Path.{_∙_, sym}
-use borrow.Author.Tests.{not-true}
-use Prim.Native.Nat.{_-_}
+-- `reach::reach` meets its contract.
 use borrow.Author.Needs.{needs}
-use Rattle.reach.proofs.Turns.{Turning, turning-end, turning-start, turning-step, turning-stop}
+use native.Mathlib.Omega.{arith}
+use Prim.Native.Nat.{_-_}
+use Rattle.reach.proofs.Searching.{Searched, searched-end, searched-more, searched-rest, searched-start}
 use Rattle.reach.proofs.reach.Statement.{statement}
 use Rattle.reach.proofs.reach.Tie as tie
 
 abbrev Inv-loop : tie.InvT-loop
-Inv-loop es n rows₀ done₀ rows done = Turning es rows n done
+Inv-loop es lists order n rows₀ marks₀ done₀ rows marks done = Searched es n done rows marks
 
 abbrev μ-loop : tie.MeasureT-loop
-μ-loop es n rows₀ done₀ rows done = n - done
+μ-loop es lists order n rows₀ marks₀ done₀ rows marks done = n - done
+
+all-marks-requires : tie.Need-all-marks-requires Inv-loop μ-loop
+all-marks-requires c κs = search needs
 
 loop-holds : tie.Need-loop-holds Inv-loop μ-loop
-loop-holds c = turning-start _ _
+loop-holds c = searched-start _ _ _ (c .all-marks .ensures)
 
-slice-aggregate-push-round : tie.Need-slice-aggregate-push-round Inv-loop μ-loop
-slice-aggregate-push-round c = sym (c .before .before .loop .inv .long)
-
-push-round-requires : tie.Need-push-round-requires Inv-loop μ-loop
-push-round-requires c κs = c .before .before .loop .inv .long
+sweep-requires : tie.Need-sweep-requires Inv-loop μ-loop
+sweep-requires c κs =
+    let p = c .before .before .before .before .before .before .pre in
+    (p .0, p .1, p .2, c .before .before .loop .inv .long)
 
 returns : tie.Need-returns Inv-loop μ-loop
-returns c =
-    let s = c .before .before .before .before in
-    let u = c .before .before .push-round .ensures in
-    turning-stop _ _ _ _ _ (s .before .loop .inv) (s .loop-test .taken) (u .0) (sym (u .1) ∙ not-true _ (c .if1 .taken))
+returns c = searched-rest _ _ _ _ _ _ _ (c .before .before .before .before .loop .inv) (c .before .sweep .ensures) (omega arith)
 
 add-done : tie.Need-add-done Inv-loop μ-loop
 add-done c = search needs
@@ -35,12 +33,10 @@ loop-less : tie.Need-loop-less Inv-loop μ-loop
 loop-less c = search needs
 
 loop-again : tie.Need-loop-again Inv-loop μ-loop
-loop-again c =
-    let s = c .before .before .before .before in
-    turning-step _ _ _ _ _ (s .before .loop .inv) (s .loop-test .taken) (c .before .before .push-round .ensures .0)
+loop-again c = searched-more _ _ _ _ _ _ _ (c .before .before .before .before .loop .inv) (c .before .sweep .ensures)
 
 returns-2 : tie.Need-returns-2 Inv-loop μ-loop
-returns-2 c = turning-end _ _ _ _ (c .before .loop .inv) (c .loop-test .left)
+returns-2 c = searched-end _ _ _ _ _ (c .loop-test .left) (c .before .loop .inv)
 
 pub reach-spec : {M : Type 1} → statement M
 reach-spec =
@@ -48,9 +44,9 @@ reach-spec =
     (tie.spec
     Inv-loop
     μ-loop
+    all-marks-requires
     loop-holds
-    slice-aggregate-push-round
-    push-round-requires
+    sweep-requires
     returns
     add-done
     loop-less

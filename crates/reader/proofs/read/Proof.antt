@@ -16,7 +16,7 @@ refused-report-requires : tie.Need-refused-report-requires
 refused-report-requires c κs = search needs
 
 returns : tie.Need-returns
-returns c = rw (sheet-none (now (c .before .before .before .args .s)) (c .before .if1 .taken)) (c .refused-report .ensures)
+returns c = rw (sheet-none (now (c .before .before .before .before .args .s)) (c .before .if1 .taken)) (c .refused-report .ensures _)
 
 shared-slice-read-index : tie.Need-shared-slice-read-index
 shared-slice-read-index c = search needs
@@ -30,22 +30,25 @@ read-counted-requires c κs = search needs
 refused-report-requires-2 : tie.Need-refused-report-requires-2
 refused-report-requires-2 c κs = search needs
 
+same-length : tie.Need-same-length
+same-length c = search needs
+
 returns-2 : tie.Need-returns-2
 returns-2 c =
-    let s = now (c .before .before .before .before .before .before .before .args .s) in
+    let s = now (c .before .before .before .before .before .before .before .before .before .before .before .args .s) in
     let some : 0 < length s = omega arith in
-    let low : 1 ≤ getD s 0 0 = rw (c .before .before .before .index .ensures) at (c .before .before .if2 .left) in
-    let e : c .before .before .before .index .result ≡ getD s 0 0 = c .before .before .before .index .ensures in
-    let high : getD s 0 0 ≤ 64 = omega (arith, c .before .if3 .taken) in
-    rw (sheet-there s some low high) (rw (c .before .before .before .index .ensures) at (c .read-counted .ensures))
+    let low : 1 ≤ getD s 0 0 = rw (c .before .before .before .before .before .before .index .ensures) at (c .before .before .before .before .before .if2 .left) in
+    let e : c .before .before .before .before .before .before .index .result ≡ getD s 0 0 = c .before .before .before .before .before .before .index .ensures in
+    let high : getD s 0 0 ≤ 64 = omega (arith, c .before .before .before .before .if3 .taken) in
+    rw (sheet-there s some low high) (rw (c .before .before .before .before .before .before .index .ensures) at (c .before .before .read-counted .ensures))
 
 returns-3 : tie.Need-returns-3
 returns-3 c =
-    let s = now (c .before .before .before .before .before .before .args .s) in
+    let s = now (c .before .before .before .before .before .before .before .args .s) in
     let some : 0 < length s = omega arith in
     let e : c .before .before .index .result ≡ getD s 0 0 = c .before .before .index .ensures in
     let bad : Bytes.read s ≡ refused 2 = ⊎-elim (λ zero. sheet-zero s some (rw e at (zero .taken))) (λ above. sheet-above s some (rw e at (above .1 .left))) (c .before .if2 .came) in
-    rw bad (c .refused-report2 .ensures)
+    rw bad (c .refused-report2 .ensures _)
 
 pub read-spec : {M : Type 1} → statement M
 read-spec =
@@ -57,5 +60,6 @@ read-spec =
     index-requires
     read-counted-requires
     refused-report-requires-2
+    same-length
     returns-2
     returns-3)

@@ -5,7 +5,7 @@ use native.Mathlib.Omega.{arith}
 use denote.Ref.{now}
 use borrow.Author.Needs.{needs}
 use Rattle.fields.specs.Answers.{NumberReads}
-use Rattle.reader.proofs.Parts.{counted-refused, counted-above, counted-there}
+use Rattle.reader.proofs.Parts.{counted-refused, counted-above, counted-there, count-there}
 use Rattle.reader.proofs.read_counted.Statement.{statement}
 use Rattle.reader.proofs.read_counted.Tie as tie
 
@@ -23,10 +23,12 @@ refused-report-requires c κs = search needs
 
 read-records-requires : tie.Need-read-records-requires
 read-records-requires c κs =
-    let a = c .before .before .before .before .before .before .before .args in
-    let found : NumberReads (now (a .s)) 1 (c .before .before .before .before .before .read-number .result) = c .before .before .before .before .before .read-number .ensures in
-    let item = rw (c .before .before .before .count .given .1) at found in
-    (item .inside, omega arith, omega arith)
+    let a = c .before .before .before .before .before .before .before .before .before .args in
+    let found : NumberReads (now (a .s)) 1 (c .before .before .before .before .before .before .read-number .result) = c .before .before .before .before .before .before .read-number .ensures in
+    let item = rw (c .before .before .before .before .count .given .1) at found in
+    let below : c .before .before .before .before .count .given .0 .0 ≤ 512 = omega (arith, c .before .before .count-index .ensures, c .before .if1 .left) in
+    let room = count-there (now (a .s)) (sym (item .same)) below in
+    (item .inside, omega arith, omega arith, omega (arith, room, c .before .before .count-index .ensures))
 
 enum-known-k : tie.Need-enum-known-k
 enum-known-k c = search needs
@@ -36,26 +38,29 @@ refused-report-requires-2 c κs = search needs
 
 returns : tie.Need-returns
 returns c =
-    let a = c .before .before .before .before .before .before .before .before .args in
+    let a = c .before .before .before .before .before .before .before .before .before .args in
     let found : NumberReads (now (a .s)) 1 (c .before .before .before .before .before .before .read-number .result) = c .before .before .before .before .before .before .read-number .ensures in
     let item = rw (c .before .before .before .before .count .given .1) at found in
     let above : 512 < c .before .before .before .before .count .given .0 .0 = rw (c .before .before .count-index .ensures) at (c .before .if1 .taken) in
-    rw (counted-above (a .n) _ (sym (item .same)) above) (c .refused-report .ensures)
+    rw (counted-above (a .n) _ (sym (item .same)) above) (c .refused-report .ensures _)
+
+same-length : tie.Need-same-length
+same-length c = search needs
 
 returns-2 : tie.Need-returns-2
 returns-2 c =
-    let a = c .before .before .before .before .before .before .before .before .args in
-    let found : NumberReads (now (a .s)) 1 (c .before .before .before .before .before .before .read-number .result) = c .before .before .before .before .before .before .read-number .ensures in
-    let item = rw (c .before .before .before .before .count .given .1) at found in
-    let below : c .before .before .before .before .count .given .0 .0 ≤ 512 = rw (c .before .before .count-index .ensures) at (c .before .if1 .left) in
-    rw (counted-there (a .n) _ (sym (item .same)) below) (rw (c .before .before .count-index .ensures) at (c .read-records .ensures))
+    let a = c .before .before .before .before .before .before .before .before .before .before .before .before .args in
+    let found : NumberReads (now (a .s)) 1 (c .before .before .before .before .before .before .before .before .before .read-number .result) = c .before .before .before .before .before .before .before .before .before .read-number .ensures in
+    let item = rw (c .before .before .before .before .before .before .before .count .given .1) at found in
+    let below : c .before .before .before .before .before .before .before .count .given .0 .0 ≤ 512 = rw (c .before .before .before .before .before .count-index .ensures) at (c .before .before .before .before .if1 .left) in
+    rw (counted-there (a .n) _ (sym (item .same)) below) (rw (c .before .before .before .before .before .count-index .ensures) at (c .before .before .read-records .ensures))
 
 returns-3 : tie.Need-returns-3
 returns-3 c =
-    let a = c .before .before .before .before .before .before .args in
+    let a = c .before .before .before .before .before .before .before .args in
     let found : NumberReads (now (a .s)) 1 (c .before .before .before .before .read-number .result) = c .before .before .before .before .read-number .ensures in
     let item = rw (c .before .before .k .given .1) at found in
-    rw (counted-refused (a .n) _ (sym (item .same))) (c .refused-report2 .ensures)
+    rw (counted-refused (a .n) _ (sym (item .same))) (c .refused-report2 .ensures _)
 
 pub read-counted-spec : {M : Type 1} → statement M
 read-counted-spec =
@@ -69,5 +74,6 @@ read-counted-spec =
     enum-known-k
     refused-report-requires-2
     returns
+    same-length
     returns-2
     returns-3)

@@ -1,5 +1,6 @@
--- `reader::read_records` meets its contract: the step records, then the link records in the part of the bytes from the middle on; their rows make the sheet as it is held.
+-- `reader::read_records` meets its contract: the step records, then the link records in the part of the bytes from the middle on, whose edges are the words.
 use mathlib.Core.Path.{sym}
+use native.Mathlib.Omega.{arith}
 use Prim.Native.Nat.{_-_}
 use lib.ListN.{length, take, drop}
 use denote.Ref.{now}
@@ -7,8 +8,8 @@ use borrow.Author.Needs.{needs}
 use Rattle.laws.proofs.Parsers.{part-rest}
 use Rattle.operation_records.specs.Answers.{OperationsReads}
 use Rattle.link_records.specs.Answers.{LinksReads}
-use Rattle.reader.proofs.Rows.{report-whole}
-use Rattle.reader.proofs.Parts.{steps-refused, pairs-refused, records-whole}
+use Rattle.reader.proofs.Rows.{report-made}
+use Rattle.reader.proofs.Parts.{steps-refused}
 use Rattle.reader.proofs.read_records.Statement.{statement}
 use Rattle.reader.proofs.read_records.Tie as tie
 
@@ -26,16 +27,16 @@ enum-known-place-2 c = search needs
 
 sub-read-links : tie.Need-sub-read-links
 sub-read-links c =
-    let a = c .before .before .before .before .before .args in
-    let found : OperationsReads (now (a .s)) (a .at) (a .n) (c .before .before .before .read-operations .result) = c .before .before .before .read-operations .ensures in
-    let inside = rw (c .before .place2 .given .1) at (found .inside) in
+    let a = c .before .before .before .before .before .before .before .args in
+    let found : OperationsReads (now (a .s)) (a .at) (a .n) (c .before .before .before .before .read-operations .result) = c .before .before .before .before .read-operations .ensures in
+    let inside = rw (c .before .before .place2 .given .1) at (found .inside) in
     search needs
 
 part-read-links-start : tie.Need-part-read-links-start
 part-read-links-start c =
-    let a = c .before .before .before .before .before .args in
-    let found : OperationsReads (now (a .s)) (a .at) (a .n) (c .before .before .before .read-operations .result) = c .before .before .before .read-operations .ensures in
-    let inside = rw (c .before .place2 .given .1) at (found .inside) in
+    let a = c .before .before .before .before .before .before .before .args in
+    let found : OperationsReads (now (a .s)) (a .at) (a .n) (c .before .before .before .before .read-operations .result) = c .before .before .before .before .read-operations .ensures in
+    let inside = rw (c .before .before .place2 .given .1) at (found .inside) in
     search needs
 
 part-read-links-end : tie.Need-part-read-links-end
@@ -44,46 +45,28 @@ part-read-links-end c = search needs
 read-links-requires : tie.Need-read-links-requires
 read-links-requires c κs = search needs
 
-enum-known-reading : tie.Need-enum-known-reading
-enum-known-reading c = search needs
-
-refused-report-requires-2 : tie.Need-refused-report-requires-2
-refused-report-requires-2 c κs = search needs
-
-enum-told : tie.Need-enum-told
-enum-told c = search needs
-
 returns : tie.Need-returns
 returns c =
-    let a = c .before .before .before .before .before .before .args in
+    let a = c .before .before .before .before .before .before .before .args in
     let s = now (a .s) in
     let found : OperationsReads s (a .at) (a .n) (c .before .before .before .before .read-operations .result) = c .before .before .before .before .read-operations .ensures in
     let steps = rw (c .before .before .place .given .1) at (found .same) in
-    rw (steps-refused (a .n) (a .r) (drop (a .at) s) (sym steps)) (c .refused-report .ensures)
+    rw (steps-refused (a .n) (a .r) (drop (a .at) s) (sym steps)) (c .refused-report .ensures _)
+
+same-length : tie.Need-same-length
+same-length c = search needs
 
 returns-2 : tie.Need-returns-2
 returns-2 c =
-    let a = c .before .before .before .before .before .before .before .before .before .before .before .args in
+    let a = c .before .before .before .before .before .before .before .before .before .before .before .before .args in
     let s = now (a .s) in
     let middle = c .before .before .before .before .before .before .before .place2 .given .0 .0 in
     let found : OperationsReads s (a .at) (a .n) (c .before .before .before .before .before .before .before .before .before .read-operations .result) = c .before .before .before .before .before .before .before .before .before .read-operations .ensures in
     let steps = rw (c .before .before .before .before .before .before .before .place2 .given .1) at (found .same) in
-    let in-part : LinksReads (take (length s - middle) (drop middle s)) (a .n) (a .r) (c .before .before .before .before .read-links .result) = c .before .before .before .before .read-links .ensures in
+    let words = c .before .before .read-links .last .1 .1 .1 .1 .0 in
+    let in-part : LinksReads (take (length s - middle) (drop middle s)) (a .n) (a .r) (take (a .n) (c .before .before .before .before .before .before .before .before .before .read-operations .result .operations)) words (c .before .before .read-links .result) = c .before .before .read-links .ensures in
     let found-2 = rw (part-rest s middle) at in-part in
-    let pairs = rw (c .before .before .reading .given .1) at (found-2 .same) in
-    rw (pairs-refused (a .n) (a .r) (drop (a .at) s) (sym steps) (sym pairs)) (c .refused-report2 .ensures)
-
-returns-3 : tie.Need-returns-3
-returns-3 c =
-    let a = c .before .before .before .before .before .before .before .before .before .before .before .args in
-    let s = now (a .s) in
-    let middle = c .before .before .before .before .before .before .before .place2 .given .0 .0 in
-    let found : OperationsReads s (a .at) (a .n) (c .before .before .before .before .before .before .before .before .before .read-operations .result) = c .before .before .before .before .before .before .before .before .before .read-operations .ensures in
-    let steps = rw (c .before .before .before .before .before .before .before .place2 .given .1) at (found .same) in
-    let in-part : LinksReads (take (length s - middle) (drop middle s)) (a .n) (a .r) (c .before .before .before .before .read-links .result) = c .before .before .before .before .read-links .ensures in
-    let found-2 = rw (part-rest s middle) at in-part in
-    let pairs = rw (c .before .before .enum-told .given .1) at (found-2 .same) in
-    rw (records-whole (a .n) (a .r) (drop (a .at) s) (sym steps) (sym pairs)) (report-whole (a .n) (a .r) _ _ (found .row) (found-2 .row))
+    report-made (a .n) (a .r) (drop (a .at) s) (drop middle s) _ words (c .before .before .read-links .result) (sym steps) (found .row) found-2 (omega arith) (search needs)
 
 pub read-records-spec : {M : Type 1} → statement M
 read-records-spec =
@@ -97,9 +80,6 @@ read-records-spec =
     part-read-links-start
     part-read-links-end
     read-links-requires
-    enum-known-reading
-    refused-report-requires-2
-    enum-told
     returns
-    returns-2
-    returns-3)
+    same-length
+    returns-2)

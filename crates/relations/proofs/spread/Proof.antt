@@ -33,17 +33,17 @@ mul-out c = search needs
 slice-write-out : tie.Need-slice-write-out Inv-loop μ-loop
 slice-write-out c = search needs
 
-remove-requires : tie.Need-remove-requires Inv-loop μ-loop
-remove-requires c κs = search needs
+without-lowest-requires : tie.Need-without-lowest-requires Inv-loop μ-loop
+without-lowest-requires c κs = omega arith
 
 loop-less : tie.Need-loop-less Inv-loop μ-loop
-loop-less c = removed-lt _ _ _ (c .before .before .before .lowest .ensures .member) (c .remove .ensures)
+loop-less c = removed-lt _ _ _ (c .before .before .before .lowest .ensures .member) (c .without-lowest .ensures _ (c .before .before .before .lowest .ensures))
 
 loop-again : tie.Need-loop-again Inv-loop μ-loop
 loop-again c =
     let s = c .before .before .before .before .before in
     let L = c .before .before .before .lowest .ensures in
-    spreading-more _ _ _ _ _ _ _ _ (omega (arith, L .below, s .loop .inv .long, s .before .before .pre .1)) (L .member) (c .before .insert .ensures) (c .remove .ensures) (s .loop .inv)
+    spreading-more _ _ _ _ _ _ _ _ (omega (arith, L .below, s .loop .inv .long, s .before .before .pre .1)) (L .member) (c .before .insert .ensures) (c .without-lowest .ensures _ L) (s .loop .inv)
 
 same-length : tie.Need-same-length Inv-loop μ-loop
 same-length c = search needs
@@ -64,7 +64,7 @@ spread-spec =
     insert-requires
     mul-out
     slice-write-out
-    remove-requires
+    without-lowest-requires
     loop-less
     loop-again
     same-length

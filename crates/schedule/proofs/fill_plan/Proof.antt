@@ -38,7 +38,7 @@ part-fill-row-end : tie.Need-part-fill-row-end Inv-loop μ-loop
 part-fill-row-end c = search needs
 
 fill-row-requires : tie.Need-fill-row-requires Inv-loop μ-loop
-fill-row-requires c κs = (omega arith, omega arith, simp (length-take, length-drop) (omega (arith, in-table (c .before))))
+fill-row-requires c κs = (omega arith, simp (length-take, length-drop) (omega (arith, in-table (c .before))))
 
 add-v : tie.Need-add-v Inv-loop μ-loop
 add-v c = search needs

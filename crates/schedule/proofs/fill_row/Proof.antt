@@ -1,68 +1,26 @@
--- The invariant: the first a numbers are the row's, the others as lent. The measure is the number of entries that are left. Assumes nothing.
-use mathlib.Core.Path.{_≡_}
-use Prim.Native.Nat.{_-_, _≤_}
-use lib.ListN.{length, length-set}
-use Rattle.schedule.specs.Rows.{entry-at}
-use Rattle.schedule.proofs.Laws.{entry-by}
-use Rattle.laws.proofs.Fronts.{laid, laid-none, laid-more}
+-- The row is cleared, and the offsets of the deciding set are put in. Assumes nothing.
+use Rattle.schedule.proofs.Laws.{row-filled}
 use borrow.Author.Needs.{needs}
-use native.Mathlib.Omega.{arith}
 use Rattle.schedule.proofs.fill_row.Statement.{statement}
 use Rattle.schedule.proofs.fill_row.Tie as tie
 
-abbrev Inv-loop : tie.InvT-loop
-Inv-loop d sets n v row₀ deciding a₀ row a = (a ≤ n) × (length row ≡ length row₀) × (row ≡ laid (entry-at d sets v) a row₀)
-
-abbrev μ-loop : tie.MeasureT-loop
-μ-loop d sets n v row₀ deciding a₀ row a = n - a
-
-deciding-set-requires : tie.Need-deciding-set-requires Inv-loop μ-loop
+deciding-set-requires : tie.Need-deciding-set-requires
 deciding-set-requires c κs = search needs
 
-loop-holds : tie.Need-loop-holds Inv-loop μ-loop
-loop-holds c = (omega arith, search needs, laid-none _ _)
+clear-row-requires : tie.Need-clear-row-requires
+clear-row-requires c κs = search needs
 
-entry-requires : tie.Need-entry-requires Inv-loop μ-loop
-entry-requires c κs = search needs
+put-offsets-requires : tie.Need-put-offsets-requires
+put-offsets-requires c κs = search needs
 
-mul-row : tie.Need-mul-row Inv-loop μ-loop
-mul-row c = search needs
-
-slice-write-row : tie.Need-slice-write-row Inv-loop μ-loop
-slice-write-row c = search needs
-
-add-a : tie.Need-add-a Inv-loop μ-loop
-add-a c = search needs
-
-loop-less : tie.Need-loop-less Inv-loop μ-loop
-loop-less c = search needs
-
-loop-again : tie.Need-loop-again Inv-loop μ-loop
-loop-again c =
-    let s = c .before .before in
-    (omega arith, simp length-set (s .loop .inv .1), laid-more _ _ _ _ _ 0 (omega arith) (s .loop .inv .2) (entry-by _ _ _ _ _ _ (s .before .deciding-set .ensures) (c .entry .ensures)))
-
-same-length : tie.Need-same-length Inv-loop μ-loop
+same-length : tie.Need-same-length
 same-length c = search needs
 
-returns : tie.Need-returns Inv-loop μ-loop
+returns : tie.Need-returns
 returns c =
-    let e : c .before .loop .a ≡ c .before .before .before .before .args .n = omega arith in
-    rw e at (c .before .loop .inv .2)
+    let put = c .before .before in
+    let clear = put .before .before .before .before in
+    row-filled _ _ _ _ _ _ _ _ (clear .before .before .deciding-set .ensures) (clear .clear-row .ensures) (put .put-offsets .ensures)
 
 pub fill-row-spec : {M : Type 1} → statement M
-fill-row-spec =
-    tie.close
-    (tie.spec
-    Inv-loop
-    μ-loop
-    deciding-set-requires
-    loop-holds
-    entry-requires
-    mul-row
-    slice-write-row
-    add-a
-    loop-less
-    loop-again
-    same-length
-    returns)
+fill-row-spec = tie.close (tie.spec deciding-set-requires clear-row-requires put-offsets-requires same-length returns)

@@ -15,7 +15,7 @@ use Rattle.settled.proofs.settled_row.Tie as tie
 use Rattle.settled.proofs.settled_row.Reads as reads
 use Rattle.settled.proofs.settled_row.Lts as lts
 use Rattle.bitmaps.proofs.lowest.Reads as lowest-reads
-use Rattle.bitmaps.proofs.remove.Reads as remove-reads
+use Rattle.bitmaps.proofs.without_lowest.Reads as without-lowest-reads
 use Rattle.settled.proofs.handed.Reads as handed-reads
 
 -- The wait of i for a has handed on.
@@ -43,17 +43,17 @@ returns c =
     let low = c .before .before .lowest in
     sym (s .loop .inv ∙ members-fail (waited (s .before .args .d .now) (s .before .args .i)) (s .loop .left) (low .result) (low .ensures .below) (low .ensures .member) (sym (c .before .handed .ensures) ∙ not-true _ (c .if1 .taken)))
 
-remove-requires : tie.Need-remove-requires Inv-loop μ-loop
-remove-requires c κs = search needs
+without-lowest-requires : tie.Need-without-lowest-requires Inv-loop μ-loop
+without-lowest-requires c κs = omega arith
 
 loop-less : tie.Need-loop-less Inv-loop μ-loop
-loop-less c = removed-lt _ _ _ (c .before .before .before .lowest .ensures .member) (c .remove .ensures)
+loop-less c = removed-lt _ _ _ (c .before .before .before .lowest .ensures .member) (c .without-lowest .ensures _ (c .before .before .before .lowest .ensures))
 
 loop-again : tie.Need-loop-again Inv-loop μ-loop
 loop-again c =
     let s = c .before .before .before .before .before in
     s .loop .inv
-    ∙ members-less (waited (s .before .args .d .now) (s .before .args .i)) (s .loop .left) (c .remove .result) (c .before .before .before .lowest .result) (sym (c .before .before .handed .ensures) ∙ not-false _ (c .before .if1 .left)) (c .remove .ensures)
+    ∙ members-less (waited (s .before .args .d .now) (s .before .args .i)) (s .loop .left) (c .without-lowest .result) (c .before .before .before .lowest .result) (sym (c .before .before .handed .ensures) ∙ not-false _ (c .before .if1 .left)) (c .without-lowest .ensures _ (c .before .before .before .lowest .ensures))
 
 returns-2 : tie.Need-returns-2 Inv-loop μ-loop
 returns-2 c = let s = c .before in sym (s .loop .inv ∙ members-none (waited (s .before .args .d .now) (s .before .args .i)) (s .loop .left) (omega arith))
@@ -68,7 +68,7 @@ settled-row-spec =
     lowest-requires
     handed-requires
     returns
-    remove-requires
+    without-lowest-requires
     loop-less
     loop-again
     returns-2)

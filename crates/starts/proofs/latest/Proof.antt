@@ -34,16 +34,16 @@ term-of-requires c κs = (omega arith, c .before .lowest .ensures .below, omega 
 larger-requires : tie.Need-larger-requires Inv-loop μ-loop
 larger-requires c κs = search needs
 
-remove-requires : tie.Need-remove-requires Inv-loop μ-loop
-remove-requires c κs = c .before .before .before .lowest .ensures .below
+without-lowest-requires : tie.Need-without-lowest-requires Inv-loop μ-loop
+without-lowest-requires c κs = omega arith
 
 loop-less : tie.Need-loop-less Inv-loop μ-loop
-loop-less c = removed-lt _ _ _ (c .before .before .before .before .lowest .ensures .member) (c .remove .ensures)
+loop-less c = removed-lt _ _ _ (c .before .before .before .before .lowest .ensures .member) (c .without-lowest .ensures _ (c .before .before .before .before .lowest .ensures))
 
 loop-again : tie.Need-loop-again Inv-loop μ-loop
 loop-again c =
     let least = c .before .before .before .before in
-    one-taken _ _ _ _ _ _ _ _ _ _ _ (omega arith) (least .lowest .ensures .member) (c .before .before .term-of .ensures) (c .before .larger .ensures) (c .remove .ensures)
+    one-taken _ _ _ _ _ _ _ _ _ _ _ (omega arith) (least .lowest .ensures .member) (c .before .before .term-of .ensures) (c .before .larger .ensures) (c .without-lowest .ensures _ (least .lowest .ensures))
     ∙ least .before .before .loop .inv
 
 returns-2 : tie.Need-returns-2 Inv-loop μ-loop
@@ -62,7 +62,7 @@ latest-spec =
     returns
     term-of-requires
     larger-requires
-    remove-requires
+    without-lowest-requires
     loop-less
     loop-again
     returns-2)

@@ -17,69 +17,54 @@ Inv-loop d₀ fresh₀ es lists u m k₀ d fresh k = Listing es u m d₀ d fresh
 abbrev μ-loop : tie.MeasureT-loop
 μ-loop d₀ fresh₀ es lists u m k₀ d fresh k = k
 
--- src/lib.rt:25:23
 mul-index : tie.Need-mul-index Inv-loop μ-loop
 mul-index c = search needs
 
--- src/lib.rt:25:23
-element-copy-out-index : tie.Need-element-copy-out-index Inv-loop μ-loop
-element-copy-out-index c = search needs
+shared-slice-read-index : tie.Need-shared-slice-read-index Inv-loop μ-loop
+shared-slice-read-index c = search needs
 
--- src/lib.rt:25:9
 index-requires : tie.Need-index-requires Inv-loop μ-loop
 index-requires c κs = search needs
 
--- src/lib.rt:26:5
 loop-holds : tie.Need-loop-holds Inv-loop μ-loop
-loop-holds c = let s = c .before .before .before in listing-start _ _ _ _ _ _ (s .pre .3) (s .pre .4) (c .index .ensures ∙ s .pre .2 .heads _ (s .pre .0))
+loop-holds c = let s = c .before .before .before in listing-start _ _ _ _ _ _ (s .before .pre .3) (s .before .pre .4) (c .index .ensures ∙ s .before .pre .2 .heads _ (s .before .pre .0))
 
--- src/lib.rt:27:32
 sub-push-word : tie.Need-sub-push-word Inv-loop μ-loop
 sub-push-word c = search needs
 
--- src/lib.rt:27:29
 mul-push-word : tie.Need-mul-push-word Inv-loop μ-loop
 mul-push-word c = search needs
 
--- src/lib.rt:27:29
 shared-slice-read-push-word : tie.Need-shared-slice-read-push-word Inv-loop μ-loop
 shared-slice-read-push-word c = omega (arith, c .before .before .before .before .loop .inv .few)
 
--- src/lib.rt:27:9
 push-word-requires : tie.Need-push-word-requires Inv-loop μ-loop
 push-word-requires c κs = let h = c .before .before .before .before .loop .inv .handed in (h .square, h .long)
 
--- src/lib.rt:28:25
 add-index : tie.Need-add-index Inv-loop μ-loop
 add-index c = search needs
 
--- src/lib.rt:28:19
 mul-index-2 : tie.Need-mul-index-2 Inv-loop μ-loop
 mul-index-2 c = search needs
 
--- src/lib.rt:28:19
-element-copy-out-index-2 : tie.Need-element-copy-out-index-2 Inv-loop μ-loop
-element-copy-out-index-2 c = search needs
+shared-slice-read-index-2 : tie.Need-shared-slice-read-index-2 Inv-loop μ-loop
+shared-slice-read-index-2 c = search needs
 
--- src/lib.rt:28:9
 index-requires-2 : tie.Need-index-requires-2 Inv-loop μ-loop
 index-requires-2 c κs = search needs
 
--- src/lib.rt:26:5
 loop-less : tie.Need-loop-less Inv-loop μ-loop
 loop-less c =
     let s = c .before .before .before .before .before .before .before in
     let some : 1 ≤ s .loop .k = omega arith in
-    listing-less _ _ _ _ _ _ _ _ _ _ _ some (s .loop .inv) (c .before .before .push-word .ensures) (listing-next _ _ _ _ _ _ _ _ _ _ (c .before .before .before .before .before .before .before .before .before .before .before .pre .2) some (s .loop .inv) (c .index2 .ensures))
+    listing-less _ _ _ _ _ _ _ _ _ _ _ some (s .loop .inv) (c .before .before .push-word .ensures) (listing-next _ _ _ _ _ _ _ _ _ _ (c .before .before .before .before .before .before .before .before .before .before .before .before .pre .2) some (s .loop .inv) (c .index2 .ensures))
 
--- src/lib.rt:26:5
 loop-again : tie.Need-loop-again Inv-loop μ-loop
 loop-again c =
     let s = c .before .before .before .before .before .before .before in
     let some : 1 ≤ s .loop .k = omega arith in
-    listing-turn _ _ _ _ _ _ _ _ _ _ _ some (s .loop .inv) (c .before .before .push-word .ensures) (listing-next _ _ _ _ _ _ _ _ _ _ (c .before .before .before .before .before .before .before .before .before .before .before .pre .2) some (s .loop .inv) (c .index2 .ensures))
+    listing-turn _ _ _ _ _ _ _ _ _ _ _ some (s .loop .inv) (c .before .before .push-word .ensures) (listing-next _ _ _ _ _ _ _ _ _ _ (c .before .before .before .before .before .before .before .before .before .before .before .before .pre .2) some (s .loop .inv) (c .index2 .ensures))
 
--- src/lib.rt:21:1
 returns : tie.Need-returns Inv-loop μ-loop
 returns c = listing-end _ _ _ _ _ _ _ _ (omega arith) (c .before .loop .inv)
 
@@ -90,7 +75,7 @@ push-edges-spec =
     Inv-loop
     μ-loop
     mul-index
-    element-copy-out-index
+    shared-slice-read-index
     index-requires
     loop-holds
     sub-push-word
@@ -99,7 +84,7 @@ push-edges-spec =
     push-word-requires
     add-index
     mul-index-2
-    element-copy-out-index-2
+    shared-slice-read-index-2
     index-requires-2
     loop-less
     loop-again

@@ -20,7 +20,7 @@ abbrev μ-loop : tie.MeasureT-loop
 
 -- src/lib.rt:86:5
 loop-holds : tie.Need-loop-holds Inv-loop μ-loop
-loop-holds c = (omega arith, swept-none (c .before .pre .3) (c .before .pre .4) (λ v x. omega (arith, x .0, x .1)))
+loop-holds c = (omega arith, swept-none (c .before .before .pre .3) (c .before .before .pre .4) (λ v x. omega (arith, x .0, x .1)))
 
 -- src/lib.rt:87:9
 sub-k : tie.Need-sub-k Inv-loop μ-loop
@@ -28,7 +28,7 @@ sub-k c = search needs
 
 -- src/lib.rt:88:9
 visit-requires : tie.Need-visit-requires Inv-loop μ-loop
-visit-requires c κs = let p = c .before .before .before .before .before .pre in let h = c .before .before .before .loop .inv in (omega (arith, h .0, p .0), p .1, p .2, h .1 .square, h .1 .long)
+visit-requires c κs = let p = c .before .before .before .before .before .before .pre in let h = c .before .before .before .loop .inv in (omega (arith, h .0, p .0), p .1, p .2, h .1 .square, h .1 .long)
 
 -- src/lib.rt:86:5
 loop-less : tie.Need-loop-less Inv-loop μ-loop

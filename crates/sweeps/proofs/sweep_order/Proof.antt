@@ -20,7 +20,7 @@ abbrev μ-loop : tie.MeasureT-loop
 
 -- src/lib.rt:73:5
 loop-holds : tie.Need-loop-holds Inv-loop μ-loop
-loop-holds c = swept-none (c .before .pre .3) (c .before .pre .4) (λ v x. x)
+loop-holds c = swept-none (c .before .before .pre .3) (c .before .before .pre .4) (λ v x. x)
 
 -- src/lib.rt:74:23
 element-copy-out-place : tie.Need-element-copy-out-place Inv-loop μ-loop
@@ -32,7 +32,7 @@ place-requires c κs = search needs
 
 -- src/lib.rt:75:9
 visit-requires : tie.Need-visit-requires Inv-loop μ-loop
-visit-requires c κs = let p = c .before .before .before .before .before .before .before .pre in let h = c .before .before .before .before .before .loop .inv in (c .before .before .place .ensures, p .1, p .2, h .square, h .long)
+visit-requires c κs = let p = c .before .before .before .before .before .before .before .before .pre in let h = c .before .before .before .before .before .loop .inv in (c .before .before .place .ensures, p .1, p .2, h .square, h .long)
 
 -- src/lib.rt:76:9
 add-k : tie.Need-add-k Inv-loop μ-loop

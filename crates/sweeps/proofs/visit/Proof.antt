@@ -19,7 +19,7 @@ element-copy-out-m c = search needs
 
 -- src/lib.rt:53:9
 returns : tie.Need-returns
-returns c = let s = c .before .before .before in visited-idle _ _ _ (s .pre .3) (s .pre .4) (omega arith)
+returns c = let s = c .before .before .before in visited-idle _ _ _ (s .before .pre .3) (s .before .pre .4) (omega arith)
 
 -- src/lib.rt:55:5
 mul-fresh : tie.Need-mul-fresh
@@ -47,7 +47,7 @@ push-waits-requires c κs = search needs
 
 -- src/lib.rt:47:1
 returns-2 : tie.Need-returns-2
-returns-2 c = let s = c .before .before .before .before .before .before .before .before .before .before in visited (s .args .es .now) (s .args .waiting .now) _ _ _ _ _ _ _ (c .before .before .before .before .push-edges .ensures) (c .push-waits .ensures)
+returns-2 c = let s = c .before .before .before .before .before .before .before .before .before .before in visited (s .before .args .es .now) (s .before .args .waiting .now) _ _ _ _ _ _ _ (c .before .before .before .before .push-edges .ensures) (c .push-waits .ensures)
 
 pub visit-spec : {M : Type 1} → statement M
 visit-spec =

@@ -1,0 +1,26 @@
+-- `analysis::analyse_edges` meets its contract.
+use borrow.Author.Needs.{needs}
+use native.Mathlib.Omega.{arith}
+use Prim.Native.Nat.{ℕ}
+use lib.ListN.{length-replicate}
+use Rattle.adjacency.proofs.Linking.{zeros-empty}
+use Rattle.analysis.proofs.analyse_edges.Statement.{statement}
+use Rattle.analysis.proofs.analyse_edges.Tie as tie
+
+slice-aggregate-list : tie.Need-slice-aggregate-list
+slice-aggregate-list c = search needs
+
+list-requires : tie.Need-list-requires
+list-requires c κs = let few = c .before .before .pre .2 in (few, omega (arith, few, length-replicate {A = ℕ} 2112 0), zeros-empty 2112 (omega arith))
+
+slice-aggregate-analyse : tie.Need-slice-aggregate-analyse
+slice-aggregate-analyse c = search needs
+
+analyse-requires : tie.Need-analyse-requires
+analyse-requires c κs = search needs
+
+returns : tie.Need-returns
+returns c = search needs
+
+pub analyse-edges-spec : {M : Type 1} → statement M
+analyse-edges-spec = tie.close (tie.spec slice-aggregate-list list-requires slice-aggregate-analyse analyse-requires returns)

@@ -1,0 +1,76 @@
+-- `planner::starts_with` meets its contract.
+use mathlib.Core.Path.{sym}
+use native.Mathlib.Omega.{arith}
+use lib.Seq.{length-take-le}
+use denote.Ref.{now}
+use borrow.Author.Needs.{needs}
+use Rattle.reader.proofs.Reports.{report-refused}
+use Rattle.planner.proofs.Held.{held-within}
+use Rattle.planner.proofs.Calls.{Whole, whole, starts-given, starts-refused, sheet-started}
+use Rattle.planner.proofs.starts_with.Statement.{statement}
+use Rattle.planner.proofs.starts_with.Tie as tie
+
+-- What was read: the sheet, held in the report and the words.
+read-whole : (s : tie.After-enum-told) → Whole (now (s .before .before .before .before .before .before .before .before .before .before .args .s)) (s .before .before .before .before .read .last .1 .0) (s .before .before .before .before .read .result)
+read-whole s = whole (now (s .before .before .before .before .before .before .before .before .before .before .args .s)) _ _ (λ i. omega (arith, s .before .before .before .before .before .before .before .before .before .shared-slice-known .given i)) (s .before .before .before .before .read .ensures) (s .enum-told .given .1)
+
+read-requires : tie.Need-read-requires
+read-requires c κs = search needs
+
+enum-known-reading : tie.Need-enum-known-reading
+enum-known-reading c = search needs
+
+enum-told : tie.Need-enum-told
+enum-told c = search needs
+
+unbounded-map-requires : tie.Need-unbounded-map-requires
+unbounded-map-requires c κs =
+    let w = read-whole (c .before) in
+    let b = held-within (w .fits) (w .found .holds) in
+    omega (arith, b .1)
+
+slice-reshare-prefix-starts-edges : tie.Need-slice-reshare-prefix-starts-edges
+slice-reshare-prefix-starts-edges c = read-whole (c .before .before) .found .holds .within
+
+slice-aggregate-starts-edges : tie.Need-slice-aggregate-starts-edges
+slice-aggregate-starts-edges c = sym (length-take-le _ _ (read-whole (c .before .before .before) .found .holds .within))
+
+starts-edges-requires : tie.Need-starts-edges-requires
+starts-edges-requires c κs =
+    let w = read-whole (c .before .before .before .before) in
+    let b = held-within (w .fits) (w .found .holds) in
+    (omega (arith, b .0), omega (arith, b .1), b .2)
+
+same-length : tie.Need-same-length
+same-length c = search needs
+
+returns : tie.Need-returns
+returns c = starts-refused (now (c .before .before .before .before .before .before .before .before .before .before .before .args .s)) (report-refused _ _ _ _ (c .before .before .before .before .before .read .ensures) (c .before .reading .given .1)) _ _ _
+
+same-length-2 : tie.Need-same-length-2
+same-length-2 c = search needs
+
+same-length-3 : tie.Need-same-length-3
+same-length-3 c = search needs
+
+returns-2 : tie.Need-returns-2
+returns-2 c =
+    let w = read-whole (c .before .before .before .before .before .before .before) in
+    starts-given (now (c .before .before .before .before .before .before .before .before .before .before .before .before .before .before .before .before .before .args .s)) (w .found .is-given) _ _ _ (c .before .before .starts-edges .result) (sheet-started (w .fits) (w .found .holds) (c .before .before .before .before .before .before .before .before .before .before .before .before .before .before .before .before .before .args .allow) (c .before .before .starts-edges .result) (c .before .before .before .before .before .unbounded-map .result) _ _ (c .before .before .before .before .before .unbounded-map .ensures) (c .before .before .starts-edges .ensures))
+
+pub starts-with-spec : {M : Type 1} → statement M
+starts-with-spec =
+    tie.close
+    (tie.spec
+    read-requires
+    enum-known-reading
+    enum-told
+    unbounded-map-requires
+    slice-reshare-prefix-starts-edges
+    slice-aggregate-starts-edges
+    starts-edges-requires
+    same-length
+    returns
+    same-length-2
+    same-length-3
+    returns-2)

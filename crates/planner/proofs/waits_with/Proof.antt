@@ -1,0 +1,65 @@
+-- `planner::waits_with` meets its contract.
+use mathlib.Core.Path.{refl, sym}
+use native.Mathlib.Omega.{arith}
+use lib.Seq.{length-take-le}
+use denote.Ref.{now}
+use borrow.Author.Needs.{needs}
+use Rattle.reader.proofs.Reports.{report-refused}
+use Rattle.planner.proofs.Held.{held-within}
+use Rattle.planner.proofs.Calls.{Whole, whole, lists-refused, sheet-analysed, waits-given}
+use Rattle.planner.proofs.waits_with.Statement.{statement}
+use Rattle.planner.proofs.waits_with.Tie as tie
+
+-- What was read: the sheet, held in the report and the words.
+read-whole : (s : tie.After-enum-told) → Whole (now (s .before .before .before .before .before .before .before .before .args .s)) (s .before .before .before .before .read .last .1 .0) (s .before .before .before .before .read .result)
+read-whole s = whole (now (s .before .before .before .before .before .before .before .before .args .s)) _ _ (λ i. omega (arith, s .before .before .before .before .before .before .before .shared-slice-known .given i)) (s .before .before .before .before .read .ensures) (s .enum-told .given .1)
+
+read-requires : tie.Need-read-requires
+read-requires c κs = search needs
+
+enum-known-reading : tie.Need-enum-known-reading
+enum-known-reading c = search needs
+
+enum-told : tie.Need-enum-told
+enum-told c = search needs
+
+slice-reshare-prefix-analyse-edges : tie.Need-slice-reshare-prefix-analyse-edges
+slice-reshare-prefix-analyse-edges c = read-whole c .found .holds .within
+
+slice-aggregate-analyse-edges : tie.Need-slice-aggregate-analyse-edges
+slice-aggregate-analyse-edges c = sym (length-take-le _ _ (read-whole (c .before) .found .holds .within))
+
+analyse-edges-requires : tie.Need-analyse-edges-requires
+analyse-edges-requires c κs =
+    let w = read-whole (c .before) in
+    let b = held-within (w .fits) (w .found .holds) in
+    (omega (arith, b .0), omega (arith, b .1), b .2)
+
+same-length : tie.Need-same-length
+same-length c = search needs
+
+returns : tie.Need-returns
+returns c = lists-refused (now (c .before .before .before .before .before .before .before .before .before .args .s)) (report-refused _ _ _ _ (c .before .before .before .before .before .read .ensures) (c .before .reading .given .1)) refl refl refl
+
+same-length-2 : tie.Need-same-length-2
+same-length-2 c = search needs
+
+returns-2 : tie.Need-returns-2
+returns-2 c =
+    let w = read-whole (c .before .before .before) in
+    waits-given (now (c .before .before .before .before .before .before .before .before .before .before .before .args .s)) (w .found .is-given) (sheet-analysed (w .fits) (w .found .holds) _ (c .before .analyse-edges .ensures))
+
+pub waits-with-spec : {M : Type 1} → statement M
+waits-with-spec =
+    tie.close
+    (tie.spec
+    read-requires
+    enum-known-reading
+    enum-told
+    slice-reshare-prefix-analyse-edges
+    slice-aggregate-analyse-edges
+    analyse-edges-requires
+    same-length
+    returns
+    same-length-2
+    returns-2)

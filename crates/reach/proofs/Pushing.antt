@@ -1,0 +1,184 @@
+-- Edges out of one step, one after another.
+use mathlib.Core.Path.{_≡_, refl, sym, ap, subst, _∙_}
+use mathlib.Core.Bool.{Bool, true, false, and-true, cond, not, _&&_, _||_}
+use mathlib.Core.Logic.{_⊎_, inl, inr, _≢_}
+use mathlib.Core.List.{List}
+use Prim.Native.Nat.{ℕ, suc, _+_, _-_, _≤_, _<_}
+use native.Mathlib.Omega.{arith}
+use lib.Dec.{eqb}
+use lib.ListN.{length, getD, set, length-set}
+use lib.Seq.{getD-set-same, getD-set-other}
+use borrow.Author.Tests.{eq-eqb, eqb-false, eqb-true, ne-eqb, not-false, not-true}
+use Rattle.adjacency.specs.Lists.{Lists, last-from}
+use Rattle.adjacency.proofs.Laws.{last-below, last-leaves, last-skips}
+use Rattle.adjacency.proofs.Following.{Behind, behind-mem, behind-split, mem-behind}
+use Rattle.definitions.specs.Basics.{test-bit}
+use Rattle.definitions.specs.Links.{Edge, Graph, LateInto, UsableFrom, _⊑_, late-into, members}
+use Rattle.edges.specs.Words.{graph, unpack}
+use Rattle.laws.proofs.Bools.{and-join, and-split, both-ways, cond-true, not-passing, or-left, or-neither, or-right, or-split, same-or-not}
+use Rattle.theory.specs.Sweeps.{Leads}
+use Rattle.theory.proofs.Usables.{late-into-iff}
+use Rattle.reach.specs.Pushes.{Begun, Handed, HandedAll, Joined, Settled, Within, column}
+
+-- One edge on one column: its end comes into it where h stands, which says that the edge has something for the column and may be used.
+module _ (a : ℕ) (e : Edge) (held h : Bool) (r s f g : ℕ → Bool) (only : h ≡ true → ((held ≡ true) ⊎ Leads a e) × (¬ LateInto e a)) (offers : ¬ LateInto e a → (held ≡ true) ⊎ Leads a e → h ≡ true) (here : s (e .to) ≡ (r (e .to) || h)) (other : (v : ℕ) → v ≢ e .to → s v ≡ r v) where
+  edge-up : Within r s
+  edge-up v q = by (same-or-not v (e .to))
+    where
+      by : (v ≡ e .to) ⊎ (v ≢ e .to) → s v ≡ true
+      by (inl o) = ap s o ∙ here ∙ or-left h (sym (ap r o) ∙ q)
+      by (inr o) = other v o ∙ q
+
+  edge-hands : (x : Edge) → UsableFrom (λ y. y ≡ e) a x → (held ≡ true) ⊎ Leads a x → s (x .to) ≡ true
+  edge-hands x m =
+      subst (λ (y : Edge). ¬ LateInto y a → (held ≡ true) ⊎ Leads a y → s (y .to) ≡ true) (sym (m .0)) (λ l k. here ∙ or-right (r (e .to)) (offers l k)) (m .1)
+
+  edge-sound : (t : ℕ → Bool) → Settled a (UsableFrom (λ y. y ≡ e) a) t → (held ≡ true → t (e .from) ≡ true) → Within r t → Within s t
+  edge-sound t st holds below v q = by (same-or-not v (e .to))
+    where
+      gives : (held ≡ true) ⊎ Leads a e → (t (e .from) ≡ true) ⊎ Leads a e
+      gives (inl k) = inl (holds k)
+      gives (inr l) = inr l
+
+      at : (r (e .to) ≡ true) ⊎ (h ≡ true) → t (e .to) ≡ true
+      at (inl k) = below (e .to) k
+      at (inr k) = let p = only k in st e (refl, p .1) (gives (p .0))
+
+      by : (v ≡ e .to) ⊎ (v ≢ e .to) → t v ≡ true
+      by (inl o) = ap t o ∙ at (or-split (r (e .to)) h (sym here ∙ sym (ap s o) ∙ q))
+      by (inr o) = below v (sym (other v o) ∙ q)
+
+  edge-handed : Within f g → ((v : ℕ) → g v ≡ false → s v ≡ r v) → Handed a (UsableFrom (λ y. y ≡ e) a) (e .from) held r s f g
+  edge-handed marks marked = record { up = edge-up; hands = λ x m o k. edge-hands x m k; sound = edge-sound; marks = marks; marked = marked }
+
+-- What the code hands on: the anchors that the edge starts from, where they may use it.
+module _ (e : Edge) (m all given h : ℕ) (begins : Begun (e .from) m all) (chosen : given ≡ cond (e .counted) all m) (may : (a : ℕ) → test-bit h a ≡ (test-bit given a && not (late-into a e))) where
+  given-only : (a : ℕ) → test-bit given a ≡ true → (test-bit m a ≡ true) ⊎ Leads a e
+  given-only a k = by (e .counted) refl (sym (ap (λ (x : ℕ). test-bit x a) chosen) ∙ k)
+    where
+      own : e .counted ≡ true → (test-bit m a ≡ true) ⊎ ((not (eqb (e .from) 0) && eqb a (e .from)) ≡ true) → (test-bit m a ≡ true) ⊎ Leads a e
+      own c (inl i) = inl i
+      own c (inr i) =
+          let p = and-split (not (eqb (e .from) 0)) (eqb a (e .from)) i in
+          let o = eqb-true a (e .from) (p .1) in
+          inr (record { not-source = λ z. eqb-false (e .from) 0 (not-true (eqb (e .from) 0) (p .0)) (sym o ∙ z); leaves = sym o; counts = c })
+
+      by : (c : Bool) → e .counted ≡ c → test-bit (cond c all m) a ≡ true → (test-bit m a ≡ true) ⊎ Leads a e
+      by true c i = own c (or-split (test-bit m a) (not (eqb (e .from) 0) && eqb a (e .from)) (sym (begins a) ∙ i))
+      by false c i = inl i
+
+  given-by : (a : ℕ) → (test-bit m a ≡ true) ⊎ Leads a e → test-bit given a ≡ true
+  given-by a (inl i) = ap (λ (x : ℕ). test-bit x a) chosen ∙ by (e .counted)
+    where
+      by : (c : Bool) → test-bit (cond c all m) a ≡ true
+      by true = begins a ∙ or-left (not (eqb (e .from) 0) && eqb a (e .from)) i
+      by false = i
+  given-by a (inr l) =
+      ap (λ (x : ℕ). test-bit x a) (chosen ∙ cond-true all m (l .counts))
+      ∙ begins a
+      ∙ or-right (test-bit m a) (and-join (ap not (ne-eqb (e .from) 0 (λ z. l .not-source (sym (l .leaves) ∙ z)))) (eq-eqb a (e .from) (sym (l .leaves))))
+
+  handed-only : (a : ℕ) → test-bit h a ≡ true → ((test-bit m a ≡ true) ⊎ Leads a e) × (¬ LateInto e a)
+  handed-only a k =
+      let p = and-split (test-bit given a) (not (late-into a e)) (sym (may a) ∙ k) in
+      (given-only a (p .0), λ l. both-ways (late-into-iff e a .1 l) (not-true (late-into a e) (p .1)))
+
+  handed-by : (a : ℕ) → ¬ LateInto e a → (test-bit m a ≡ true) ⊎ Leads a e → test-bit h a ≡ true
+  handed-by a u k = may a ∙ and-join (given-by a k) (ap not (not-passing (late-into a e) (λ t. u (late-into-iff e a .0 t))))
+
+  -- They come into the row of its end.
+  pub word-handed : (rows rows′ : List ℕ) (marks marks′ to : ℕ) → to ≡ e .to → Joined to h rows rows′ marks marks′ → HandedAll (λ a. UsableFrom (λ y. y ≡ e) a) (e .from) m rows rows′ marks marks′
+  word-handed rows rows′ marks marks′ to ends J =
+      let K : Joined (e .to) h rows rows′ marks marks′ = rw ends at J in
+      record { long = K .long; each = λ a. edge-handed a e (test-bit m a) (test-bit h a) (column rows a) (column rows′ a) (test-bit marks) (test-bit marks′) (handed-only a) (handed-by a) (K .here a) (K .other a) (K .marks) (K .marked a) }
+
+-- Every anchor may use an edge that is not late.
+pub timely-may : (e : Edge) (given a : ℕ) → e .late ≡ false → test-bit given a ≡ (test-bit given a && not (late-into a e))
+unfolding late-into
+timely-may e given a q = sym (ap (λ (t : Bool). test-bit given a && not (t && eqb (e .to) a)) q ∙ and-true (test-bit given a))
+
+-- The union is stored, with a mark where it is not what the row had.
+module _ (rows : List ℕ) (marks marks′ v h new : ℕ) (long : length rows ≡ 64) (low : v < 64) (joins : (a : ℕ) → test-bit new a ≡ (column rows a v || test-bit h a)) (bits : (u : ℕ) → test-bit marks′ u ≡ (test-bit marks u || (not (eqb new (getD rows v 0)) && eqb u v))) where
+  stored : getD (set rows v new) v 0 ≡ new
+  stored = getD-set-same rows v new 0 (omega arith)
+
+  other : (a u : ℕ) → u ≢ v → column (set rows v new) a u ≡ column rows a u
+  other a u o = ap (λ (x : ℕ). test-bit x a) (getD-set-other rows v u new 0 o)
+
+  kept : (a u : ℕ) → test-bit marks′ u ≡ false → (u ≡ v) ⊎ (u ≢ v) → column (set rows v new) a u ≡ column rows a u
+  kept a u q (inr o) = other a u o
+  kept a u q (inl o) =
+      let n = or-neither (test-bit marks u) (not (eqb new (getD rows v 0)) && eqb u v) .0 (sym (bits u) ∙ q) .1 in
+      let same = eqb-true new (getD rows v 0) (not-false (eqb new (getD rows v 0)) (sym (ap (λ (t : Bool). not (eqb new (getD rows v 0)) && t) (eq-eqb u v o) ∙ and-true (not (eqb new (getD rows v 0)))) ∙ n)) in
+      ap (column (set rows v new) a) o ∙ ap (λ (x : ℕ). test-bit x a) (stored ∙ same) ∙ sym (ap (column rows a) o)
+
+  pub joined : Joined v h rows (set rows v new) marks marks′
+  joined =
+      record { long = length-set rows v new ∙ long; here = λ a. ap (λ (x : ℕ). test-bit x a) stored ∙ joins a; other = other; marks = λ u q. bits u ∙ or-left (not (eqb new (getD rows v 0)) && eqb u v) q; marked = λ a u q. kept a u q (same-or-not u v) }
+
+-- One graph and then another make a third, where the edges out of u are in one of them.
+handed-both : {a : ℕ} {E F G : Graph} {u : ℕ} {held : Bool} {r s t f g h : ℕ → Bool} → E ⊑ G → F ⊑ G → ((e : Edge) → G e → e .from ≡ u → E e ⊎ F e) → Handed a E u held r s f g → Handed a F u held s t g h → Handed a G u held r t f h
+handed-both {a} {E} {F} {G} {u} {held} {t = t} {g = g} i j split H K =
+    record { up = λ v q. K .up v (H .up v q); hands = λ e m o k. by e o k (split e m o); sound = λ x st holds below. K .sound x (λ e m. st e (j e m)) holds (H .sound x (λ e m. st e (i e m)) holds below); marks = λ v q. K .marks v (H .marks v q); marked = λ v q. K .marked v q ∙ H .marked v (not-passing (g v) (λ k. both-ways (K .marks v k) q)) }
+  where
+    by : (e : Edge) → e .from ≡ u → (held ≡ true) ⊎ Leads a e → E e ⊎ F e → t (e .to) ≡ true
+    by e o k (inl m) = K .up (e .to) (H .hands e m o k)
+    by e o k (inr m) = K .hands e m o k
+
+handed-all : {E F G : ℕ → Graph} {u u′ m : ℕ} {rows rows′ rows″ : List ℕ} {k k′ k″ : ℕ} → u′ ≡ u → ((a : ℕ) → E a ⊑ G a) → ((a : ℕ) → F a ⊑ G a) → ((a : ℕ) (e : Edge) → G a e → e .from ≡ u → E a e ⊎ F a e) → HandedAll E u m rows rows′ k k′ → HandedAll F u′ m rows′ rows″ k′ k″ → HandedAll G u m rows rows″ k k″
+handed-all {F = F} {u = u} {m = m} {rows′ = rows′} {rows″ = rows″} {k′ = k′} {k″ = k″} same i j split H K =
+    record { long = K .long; each = λ a. let K′ : Handed a (F a) u (test-bit m a) (column rows′ a) (column rows″ a) (test-bit k′) (test-bit k″) = rw same at (K .each a) in handed-both (i a) (j a) (split a) (H .each a) K′ }
+
+-- The same edges under another name.
+handed-as : {E G : ℕ → Graph} {u m : ℕ} {rows rows′ : List ℕ} {k k′ : ℕ} → ((a : ℕ) → E a ⊑ G a) → ((a : ℕ) → G a ⊑ E a) → HandedAll E u m rows rows′ k k′ → HandedAll G u m rows rows′ k k′
+handed-as i j H =
+    record { long = H .long; each = λ a. let h = H .each a in record { up = h .up; hands = λ e m o k. h .hands e (j a e m) o k; sound = λ t st holds below. h .sound t (λ e m. st e (i a e m)) holds below; marks = h .marks; marked = h .marked } }
+
+-- What an anchor may use of one of two graphs.
+usable-split : (E F : Graph) {a : ℕ} {e : Edge} → ¬ LateInto e a → E e ⊎ F e → UsableFrom E a e ⊎ UsableFrom F a e
+usable-split E F timely (inl m) = inl (m, timely)
+usable-split E F timely (inr m) = inr (m, timely)
+
+-- The loop over the list of a step: k is one more than the index of the edge that comes next, and those behind it have handed on.
+pub record Listing (es : List ℕ) (u m : ℕ) (rows₀ rows : List ℕ) (marks₀ marks k : ℕ) : Type 0 where
+  pub few : k ≤ length es
+  pub leaves : (i : ℕ) → k ≡ suc i → unpack (getD es i 0) .from ≡ u
+  pub handed : HandedAll (λ a. UsableFrom (Behind es k) a) u m rows₀ rows marks₀ marks
+
+module _ (es : List ℕ) (u m : ℕ) (rows₀ : List ℕ) (marks₀ : ℕ) where
+  pub listing-start : (k : ℕ) → length rows₀ ≡ 64 → k ≡ last-from es u (length es) → Listing es u m rows₀ rows₀ marks₀ marks₀ k
+  listing-start k long h =
+      record { few = omega (arith, last-below es u (length es)); leaves = λ i e. last-leaves es u (length es) i (sym h ∙ e) .0; handed = record { long = long; each = λ a. record { up = λ v q. q; hands = λ e b o q. absurd (away e (b .0) o); sound = λ t st holds below. below; marks = λ v q. q; marked = λ v q. refl } } }
+    where
+      away : (e : Edge) → Behind es k e → e .from ≢ u
+      away e b o = last-skips es u (length es) (b .place) (omega (arith, b .behind)) (b .inside) (ap (λ (x : Edge). x .from) (sym (b .same)) ∙ o)
+
+  module _ (rows : List ℕ) (marks k : ℕ) (some : 1 ≤ k) (L : Listing es u m rows₀ rows marks₀ marks k) where
+    own : unpack (getD es (k - 1) 0) .from ≡ u
+    own = L .leaves (k - 1) (omega arith)
+
+    pub listing-begun : (all : ℕ) → Begun u m all → Begun (unpack (getD es (k - 1) 0) .from) m all
+    listing-begun all b = rw own b
+
+    -- What follows an edge in its list.
+    pub listing-next : (lists : List ℕ) (x : ℕ) → Lists es lists → x ≡ getD lists (63 + k) 0 → x ≡ last-from es u (k - 1)
+    listing-next lists x A h =
+        let i : 63 + k ≡ 64 + (k - 1) = omega arith in
+        h
+        ∙ ap (λ (j : ℕ). getD lists j 0) i
+        ∙ A .nexts (k - 1) (omega (arith, L .few))
+        ∙ ap (λ (v : ℕ). last-from es v (k - 1)) own
+
+    module _ (rows′ : List ℕ) (marks′ k′ : ℕ) (H : HandedAll (λ a. UsableFrom (λ e. e ≡ unpack (getD es (k - 1) 0)) a) (unpack (getD es (k - 1) 0) .from) m rows rows′ marks marks′) (next : k′ ≡ last-from es u (k - 1)) where
+      below : k′ ≤ k - 1
+      below = omega (arith, last-below es u (k - 1))
+
+      pub listing-turn : Listing es u m rows₀ rows′ marks₀ marks′ k′
+      listing-turn =
+          record { few = omega (arith, below, L .few); leaves = λ i e. last-leaves es u (k - 1) i (sym next ∙ e) .0; handed = handed-all own (λ a e b. (record { place = b .0 .place; behind = omega (arith, below, b .0 .behind); inside = b .0 .inside; same = b .0 .same }, b .1)) (λ a e o. (record { place = k - 1; behind = below; inside = omega (arith, L .few); same = o .0 }, o .1)) (λ a e b o. usable-split (Behind es k) (λ x. x ≡ unpack (getD es (k - 1) 0)) (b .1) (behind-split es u k k′ next e o (b .0))) (L .handed) H }
+
+      pub listing-less : k′ < k
+      listing-less = omega (arith, below)
+
+  pub listing-end : (rows : List ℕ) (marks k : ℕ) → k ≡ 0 → Listing es u m rows₀ rows marks₀ marks k → HandedAll (λ a. UsableFrom (members (graph es)) a) u m rows₀ rows marks₀ marks
+  listing-end rows marks k z L = handed-as (λ a e b. (behind-mem es k e (b .0), b .1)) (λ a e b. (mem-behind es k z e (b .0), b .1)) (L .handed)

@@ -1,0 +1,55 @@
+-- `reach::sweep_down` meets its contract.
+use borrow.Author.Needs.{needs}
+use native.Mathlib.Omega.{arith}
+use mathlib.Core.Logic.{inl}
+use Prim.Native.Nat.{_≤_, _<_}
+use Rattle.adjacency.proofs.Following.{down-split}
+use Rattle.reach.specs.Pushes.{SweptAll}
+use Rattle.reach.proofs.Passing.{swept-none, swept-then}
+use Rattle.reach.proofs.Searching.{Own}
+use Rattle.reach.proofs.sweep_down.Statement.{statement}
+use Rattle.reach.proofs.sweep_down.Tie as tie
+
+abbrev Inv-loop : tie.InvT-loop
+Inv-loop rows₀ marks es lists n left₀ k₀ rows left k = (k ≤ n) × SweptAll (Own es) (λ v. (k ≤ v) × (v < n)) rows₀ rows marks left
+
+abbrev μ-loop : tie.MeasureT-loop
+μ-loop rows₀ marks es lists n left₀ k₀ rows left k = k
+
+loop-holds : tie.Need-loop-holds Inv-loop μ-loop
+loop-holds c = (omega arith, swept-none (c .before .before .pre .3) (λ v x. omega (arith, x .0, x .1)))
+
+sub-k : tie.Need-sub-k Inv-loop μ-loop
+sub-k c = search needs
+
+visit-requires : tie.Need-visit-requires Inv-loop μ-loop
+visit-requires c κs =
+    let p = c .before .before .before .before .before .pre in
+    let h = c .before .before .loop .inv in
+    (omega (arith, h .0, p .0), p .1, p .2, h .1 .long)
+
+loop-less : tie.Need-loop-less Inv-loop μ-loop
+loop-less c = search needs
+
+loop-again : tie.Need-loop-again Inv-loop μ-loop
+loop-again c =
+    let s = c .before .before .before in
+    (omega (arith, s .loop .inv .0), swept-then (down-split _ _) (s .loop .inv .1) (c .visit .ensures))
+
+returns : tie.Need-returns Inv-loop μ-loop
+returns c =
+    let h = c .before .loop .inv .1 in
+    swept-then (λ v x. inl (omega arith, x)) h (swept-none (h .long) (λ v x. x))
+
+pub sweep-down-spec : {M : Type 1} → statement M
+sweep-down-spec =
+    tie.close
+    (tie.spec
+    Inv-loop
+    μ-loop
+    loop-holds
+    sub-k
+    visit-requires
+    loop-less
+    loop-again
+    returns)

@@ -1,0 +1,496 @@
+#include "check.hpp"
+
+#include "../second/runner.h"
+#include "../second/second.h"
+
+#include <cinttypes>
+#include <csetjmp>
+#include <csignal>
+#include <unistd.h>
+
+#include <algorithm>
+
+namespace {
+
+sigjmp_buf landing;
+volatile std::sig_atomic_t in_call = 0;
+char current_case[96] = "";
+const Bytes *current_sheet = nullptr;
+constexpr unsigned patience = 60; // seconds, for 64 cases
+
+void say(const char *text) {
+    if (write(1, text, std::strlen(text)) < 0) _exit(2);
+}
+
+// For a signal's handler: no more than write is called.
+void say_and_end(const char *what) {
+    say("FAILED: ");
+    say(what);
+    say("\n  sheet ");
+    if (current_sheet) {
+        static const char digits[] = "0123456789abcdef";
+        for (uint8_t byte : *current_sheet) {
+            const char two[] = {digits[byte >> 4], digits[byte & 15], 0};
+            say(two);
+        }
+    }
+    say("\nrepeat: ");
+    say(current_case);
+    say("\n");
+    _exit(1);
+}
+
+// The sheet that a signal's handler names.
+struct Current {
+    explicit Current(const Bytes &sheet) { current_sheet = &sheet; }
+    ~Current() { current_sheet = nullptr; }
+};
+
+void on_signal(int signal, siginfo_t *, void *) {
+    if (signal == SIGALRM) say_and_end("no answer in time");
+    if (!in_call) say_and_end("fault outside the library");
+    siglongjmp(landing, signal);
+}
+
+// Calls the library; a fault is a failure.
+template <class Call_of> uint32_t guarded(Call_of call) {
+    if (int signal = sigsetjmp(landing, 0)) {
+        in_call = 0;
+        throw Failure{std::string("signal ") + std::to_string(signal) + " (" + strsignal(signal) + ")"};
+    }
+    in_call = 1;
+    uint32_t verdict = call();
+    in_call = 0;
+    return verdict;
+}
+
+std::string hex(const uint8_t *bytes, size_t count) {
+    static const char digits[] = "0123456789abcdef";
+    std::string text;
+    for (size_t k = 0; k < count; k++) {
+        text += digits[bytes[k] >> 4];
+        text += digits[bytes[k] & 15];
+    }
+    return text.empty() ? "(none)" : text;
+}
+
+template <class Number> std::string list_of(const Number *numbers, size_t count) {
+    std::string text;
+    for (size_t k = 0; k < count; k++) text += (k ? " " : "") + std::to_string(numbers[k]);
+    return text.empty() ? "(none)" : text;
+}
+
+const char *name(Guard guard) { return guard == Guard::end ? "past the end" : "before the start"; }
+
+void need(bool holds, const char *what) {
+    if (!holds) throw Failure{what};
+}
+
+// What is lent is never at no address, also where there is nothing.
+template <class Element> Element *address(std::vector<Element> &elements) {
+    static Element nothing;
+    return elements.empty() ? &nothing : elements.data();
+}
+template <class Element> const Element *address(const std::vector<Element> &elements) { return address(const_cast<std::vector<Element> &>(elements)); }
+
+uint32_t *numbers_at(Lent &lent) { return reinterpret_cast<uint32_t *>(lent.lent()); }
+uint64_t *words_at(Lent &lent) { return reinterpret_cast<uint64_t *>(lent.lent()); }
+
+template <class Element> void lend(Lent &lent, const std::vector<Element> &elements) { lent.lend(elements.data(), elements.size() * sizeof(Element)); }
+
+// What was lent has to hold the numbers expected, and all around it nothing has changed.
+template <class Number> void need_lent(Lent &lent, const Number *expected, const char *what) {
+    if (!lent.rest_is_kept()) throw Failure{std::string("wrote outside the ") + what};
+    if (lent.holds(expected)) return;
+    const Number *numbers = reinterpret_cast<const Number *>(lent.lent());
+    size_t k = 0;
+    while (numbers[k] == expected[k]) k++;
+    throw Failure{"other numbers in the " + std::string(what) + ": " + std::to_string(numbers[k]) + " at " + std::to_string(k) + ", expected " + std::to_string(expected[k])};
+}
+
+void need_verdict(uint32_t got, uint32_t expected) {
+    if (got != expected) throw Failure{"verdict " + std::to_string(got) + ", expected " + std::to_string(expected)};
+}
+
+// The rule of the interface: a refusal changes nothing, an answer nothing past its end.
+void need_rule(uint32_t verdict, const Numbers &before, const Numbers &afterwards, size_t answer) {
+    size_t from = verdict < 256 ? answer : 0;
+    need(std::equal(before.begin() + long(std::min(from, before.size())), before.end(), afterwards.begin() + long(std::min(from, before.size()))), "the second planner wrote outside its answer");
+}
+
+} // namespace
+
+void catch_faults() {
+    static uint8_t stack[1 << 16];
+    stack_t other{};
+    other.ss_sp = stack;
+    other.ss_size = sizeof stack;
+    sigaltstack(&other, nullptr);
+    struct sigaction action {};
+    action.sa_sigaction = on_signal;
+    action.sa_flags = SA_SIGINFO | SA_ONSTACK | SA_NODEFER;
+    for (int signal : {SIGSEGV, SIGBUS, SIGILL, SIGFPE, SIGTRAP, SIGABRT, SIGALRM}) sigaction(signal, &action, nullptr);
+}
+
+void case_begins(uint64_t seed, const char *kind, uint64_t number) {
+    std::snprintf(current_case, sizeof current_case, "tests/fuzz --seed %" PRIu64 " --case %s:%" PRIu64, seed, kind, number);
+    static unsigned begun = 0;
+    if (begun++ % 64 == 0) alarm(patience);
+}
+
+void Examiner::sheet(const Bytes &bytes, Random &random) {
+    const Current current(bytes);
+    const uint8_t *const at = address(bytes);
+    const size_t length = bytes.size();
+    const size_t n = length > 0 && bytes[0] >= 1 && bytes[0] <= 64 ? bytes[0] : random.below(65);
+    for (Side &side : sides) lend(side.sheet, bytes);
+
+    // One call on both sides; `tell` says what it was lent.
+    auto each_side = [&](Call call, const char *name_of_call, uint32_t expected, auto ours, auto look, auto tell) {
+        met.verdicts[call][expected & 511]++;
+        for (Side &side : sides) {
+            try {
+                need_verdict(guarded([&] { return ours(side); }), expected);
+                look(side);
+                need_lent(side.sheet, at, "sheet");
+            } catch (Failure &failure) {
+                throw Failure{std::string(name_of_call) + ": " + failure.what + "\n  guard page " + name(side.guard) + "\n  sheet " + hex(at, length) + "\n  " + tell()};
+            }
+        }
+    };
+    auto nothing = [](Side &) {};
+
+    uint32_t allowed = 0;
+    for (bool allow : {false, true}) {
+        allowed = second_judge(at, length, allow);
+        each_side(
+            judge, "judge", allowed, [&](Side &side) { return calls.judge(side.sheet.lent(), length, allow); }, nothing, [&] { return std::string("waits ") + (allow ? "allowed" : "not allowed"); });
+    }
+    if (allowed < 256 && n == 64 && bytes[1] == 0 && bytes[2] == 2) met.largest++;
+
+    {
+        std::array<uint64_t, 64> maps, maps_before;
+        for (uint64_t &map : maps_before) map = random.next();
+        uint32_t count_before = uint32_t(random.next()), count = count_before;
+        maps = maps_before;
+        uint32_t expected = second_waits(at, length, maps.data(), &count);
+        uint64_t sum = 0;
+        for (uint64_t map : maps) sum += uint64_t(__builtin_popcountll(map));
+        need(count == sum && (expected == 1) == (sum > 0), "the second planner's waits and their count differ");
+        each_side(
+            waits, "waits", expected,
+            [&](Side &side) {
+                side.maps.lend(maps_before.data(), sizeof maps_before);
+                side.count.lend(&count_before, sizeof count_before);
+                return calls.waits(side.sheet.lent(), length, words_at(side.maps), numbers_at(side.count));
+            },
+            [&](Side &side) {
+                need_lent(side.maps, maps.data(), "maps");
+                need_lent(side.count, &count, "count");
+            },
+            [&] { return "expected maps " + list_of(maps.data(), 64); });
+    }
+
+    {
+        bool allow = random.chance(80);
+        Numbers before = draw_numbers(random, draw_length(random, n * n, longest_table)), table = before;
+        uint32_t expected = second_plan(at, length, allow, address(table), table.size());
+        need_rule(expected, before, table, n * n);
+        if (expected < 256)
+            for (size_t k = 0; k < n * n; k++)
+                if (table[k] != STANDPLAN_UNDECIDED) met.heaviest = std::max(met.heaviest, table[k]);
+        each_side(
+            plan, "plan", expected,
+            [&](Side &side) {
+                lend(side.table, before);
+                return calls.plan(side.sheet.lent(), length, allow, numbers_at(side.table), before.size());
+            },
+            [&](Side &side) { need_lent(side.table, table.data(), "table"); }, [&] { return std::string("waits ") + (allow ? "allowed" : "not allowed") + ", a table of " + std::to_string(before.size()) + "\n  expected " + list_of(table.data(), table.size()); });
+    }
+
+    for (uint32_t times = allowed < 256 ? random.from(1, 3) : 1; times > 0; times--) {
+        bool allow = random.chance(80);
+        Numbers list = draw_list(random, bytes), before = draw_numbers(random, draw_length(random, n, longest_list)), out = before;
+        uint32_t expected = second_starts(at, length, allow, address(list), list.size(), address(out), out.size());
+        need_rule(expected, before, out, n);
+        each_side(
+            starts, "starts", expected,
+            [&](Side &side) {
+                lend(side.list, list);
+                lend(side.out, before);
+                return calls.starts(side.sheet.lent(), length, allow, numbers_at(side.list), list.size(), numbers_at(side.out), before.size());
+            },
+            [&](Side &side) {
+                need_lent(side.out, out.data(), "out");
+                need_lent(side.list, list.data(), "list");
+            },
+            [&] { return std::string("waits ") + (allow ? "allowed" : "not allowed") + ", list " + list_of(list.data(), list.size()) + ", out of " + std::to_string(before.size()) + "\n  expected " + list_of(out.data(), out.size()); });
+    }
+}
+
+// A run as the second runner has it, and on each side as the library has it.
+class Examiner::Run {
+    Examiner &examiner;
+    Random &random;
+    Numbers table;
+    size_t table_len = 0;
+
+    void look_at_tables() {
+        for (Side &side : examiner.sides) need_lent(side.table, table.data(), "table");
+    }
+
+    void look_at_state(Side &side) {
+        need_lent(side.words, state.words, "words");
+        need_lent(side.tick, &state.tick, "tick");
+        need_lent(side.start, state.start, "start ticks");
+        need_lent(side.finish, state.finish, "finish ticks");
+    }
+
+    std::string tell(const standplan_run &before) const {
+        return "words " + list_of(before.words, 4) + "\n  tick " + std::to_string(before.tick) + "\n  start " + list_of(before.start, 64) + "\n  finish " + list_of(before.finish, 64) + "\n  table of " + std::to_string(table_len) + ": " +
+               list_of(table.data(), table_len);
+    }
+
+    template <class Second, class Ours> uint32_t call(Call which, const std::string &name_of_call, Second second, Ours ours) {
+        const standplan_run before = state;
+        const uint64_t map_before = random.next();
+        map = map_before;
+        uint32_t expected = second();
+        need(expected < 256 || (map == 0 && std::memcmp(&before, &state, sizeof state) == 0), "the second runner changed the state on a refusal");
+        examiner.met.verdicts[which][expected & 511]++;
+        made++;
+        for (Side &side : examiner.sides) {
+            try {
+                side.map.lend(&map_before, sizeof map_before);
+                need_verdict(guarded([&] { return ours(side, words_at(side.words), numbers_at(side.tick), numbers_at(side.start), numbers_at(side.finish), words_at(side.map)); }), expected);
+                need_lent(side.map, &map, "map");
+                look_at_state(side);
+            } catch (Failure &failure) {
+                throw Failure{name_of_call + ": " + failure.what + "\n  guard page " + name(side.guard) + "\n  call " + std::to_string(made) + " of the run; before it:\n  " + tell(before) + "\n  expected map " + std::to_string(map)};
+            }
+        }
+        return expected;
+    }
+
+public:
+    standplan_run state{};
+    uint64_t map = 0; // of the steps that the last call started
+    uint64_t made = 0; // calls
+
+    Run(Examiner &examiner, Random &random, const Numbers &table) : examiner(examiner), random(random) {
+        lend_state();
+        lend_table(table, table.size());
+    }
+
+    void lend_state() {
+        for (Side &side : examiner.sides) {
+            side.words.lend(state.words, sizeof state.words);
+            side.tick.lend(&state.tick, sizeof state.tick);
+            side.start.lend(state.start, sizeof state.start);
+            side.finish.lend(state.finish, sizeof state.finish);
+        }
+    }
+
+    // From now on the first `length` numbers of the table are lent.
+    void lend_table(const Numbers &numbers, size_t length) {
+        table = numbers;
+        table_len = length;
+        for (Side &side : examiner.sides) side.table.lend(table.data(), length * sizeof(uint32_t));
+    }
+
+    uint32_t begin(size_t n, uint64_t open) {
+        return call(
+            ::begin, "begin " + std::to_string(n) + " " + std::to_string(open), [&] { return second_begin(state.words, &state.tick, state.start, state.finish, &map, n, open, address(table), table_len); },
+            [&](Side &side, auto... lent) { return examiner.calls.begin(lent..., n, open, numbers_at(side.table), table_len); });
+    }
+    uint32_t tick() {
+        return call(
+            ::tick, "tick", [&] { return second_tick(state.words, &state.tick, state.start, state.finish, &map, address(table), table_len); },
+            [&](Side &side, auto... lent) { return examiner.calls.tick(lent..., numbers_at(side.table), table_len); });
+    }
+    uint32_t finish(size_t s) {
+        return call(
+            ::finish, "finish " + std::to_string(s), [&] { return second_finish(state.words, &state.tick, state.start, state.finish, &map, s, address(table), table_len); },
+            [&](Side &side, auto... lent) { return examiner.calls.finish(lent..., s, numbers_at(side.table), table_len); });
+    }
+
+    void end() {
+        look_at_tables();
+        examiner.met.fullest = std::max(examiner.met.fullest, made);
+    }
+};
+
+void Examiner::run(Random &random) {
+    if (random.chance(60)) proper_run(random);
+    else any_run(random);
+}
+
+namespace {
+
+bool has(uint64_t map, size_t step) { return map >> step & 1; }
+
+size_t any_step(Random &random) {
+    size_t step = random.below(70);
+    if (random.chance(3)) step = size_t(random.next());
+    if (random.chance(2)) step |= size_t(1) << 32;
+    return step;
+}
+
+// An accepted sheet, and its plan as the library gives it.
+Bytes accepted_sheet(Random &random, bool short_run, decltype(&standplan_plan) plan_of, Numbers &plan) {
+    for (;;) {
+        Bytes sheet = draw_good_sheet(random, short_run);
+        if (second_judge(sheet.data(), sheet.size(), true) >= 256) continue;
+        plan.assign(size_t(sheet[0]) * sheet[0], 0);
+        if (plan_of(sheet.data(), sheet.size(), true, plan.data(), plan.size()) < 256) return sheet;
+        throw Failure{"plan: a sheet refused that the second planner accepts\n  sheet " + hex(sheet.data(), sheet.size())};
+    }
+}
+
+standplan_run any_state(Random &random, size_t n) {
+    standplan_run state{};
+    uint32_t kind = random.below(8);
+    if (kind == 0) return state;
+    bool wild = kind == 1;
+    uint32_t scale = random.chance(70) ? 12 : 4294967295u;
+    uint32_t base = random.chance(80) ? 0 : 4294967295u - scale;
+    auto number = [&] { return base + random.below(scale); };
+    state.words[0] = wild ? random.next() : random.chance(85) ? n : random.chance(50) ? random.below(130) : uint64_t(n) | uint64_t(1) << random.from(6, 63);
+    state.words[1] = random.next() | random.next();
+    state.words[2] = random.next() & (random.chance(50) ? random.next() : ~uint64_t(0));
+    state.words[3] = random.next() | (random.chance(50) ? random.next() : 0);
+    if (!wild && random.chance(90)) state.words[2] |= 1;
+    state.tick = random.chance(10) ? 4294967295u - random.below(3) : random.chance(70) ? number() : uint32_t(random.next());
+    for (uint32_t &tick : state.start) tick = wild ? uint32_t(random.next()) : number();
+    for (uint32_t &tick : state.finish) tick = wild ? uint32_t(random.next()) : number();
+    return state;
+}
+
+} // namespace
+
+// A run of an accepted sheet's plan. Steps finish when it pleases; some calls between are wrong. In the end every step has started exactly if
+// its start for the durations that happened has come, and at that tick.
+void Examiner::proper_run(Random &random) {
+    constexpr uint32_t longest = 16777215;
+    const bool short_run = random.chance(70);
+    Numbers plan;
+    const Bytes sheet = accepted_sheet(random, short_run, calls.plan, plan);
+    const Current current(sheet);
+    const size_t n = sheet[0];
+    const uint64_t open = open_steps(sheet) & ~uint64_t(1);
+    const uint64_t all = ~uint64_t(0) >> (64 - n);
+    if (random.chance(20)) {
+        Numbers more = draw_numbers(random, random.below(64));
+        plan.insert(plan.end(), more.begin(), more.end());
+    }
+    Run run(*this, random, plan);
+    const standplan_run &state = run.state;
+
+    // The starts for the durations that happened; an open step that has not finished lasts `more` longer, or `more` in all.
+    auto starts_now = [&](auto more, Numbers &starts) {
+        Numbers list(n, 0);
+        starts.assign(n, 0);
+        for (size_t a = 1; a < n; a++) {
+            if (!has(open, a)) continue;
+            uint64_t lasted = has(state.words[3], a) ? state.finish[a] - state.start[a] : has(state.words[2], a) ? uint64_t(state.tick - state.start[a]) + more() : more();
+            list[a] = uint32_t(std::min<uint64_t>(lasted, longest));
+        }
+        return second_starts(sheet.data(), sheet.size(), true, list.data(), n, starts.data(), n) < 256;
+    };
+
+    try {
+        run.begin(n, (open | (random.chance(50) ? 1 : 0)) | (n < 64 && random.chance(20) ? random.next() << n : 0));
+        const uint32_t finishes = random.from(5, 60);
+        for (uint32_t turns = random.from(10, 250); turns > 0 && state.tick < longest / 2; turns--) {
+            const uint64_t busy = open & state.words[2] & ~state.words[3];
+            if ((state.words[2] & all) == all && busy == 0) break;
+            if (random.chance(4)) { // a call out of place
+                switch (random.below(3)) {
+                case 0: run.begin(random.chance(50) ? n : any_step(random), random.next()); break;
+                case 1: run.finish(any_step(random)); break;
+                default:
+                    run.end();
+                    run.lend_table(plan, random.below(uint32_t(n * n)));
+                    if (random.chance(50)) run.tick();
+                    else run.finish(any_step(random));
+                    run.end();
+                    run.lend_table(plan, plan.size());
+                }
+            } else if (busy && random.chance(finishes)) {
+                size_t s = random.below(64);
+                while (!has(busy, s)) s = (s + 1) % 64;
+                run.finish(s);
+            } else if (!short_run && random.chance(30)) { // nothing starts before the next planned tick: the clock is set to just before it
+                Numbers planned;
+                if (!starts_now([] { return longest; }, planned)) break;
+                uint32_t next = longest;
+                for (size_t v = 0; v < n; v++)
+                    if (!has(state.words[2], v)) next = std::min(next, planned[v]);
+                if (next < longest && next - 1 > state.tick) {
+                    run.state.tick = next - 1;
+                    run.lend_state();
+                }
+                run.tick();
+            } else {
+                run.tick();
+            }
+        }
+        run.end();
+        met.proper_runs++;
+        if ((state.words[2] & all) == all && (open & ~state.words[3]) == 0) met.ended_runs++;
+
+        Numbers planned;
+        need(starts_now([&] { return 1 + random.below(9); }, planned), "the second planner refused a list of what happened");
+        for (size_t v = 0; v < n; v++) {
+            bool started = has(state.words[2], v);
+            if (started != (planned[v] <= state.tick) || (started && state.start[v] != planned[v]))
+                throw Failure{"step " + std::to_string(v) + (started ? " started at " + std::to_string(state.start[v]) : " has not started") + " by tick " + std::to_string(state.tick) + ", its start is " + std::to_string(planned[v]) +
+                              "\n  start " + list_of(state.start, n) + "\n  finish " + list_of(state.finish, n)};
+            met.started += started;
+        }
+    } catch (Failure &failure) {
+        throw Failure{failure.what + "\n  sheet " + hex(sheet.data(), sheet.size())};
+    }
+}
+
+// Calls on states and tables from anywhere: no run, what a run has left, words that no run leaves.
+void Examiner::any_run(Random &random) {
+    size_t n = random.chance(80) ? random.from(1, 12) : random.from(1, 64);
+    Numbers table;
+    if (random.chance(30)) n = accepted_sheet(random, true, calls.plan, table)[0];
+    else table = draw_table(random, n);
+    Numbers more = draw_numbers(random, random.below(64));
+    table.insert(table.end(), more.begin(), more.end());
+
+    auto length = [&] { return random.chance(85) ? random.from(uint32_t(n * n), uint32_t(table.size())) : draw_length(random, n * n, table.size()); };
+    Run run(*this, random, table);
+    run.lend_table(table, length());
+    if (random.chance(70)) {
+        run.state = any_state(random, n);
+        run.lend_state();
+    }
+    for (uint32_t turns = random.from(1, 40); turns > 0; turns--) {
+        uint32_t kind = random.below(100);
+        if (kind < 12) run.begin(random.chance(70) ? n : any_step(random), random.next() | random.next());
+        else if (kind < 52) run.tick();
+        else if (kind < 90) run.finish(random.chance(80) ? random.below(uint32_t(n) + 1) : any_step(random));
+        else if (kind < 94) {
+            run.end();
+            if (random.chance(30)) { // the state stays, the table is another
+                table = draw_table(random, n);
+                table.insert(table.end(), more.begin(), more.end());
+            }
+            run.lend_table(table, length());
+        } else {
+            switch (random.below(5)) {
+            case 0: run.state = any_state(random, n); break;
+            case 1: run.state = {}; break;
+            case 2: run.state.tick = 4294967295u - random.below(3); break;
+            case 3: run.state.words[random.below(4)] ^= uint64_t(1) << random.below(64); break;
+            default: run.state.words[random.below(4)] = random.chance(50) ? random.below(70) : random.next();
+            }
+            run.lend_state();
+        }
+    }
+    run.end();
+}

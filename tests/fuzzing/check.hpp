@@ -1,0 +1,69 @@
+// Tries calls of the library on lent memory, beside the second planner and the second runner.
+#pragma once
+
+#include "draw.hpp"
+#include "lent.hpp"
+
+#include "../../include/standplan.h"
+
+#include <array>
+#include <string>
+
+// The calls that are tried: the library's own, or some of them with a planted fault.
+struct Calls {
+    decltype(&standplan_judge) judge = standplan_judge;
+    decltype(&standplan_waits) waits = standplan_waits;
+    decltype(&standplan_plan) plan = standplan_plan;
+    decltype(&standplan_starts) starts = standplan_starts;
+    decltype(&standplan_begin) begin = standplan_begin;
+    decltype(&standplan_tick) tick = standplan_tick;
+    decltype(&standplan_finish) finish = standplan_finish;
+};
+
+// What is thrown where a call did what it may not do.
+struct Failure {
+    std::string what;
+};
+
+enum Call { judge, waits, plan, starts, begin, tick, finish, call_count };
+
+// What was met.
+struct Met {
+    std::array<std::array<uint64_t, 512>, call_count> verdicts{};
+    uint64_t largest = 0;      // accepted sheets with N = 64 and R = 512
+    uint32_t heaviest = 0;     // the largest offset of a plan
+    uint64_t proper_runs = 0;  // runs of an accepted sheet's plan
+    uint64_t ended_runs = 0;   // those in which every step started and every open one finished
+    uint64_t started = 0;      // steps whose start was compared with the second planner's
+    uint64_t fullest = 0;      // most calls in one run
+};
+
+// From now on a call that faults is a failure, and one that does not answer ends the program with the case that has begun.
+void catch_faults();
+void case_begins(uint64_t seed, const char *kind, uint64_t number);
+
+class Examiner {
+    struct Side {
+        Guard guard;
+        Lent sheet{guard, 2}, table{guard, 5}, list{guard, 1}, out{guard, 1}, maps{guard, 1}, count{guard, 1};
+        Lent words{guard, 1}, tick{guard, 1}, start{guard, 1}, finish{guard, 1}, map{guard, 1};
+    };
+    class Run;
+
+    const Calls calls;
+    std::array<Side, 2> sides{{{Guard::end}, {Guard::start}}};
+
+    void proper_run(Random &random);
+    void any_run(Random &random);
+
+public:
+    Met met;
+
+    explicit Examiner(const Calls &calls = {}) : calls(calls) {}
+
+    // Judges, lists the waits of, plans and works out starts of one input, on both sides of a guard page.
+    void sheet(const Bytes &bytes, Random &random);
+
+    // One run: of an accepted sheet's plan, or of states and tables from anywhere.
+    void run(Random &random);
+};

@@ -1,0 +1,362 @@
+#include "draw.hpp"
+
+#include <algorithm>
+#include <array>
+#include <iterator>
+#include <map>
+#include <tuple>
+#include <utility>
+
+namespace {
+
+enum : uint8_t { after = 1, at_least = 2, at_most = 4, from_finish = 16 };
+
+struct Step {
+    bool open = false;
+    bool field = false; // whether a duration is written; else it is 0
+    uint16_t duration = 0;
+};
+
+struct Link {
+    uint8_t map = 0;
+    uint16_t least = 0, most = 0, finish = 0;
+};
+
+struct Sheet {
+    std::vector<Step> steps;
+    std::map<std::pair<uint8_t, uint8_t>, Link> links;
+
+    Bytes bytes() const {
+        Bytes out{uint8_t(steps.size()), uint8_t(links.size()), uint8_t(links.size() >> 8)};
+        auto two = [&](uint16_t number) {
+            out.push_back(uint8_t(number));
+            out.push_back(uint8_t(number >> 8));
+        };
+        for (const Step &step : steps) {
+            out.push_back(step.open ? 1 : step.field ? 2 : 0);
+            if (!step.open && step.field) two(step.duration);
+        }
+        for (const auto &[pair, link] : links) {
+            out.insert(out.end(), {link.map, pair.first, pair.second});
+            if (link.map & at_least) two(link.least);
+            if (link.map & at_most) two(link.most);
+            if (link.map & from_finish) two(link.finish);
+        }
+        return out;
+    }
+};
+
+constexpr size_t most_links = 512;
+
+// What kind of sheet is aimed at; what comes out is for the planners to say.
+struct Aim {
+    uint32_t steps;
+    uint32_t forward;    // forward links beside the one that each step hangs on
+    uint32_t limits;     // at-most links
+    uint32_t heaviest;   // durations and at-leasts
+    uint32_t open;       // how many of a hundred steps are open
+    uint32_t contained;  // of a hundred limits, those on pairs where the start set of j is in that of i
+    uint32_t waiting;    // of a hundred of the others, those on pairs where a wait of i for the rest of that set closes no circle
+    uint32_t too_tight;  // of a hundred limits, those that the drawn start times break
+    uint32_t finish;     // of a hundred limits, those from the finish
+    uint32_t circle;     // of a hundred sheets, those with a forward link against the order
+    uint32_t orphan;     // of a hundred sheets, those with a step that hangs on nothing
+    bool extremes;       // each duration and at-least is the heaviest
+    bool chain;          // each step hangs on the one before it
+};
+
+uint32_t any_of(Random &random, std::initializer_list<uint32_t> numbers) { return numbers.begin()[random.below(uint32_t(numbers.size()))]; }
+
+uint32_t draw_steps(Random &random) {
+    uint32_t kind = random.below(100);
+    if (kind < 18) return random.from(1, 5);
+    if (kind < 55) return random.from(4, 12);
+    if (kind < 80) return random.from(10, 32);
+    if (kind < 93) return random.from(30, 63);
+    return 64;
+}
+
+Aim draw_aim(Random &random) {
+    Aim aim;
+    aim.steps = draw_steps(random);
+    uint32_t n = aim.steps;
+    aim.forward = random.chance(80) ? random.below(n + 1) : random.below(std::min<uint32_t>(n * n / 2, most_links) + 1);
+    aim.limits = random.chance(70) ? random.from(1, n / 3 + 2) : random.chance(70) ? random.below(n + 1) : random.below(std::min<uint32_t>(n * n / 2, most_links) + 1);
+    if (n == 64 && random.chance(50)) aim.forward = aim.limits = most_links; // as many as there is room for
+    aim.heaviest = any_of(random, {0, 2, 3, 9, 9, 100, 1000, 65535});
+    aim.open = any_of(random, {0, 15, 15, 35, 35, 60, 100});
+    aim.contained = any_of(random, {100, 100, 60, 0, 0, 0});
+    aim.waiting = any_of(random, {100, 100, 95, 0, 0});
+    aim.too_tight = any_of(random, {0, 0, 0, 0, 10, 40});
+    aim.finish = any_of(random, {0, 0, 30, 70, 100});
+    aim.circle = any_of(random, {0, 0, 0, 0, 50});
+    aim.orphan = any_of(random, {0, 0, 0, 0, 0, 0, 50});
+    aim.extremes = random.chance(8);
+    aim.chain = random.chance(15);
+    if (random.chance(1)) { // the heaviest walks that there are
+        aim.steps = 64;
+        aim.heaviest = 65535;
+        aim.open = any_of(random, {0, 5});
+        aim.extremes = aim.chain = true;
+    }
+    return aim;
+}
+
+uint32_t limited(uint32_t number) { return std::min<uint32_t>(number, 65535); }
+
+Sheet draw_sheet(Random &random, const Aim &aim) {
+    const uint32_t n = aim.steps;
+    Sheet sheet;
+    sheet.steps.resize(n);
+    sheet.steps[0].open = true;
+    auto weight = [&] { return uint16_t(aim.extremes ? aim.heaviest : random.below(aim.heaviest + 1)); };
+    for (uint32_t v = 1; v < n; v++) {
+        Step &step = sheet.steps[v];
+        step.open = random.chance(aim.open);
+        step.field = aim.extremes || random.chance(90);
+        if (!step.open && step.field) step.duration = weight();
+    }
+
+    // Forward links run along an order of the steps, step 0 first.
+    std::vector<uint8_t> order(n);
+    for (uint32_t v = 0; v < n; v++) order[v] = uint8_t(v);
+    if (random.chance(50))
+        for (uint32_t k = n - 1; k > 1; k--) std::swap(order[k], order[random.from(1, k)]);
+
+    auto room = [&](uint8_t i, uint8_t j) { return i != j && (sheet.links.size() < most_links || sheet.links.count({i, j})); };
+    auto link_forward = [&](uint8_t i, uint8_t j) {
+        if (!room(i, j)) return;
+        Link &link = sheet.links[{i, j}];
+        uint32_t kind = random.below(10);
+        if (kind < 8) link.map |= after;
+        if (kind > 5) {
+            link.map |= at_least;
+            link.least = weight();
+        }
+    };
+    uint32_t orphan = random.chance(aim.orphan) && n > 1 ? random.from(1, n - 1) : 0;
+    uint32_t near = aim.chain ? 1 : random.chance(20) ? random.from(2, 4) : n; // how far back along the order a step hangs
+    for (uint32_t k = 1; k < n; k++)
+        if (k != orphan) link_forward(order[k - 1 - random.below(std::min(k, near))], order[k]);
+    for (uint32_t k = 0; k < aim.forward && n > 1; k++) {
+        uint32_t to = random.from(1, n - 1);
+        if (to != orphan) link_forward(order[random.below(to)], order[to]);
+    }
+
+    // Start times that keep them with all open durations 0, some later than they need to be; the start sets; and which steps each leads to.
+    std::vector<uint32_t> time(n, 0), place(n);
+    std::vector<uint64_t> set(n, 1), leads(n);
+    std::array<std::vector<std::pair<uint8_t, const Link *>>, 64> into;
+    std::vector<std::pair<uint8_t, uint8_t>> out_of_open;
+    for (const auto &[pair, link] : sheet.links) {
+        into[pair.second].push_back({pair.first, &link});
+        if (link.map & after && sheet.steps[pair.first].open) out_of_open.push_back(pair);
+    }
+    uint32_t late = random.below(60);
+    for (uint32_t k = 0; k < n; k++) {
+        uint8_t v = order[k];
+        place[v] = k;
+        for (auto [i, link] : into[v]) {
+            uint32_t least = time[i];
+            if (link->map & after) least += sheet.steps[i].open ? 0 : sheet.steps[i].duration;
+            if (link->map & at_least) least = std::max(least, time[i] + link->least);
+            time[v] = std::max(time[v], least);
+            set[v] |= set[i];
+            if (link->map & after && sheet.steps[i].open) set[v] |= uint64_t(1) << i;
+        }
+        if (v != 0 && random.chance(late)) time[v] += random.below(aim.heaviest + 1);
+    }
+    for (uint32_t k = n; k-- > 0;) {
+        uint8_t v = order[k];
+        leads[v] |= uint64_t(1) << v;
+        for (auto [i, link] : into[v]) leads[i] |= leads[v];
+    }
+
+    uint8_t limited_last = 0;
+    uint32_t slack = random.chance(50) ? 0 : random.below(aim.heaviest + 1);
+    for (uint32_t k = 0; k < aim.limits && n > 1; k++) {
+        bool contained = random.chance(aim.contained), waiting = random.chance(aim.waiting);
+        bool finish = random.chance(aim.finish), tight = random.chance(aim.too_tight);
+        for (uint32_t tries = 0; tries < 12; tries++) {
+            uint8_t i = uint8_t(random.below(n)), j = uint8_t(random.below(n));
+            if (finish && !out_of_open.empty() && random.chance(80)) std::tie(i, j) = out_of_open[random.below(uint32_t(out_of_open.size()))];
+            if (finish && limited_last && random.chance(40)) { // two limits of one step cross
+                j = limited_last;
+                i = into[j][random.below(uint32_t(into[j].size()))].first;
+            }
+            if (!room(i, j)) continue;
+            if (finish && place[i] > place[j]) continue; // the after link that has to stand beside it would close a circle
+            uint64_t allowed = set[i], needed_set = set[j];
+            if (finish) {
+                needed_set |= set[i];
+                if (sheet.steps[i].open) allowed |= uint64_t(1) << i;
+            }
+            uint64_t missing = needed_set & ~allowed;
+            if (contained ? missing != 0 : waiting && (missing == 0 || (leads[i] & missing))) continue;
+            uint32_t end = time[i] + (finish && !sheet.steps[i].open ? sheet.steps[i].duration : 0);
+            uint32_t needed = time[j] > end ? time[j] - end : 0;
+            if (needed > 65535) continue;
+            uint32_t limit = tight ? needed - std::min(needed, 1 + random.below(3)) : limited(needed + random.below(slack + 1));
+            Link &link = sheet.links[{i, j}];
+            if (finish) {
+                link.map |= after | from_finish;
+                link.finish = uint16_t(limit);
+                if (!into[j].empty()) limited_last = j;
+            } else {
+                link.map |= at_most;
+                link.most = uint16_t(limit);
+            }
+            break;
+        }
+    }
+
+    if (random.chance(aim.circle) && n > 2) {
+        uint32_t to = random.from(1, n - 2);
+        link_forward(order[random.from(to + 1, n - 1)], order[to]);
+    }
+    return sheet;
+}
+
+// Bytes that are often met in a sheet.
+uint8_t usual_byte(Random &random) {
+    static const uint8_t usual[] = {0, 0, 0, 1, 1, 1, 1, 2, 2, 3, 3, 4, 5, 6, 7, 8, 16, 17, 18, 19, 20, 21, 22, 23, 63, 64, 65, 255};
+    return random.chance(85) ? usual[random.below(sizeof usual)] : uint8_t(random.next());
+}
+
+void damage(Random &random, Bytes &bytes) {
+    for (uint32_t times = random.from(1, 3); times > 0 && !bytes.empty(); times--) {
+        uint8_t &byte = bytes[random.chance(15) ? random.below(std::min<uint32_t>(3, uint32_t(bytes.size()))) : random.below(uint32_t(bytes.size()))];
+        switch (random.below(4)) {
+        case 0: byte = uint8_t(random.next()); break;
+        case 1: byte = uint8_t(byte ^ 1u << random.below(8)); break;
+        case 2: byte = uint8_t(byte + (random.chance(50) ? 1 : 255)); break;
+        default: byte = usual_byte(random);
+        }
+    }
+}
+
+} // namespace
+
+Bytes draw_input(Random &random) {
+    uint32_t kind = random.below(100);
+    if (kind >= 96) { // bytes from anywhere
+        Bytes bytes(random.chance(90) ? random.below(40) : random.below(longest_input + 1));
+        bool usual = random.chance(80);
+        for (uint8_t &byte : bytes) byte = usual ? usual_byte(random) : uint8_t(random.next());
+        if (usual && bytes.size() >= 3) {
+            bytes[0] = uint8_t(random.from(1, 4));
+            bytes[1] = uint8_t(random.below(5));
+            bytes[2] = 0;
+        }
+        return bytes;
+    }
+    Sheet sheet = draw_sheet(random, draw_aim(random));
+    if (kind >= 66 && kind < 69 && !sheet.links.empty()) { // a link map that is not allowed, all else whole
+        auto link = sheet.links.begin();
+        std::advance(link, random.below(uint32_t(sheet.links.size())));
+        link->second.map = uint8_t(any_of(random, {0, 8, 9, 16, 18, 20, 22, 32, 64, 128, link->second.map & 254u, link->second.map | 8u << random.below(5)}));
+    }
+    Bytes bytes = sheet.bytes();
+    if (kind < 69) return bytes;
+    if (kind < 84) {
+        damage(random, bytes);
+    } else if (kind < 90) {
+        bytes.resize(random.chance(30) ? bytes.size() - 1 : random.below(uint32_t(bytes.size())));
+        if (random.chance(20)) damage(random, bytes);
+    } else if (kind < 94) {
+        size_t more = random.chance(80) ? random.from(1, 3) : random.from(1, uint32_t(longest_input - longest_sheet));
+        for (; more > 0; more--) bytes.push_back(usual_byte(random));
+    } else { // a count of link records that is too small, too large or past the limit
+        uint32_t count = random.chance(50) ? random.from(505, 520) : bytes[1] + random.below(4);
+        bytes[1] = uint8_t(count);
+        bytes[2] = uint8_t(count >> 8);
+    }
+    return bytes;
+}
+
+Bytes draw_good_sheet(Random &random, bool short_run) {
+    Aim aim = draw_aim(random);
+    if (random.chance(80)) aim.steps = random.from(2, 16);
+    if (aim.steps < 32) {
+        aim.forward = random.below(2 * aim.steps);
+        aim.limits = random.below(aim.steps / 2 + 2);
+    }
+    if (short_run) aim.heaviest = random.from(1, 9);
+    aim.open = any_of(random, {20, 40, 60});
+    aim.contained = any_of(random, {100, 100, 80, 0});
+    aim.waiting = any_of(random, {100, 90});
+    aim.too_tight = aim.circle = aim.orphan = 0;
+    if (short_run) aim.extremes = false;
+    return draw_sheet(random, aim).bytes();
+}
+
+uint64_t open_steps(const Bytes &sheet) {
+    uint64_t map = 0;
+    size_t at = 3;
+    for (uint32_t v = 0; v < sheet.at(0); v++) {
+        uint8_t kind = sheet.at(at);
+        if (kind == 1) map |= uint64_t(1) << v;
+        at += kind == 2 ? 3 : 1;
+    }
+    return map;
+}
+
+Numbers draw_list(Random &random, const Bytes &sheet) {
+    constexpr uint32_t longest = 16777215;
+    size_t n = sheet.empty() || sheet[0] > 64 ? random.below(65) : sheet[0];
+    Numbers list(draw_length(random, n, longest_list));
+    uint32_t scale = any_of(random, {0, 5, 50, 1000, 65535, longest});
+    // step records from the front, as far as they go
+    size_t at = 3;
+    for (size_t v = 0; v < list.size(); v++) {
+        bool open = false;
+        if (v < n && at < sheet.size()) {
+            open = sheet[at] == 1;
+            at += sheet[at] == 2 ? 3 : 1;
+        }
+        if (v >= n) list[v] = uint32_t(random.next()); // past the list: means nothing
+        else if (v > 0 && open) list[v] = random.chance(5) ? longest : random.chance(10) ? 0 : random.below(scale + 1);
+    }
+    if (random.chance(15) && !list.empty()) {
+        uint32_t wrong = any_of(random, {1, longest, longest + 1, 4294967295u, uint32_t(random.next())});
+        list[random.chance(20) ? 0 : random.below(uint32_t(list.size()))] = wrong;
+    }
+    return list;
+}
+
+size_t draw_length(Random &random, size_t answer, size_t most) {
+    uint32_t kind = random.below(100);
+    size_t length = answer;
+    if (kind >= 50) length = answer + random.from(1, 3);
+    if (kind >= 65) length = answer + random.below(65);
+    if (kind >= 80) length = answer > 0 ? answer - 1 : 0;
+    if (kind >= 88) length = random.below(uint32_t(answer + 1));
+    if (kind >= 94) length = 0;
+    if (kind >= 97) length = most;
+    return std::min(length, most);
+}
+
+Numbers draw_numbers(Random &random, size_t count) {
+    Numbers numbers(count);
+    for (size_t k = 0; k < count; k += 2) {
+        uint64_t two = random.next();
+        numbers[k] = uint32_t(two);
+        if (k + 1 < count) numbers[k + 1] = uint32_t(two >> 32);
+    }
+    return numbers;
+}
+
+Numbers draw_table(Random &random, size_t n) {
+    Numbers table = draw_numbers(random, n * n);
+    uint32_t named = any_of(random, {5, 20, 60, 100}), scale = any_of(random, {0, 3, 20, 4294967295u});
+    for (size_t v = 0; v < n; v++) {
+        uint32_t row = random.chance(10) ? 0 : named;
+        for (size_t a = 0; a < n; a++) {
+            uint32_t &number = table[v * n + a];
+            if (!random.chance(row)) number = 4294967295u;
+            else if (random.chance(3)) number = 4294967294u;
+            else if (scale < 4294967295u) number = random.below(scale + 1);
+        }
+    }
+    return table;
+}

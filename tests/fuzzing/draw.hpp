@@ -1,0 +1,59 @@
+// Random inputs, all from one number.
+#pragma once
+
+#include <cstddef>
+#include <cstdint>
+#include <vector>
+
+class Random {
+    uint64_t state;
+
+public:
+    explicit Random(uint64_t seed) : state(seed) {}
+    Random(uint64_t seed, uint64_t kind, uint64_t number) : state(seed) {
+        state = next() ^ kind;
+        state = next() ^ number;
+        next();
+    }
+
+    // splitmix64
+    uint64_t next() {
+        uint64_t z = state += 0x9e3779b97f4a7c15;
+        z = (z ^ z >> 30) * 0xbf58476d1ce4e5b9;
+        z = (z ^ z >> 27) * 0x94d049bb133111eb;
+        return z ^ z >> 31;
+    }
+    // 0 to count - 1, for a count above 0
+    uint32_t below(uint32_t count) { return uint32_t((next() >> 32) * count >> 32); }
+    uint32_t from(uint32_t least, uint32_t most) { return least + below(most - least + 1); }
+    bool chance(uint32_t percent) { return below(100) < percent; }
+};
+
+using Bytes = std::vector<uint8_t>;
+using Numbers = std::vector<uint32_t>;
+
+constexpr size_t longest_sheet = 4801;
+constexpr size_t longest_input = 6000;    // sheets with bytes that follow
+constexpr size_t longest_table = 64 * 64 + 64;
+constexpr size_t longest_list = 64 + 64;
+
+// A sheet of any kind: whole, damaged, cut, with bytes that follow, or bytes from anywhere.
+Bytes draw_input(Random &random);
+
+// A whole sheet that is likely to be accepted; of few ticks where short_run stands.
+Bytes draw_good_sheet(Random &random, bool short_run);
+
+// The map of the open steps of a sheet that is whole.
+uint64_t open_steps(const Bytes &sheet);
+
+// A list of durations for the sheet, mostly a good one; all of it from anywhere where the sheet is not whole.
+Numbers draw_list(Random &random, const Bytes &sheet);
+
+// How many numbers are lent for an answer of `answer` numbers: mostly enough, at most `most`.
+size_t draw_length(Random &random, size_t answer, size_t most);
+
+// Numbers as they lie in lent memory before a call.
+Numbers draw_numbers(Random &random, size_t count);
+
+// A table of n by n numbers from anywhere.
+Numbers draw_table(Random &random, size_t n);

@@ -1,0 +1,258 @@
+// Differential fuzzing of the static library; tests/fuzz builds and runs it.
+#include "check.hpp"
+#include "planted.hpp"
+
+#include "../second/runner.h"
+#include "../second/second.h"
+
+#include <chrono>
+#include <cinttypes>
+#include <fstream>
+#include <iostream>
+#include <set>
+#include <stdexcept>
+
+namespace {
+
+constexpr uint64_t sheet_kind = 1, run_kind = 2;
+
+struct Options {
+    uint64_t seed = 1, sheets = 60000, runs = 6000, part = 1, parts = 1;
+    uint64_t one_kind = 0, one_number = 0; // the case that is repeated
+    Bytes bytes;                           // the sheet that is tried
+    std::string corpus;
+    bool self_test = false;
+};
+
+const char *name(uint64_t kind) { return kind == sheet_kind ? "sheet" : "run"; }
+
+void try_case(Examiner &examiner, uint64_t seed, uint64_t kind, uint64_t number) {
+    case_begins(seed, name(kind), number);
+    Random random(seed, kind, number);
+    if (kind == sheet_kind) {
+        Bytes sheet = draw_input(random);
+        examiner.sheet(sheet, random);
+    } else {
+        examiner.run(random);
+    }
+}
+
+void print_failure(uint64_t seed, uint64_t kind, uint64_t number, const Failure &failure) {
+    std::cout << "FAILED: " << name(kind) << " " << number << " of seed " << seed << ": " << failure.what << "\nrepeat: tests/fuzz --seed " << seed << " --case " << name(kind) << ":" << number << std::endl;
+}
+
+// Document 01's run of the stand sheet, by the second planner and the second runner.
+bool second_runs_as_told() {
+    const Bytes sheet{5, 5, 0, 1, 2, 3, 0, 1, 2, 2, 0, 2, 1, 0, 1, 0, 1, 1, 0, 2, 1, 1, 4, 1, 2, 3, 5, 3, 4, 2, 0};
+    Numbers plan(25);
+    if (second_plan(sheet.data(), sheet.size(), true, plan.data(), plan.size()) != 0) return false;
+    standplan_run run{};
+    uint64_t map = 0;
+    auto tick = [&] { return second_tick(run.words, &run.tick, run.start, run.finish, &map, plan.data(), plan.size()); };
+    auto finish = [&] { return second_finish(run.words, &run.tick, run.start, run.finish, &map, 2, plan.data(), plan.size()); };
+    return second_begin(run.words, &run.tick, run.start, run.finish, &map, 5, 4, plan.data(), plan.size()) == 0 && map == 7 && finish() == 0 && map == 0 && tick() == 0 && map == 8 && tick() == 0 && map == 0 && tick() == 0 && map == 16 &&
+           finish() == 256 + 17 && map == 0;
+}
+
+// Each planted fault has to be noticed for what it is within so many cases, and none in the library as it is.
+int self_test(uint64_t seed) {
+    constexpr uint64_t cases = 2000;
+    if (!second_runs_as_told()) {
+        std::cout << "self-test: the second runner's run of the stand sheet is not document 01's\n";
+        return 1;
+    }
+    // The number of the first failure, or as many as there are cases.
+    auto first_failure = [&](const Calls &calls, uint64_t kind, Failure &met) {
+        Examiner examiner(calls);
+        for (uint64_t number = 0; number < cases; number++) {
+            try {
+                try_case(examiner, seed, kind, number);
+            } catch (Failure &failure) {
+                met = failure;
+                return number;
+            }
+        }
+        return cases;
+    };
+    Failure met;
+    for (uint64_t kind : {sheet_kind, run_kind}) {
+        uint64_t number = first_failure({}, kind, met);
+        if (number == cases) continue;
+        print_failure(seed, kind, number, met);
+        return 1;
+    }
+    size_t noticed = 0;
+    const std::vector<Planted> all = planted_faults();
+    for (const Planted &planted : all) {
+        uint64_t number = first_failure(planted.calls, planted.in_runs ? run_kind : sheet_kind, met);
+        if (number < cases && met.what.find(planted.noticed) != std::string::npos) noticed++;
+        else std::cout << "self-test: not noticed: " << planted.fault << (number < cases ? ", but this: " + met.what : "") << "\n";
+    }
+    std::cout << "self-test: " << noticed << " of " << all.size() << " planted faults noticed" << std::endl;
+    return noticed == all.size() ? 0 : 1;
+}
+
+// The verdicts that each call can give; a run that is long enough has to meet them all.
+const struct {
+    const char *name;
+    std::vector<uint32_t> refusals;
+    bool verdict_1;
+} expected_of[call_count] = {
+    {"judge", {1, 2, 3, 4, 26, 5, 6, 7, 8, 9, 10, 11, 28, 12}, true},
+    {"waits", {1, 2, 3, 4, 26, 5, 6, 7, 8, 9, 10, 11, 28}, true},
+    {"plan", {1, 2, 3, 4, 26, 5, 6, 7, 8, 9, 10, 11, 28, 12, 14}, true},
+    {"starts", {1, 2, 3, 4, 26, 5, 6, 7, 8, 9, 10, 11, 28, 12, 13, 14}, true},
+    {"begin", {16, 2, 14}, false},
+    {"tick", {15, 14, 18}, false},
+    {"finish", {15, 14, 17}, false},
+};
+
+// Prints what was met. Whether every verdict was met that a call can give, of those that have to be.
+bool report(const Met &met, bool all_sheets, bool all_runs) {
+    bool all = true;
+    for (size_t call = 0; call < call_count; call++) {
+        const auto &expected = expected_of[call];
+        std::set<uint32_t> verdicts;
+        if (call < begin ? all_sheets : all_runs) {
+            verdicts = {0};
+            if (expected.verdict_1) verdicts.insert(1);
+            for (uint32_t refusal : expected.refusals) verdicts.insert(256 + refusal);
+        }
+        std::string line;
+        for (uint32_t verdict = 0; verdict < 512; verdict++) {
+            uint64_t times = met.verdicts[call][verdict];
+            if (times == 0 && !verdicts.count(verdict)) continue;
+            line += (line.empty() ? " " : ", ") + std::string(verdict < 256 ? "" : "refused ") + std::to_string(verdict & 255) + ": " + std::to_string(times);
+            if (times == 0) all = false;
+        }
+        if (!line.empty()) std::cout << expected.name << ":" << line << "\n";
+    }
+    std::cout << "accepted sheets with N = 64 and R = 512: " << met.largest << "; the largest offset: " << met.heaviest << "\n";
+    std::cout << "runs of a plan: " << met.proper_runs << ", to their end: " << met.ended_runs << ", starts compared: " << met.started << "; most calls in one run: " << met.fullest << "\n";
+    if (all_sheets && met.largest == 0) all = false;
+    if (all_runs && met.ended_runs == 0) all = false;
+    return all;
+}
+
+int fuzz(const Options &options) {
+    auto began = std::chrono::steady_clock::now();
+    auto seconds = [&] { return std::chrono::duration<double>(std::chrono::steady_clock::now() - began).count(); };
+    Examiner examiner;
+    uint64_t tried[3] = {};
+    for (uint64_t kind : {sheet_kind, run_kind}) {
+        uint64_t count = kind == sheet_kind ? options.sheets : options.runs;
+        uint64_t from = count / options.parts * (options.part - 1), to = options.part == options.parts ? count : count / options.parts * options.part;
+        for (uint64_t number = from; number < to; number++) {
+            try {
+                try_case(examiner, options.seed, kind, number);
+            } catch (Failure &failure) {
+                print_failure(options.seed, kind, number, failure);
+                return 1;
+            }
+            tried[kind]++;
+            if (tried[kind] % 100000 == 0) std::fprintf(stderr, "%s %" PRIu64 ", %.0f s\n", name(kind), number + 1, seconds());
+        }
+    }
+    bool all = report(examiner.met, tried[sheet_kind] >= Options().sheets, tried[run_kind] >= Options().runs);
+    std::cout << "seed " << options.seed;
+    if (options.parts > 1) std::cout << ", part " << options.part << " of " << options.parts;
+    std::cout << ": " << tried[sheet_kind] << " sheets and " << tried[run_kind] << " runs, each with the guard pages past the end and before the start: ";
+    std::cout << (all ? "no difference" : "no difference, but not every verdict was met");
+    std::cout << ", " << int(seconds() + 0.5) << " s" << std::endl;
+    return all ? 0 : 1;
+}
+
+// Sheets to begin a coverage-guided search with.
+int write_corpus(const std::string &folder, uint64_t seed) {
+    for (uint64_t number = 0; number < 500; number++) {
+        Random random(seed, sheet_kind, number);
+        Bytes sheet = draw_input(random);
+        std::ofstream file(folder + "/sheet" + std::to_string(number), std::ios::binary);
+        file.write(reinterpret_cast<const char *>(sheet.data()), std::streamsize(sheet.size()));
+        if (!file) return 2;
+    }
+    return 0;
+}
+
+// One case once more.
+int repeat(const Options &options) {
+    Examiner examiner;
+    try {
+        try_case(examiner, options.seed, options.one_kind, options.one_number);
+    } catch (Failure &failure) {
+        print_failure(options.seed, options.one_kind, options.one_number, failure);
+        return 1;
+    }
+    report(examiner.met, false, false);
+    return 0;
+}
+
+// One input; its lists and lengths are drawn from the seed.
+int try_bytes(const Options &options) {
+    Examiner examiner;
+    Random random(options.seed);
+    try {
+        for (int times = 0; times < 100; times++) {
+            case_begins(options.seed, "sheet", times);
+            examiner.sheet(options.bytes, random);
+        }
+    } catch (Failure &failure) {
+        std::cout << "FAILED: " << failure.what << "\n";
+        return 1;
+    }
+    report(examiner.met, false, false);
+    return 0;
+}
+
+// Throws std::logic_error where a word is not understood.
+Options options_of(int argc, char **argv) {
+    Options options;
+    for (int k = 1; k < argc; k++) {
+        const std::string option = argv[k];
+        if (option == "--self-test") {
+            options.self_test = true;
+            continue;
+        }
+        if (++k >= argc) throw std::invalid_argument(option);
+        const std::string word = argv[k];
+        if (option == "--seed") options.seed = std::stoull(word);
+        else if (option == "--sheets") options.sheets = std::stoull(word);
+        else if (option == "--runs") options.runs = std::stoull(word);
+        else if (option == "--corpus") options.corpus = word;
+        else if (option == "--part") {
+            options.part = std::stoull(word);
+            options.parts = std::stoull(word.substr(word.find('/') + 1));
+            if (options.part < 1 || options.part > options.parts) throw std::invalid_argument(word);
+        } else if (option == "--case") {
+            const std::string kind = word.substr(0, word.find(':'));
+            if (kind != "sheet" && kind != "run") throw std::invalid_argument(word);
+            options.one_kind = kind == "sheet" ? sheet_kind : run_kind;
+            options.one_number = std::stoull(word.substr(kind.size() + 1));
+        } else if (option == "--bytes") {
+            for (size_t at = 0; at < word.size(); at += 2) options.bytes.push_back(uint8_t(std::stoul(word.substr(at, 2), nullptr, 16)));
+            if (options.bytes.size() > longest_input) throw std::invalid_argument(word);
+        } else throw std::invalid_argument(option);
+    }
+    return options;
+}
+
+} // namespace
+
+int main(int argc, char **argv) {
+    Options options;
+    try {
+        options = options_of(argc, argv);
+    } catch (std::logic_error &) {
+        std::cerr << "usage: tests/fuzz [--seed SEED] [--sheets COUNT] [--runs COUNT] [--part I/K]\n"
+                     "       tests/fuzz [--seed SEED] --case sheet:NUMBER|run:NUMBER\n"
+                     "       tests/fuzz --bytes HEX\n"
+                     "       tests/fuzz --coverage SECONDS\n";
+        return 2;
+    }
+    if (!options.corpus.empty()) return write_corpus(options.corpus, options.seed);
+    catch_faults();
+    if (options.one_kind) return repeat(options);
+    if (!options.bytes.empty()) return try_bytes(options);
+    int status = self_test(options.seed);
+    return status != 0 || options.self_test ? status : fuzz(options);
+}

@@ -1,0 +1,344 @@
+// A planner from document 01 and request L11, generic in how heaviest walks are found.
+//
+// A Kernel has three functions over a Graph (below):
+//   static int stride(const Graph &g)    the cells of a row, at least g.anchors and at most 64;
+//   static bool circle(const Graph &g)    whether a circle of links, waits left out, weighs above 0;
+//   static bool walks(const Graph &g, int32_t *walk)    fills walk with the offsets, waits in, or says false: a circle weighs above 0.
+// walk has a row of Kernel::stride(g) cells for each step; the cell of step v and anchor k counts where bit k of g.set[v] stands.
+#ifndef PLANNER_HPP
+#define PLANNER_HPP
+
+#include <cstddef>
+#include <cstdint>
+#include <cstring>
+
+namespace planner {
+
+using std::size_t;
+using std::uint16_t;
+using std::uint32_t;
+using std::uint64_t;
+using std::uint8_t;
+using std::int32_t;
+
+constexpr int most_steps = 64, most_records = 512;
+constexpr uint32_t longest = 16777215u, refused = 256;
+
+inline uint64_t bit(int k) { return uint64_t(1) << k; }
+inline int lowest(uint64_t map) { return __builtin_ctzll(map); }
+inline int highest(uint64_t map) { return 63 - __builtin_clzll(map); }
+
+struct Forward { uint8_t to, after; int32_t weight; };           // the after and at-least of one record
+struct Return { uint8_t from, to, late; int32_t weight; }; // an at-most on (to, from)
+
+// The sheet as links. Anchors, step 0 and the open steps, are numbered in the order of the steps' forward order; anchor 0 is step 0.
+// Maps of anchors have bit k for anchor k, maps of steps have bit v for step v.
+struct Graph {
+    int steps, anchors, returns;
+    bool late;                              // some return is from the finish of an open step other than 0
+    uint64_t open;                          // open steps, without 0
+    uint16_t first[most_steps + 1];         // forward links out of v: first[v] to first[v + 1]
+    Forward forward[most_records];
+    Return back[2 * most_records];
+    uint16_t duration[most_steps];
+    uint8_t incoming[most_steps];           // forward links into v
+    uint8_t order[most_steps];              // steps in forward order
+    uint8_t anchor[most_steps];             // the number of an open step
+    uint8_t step[most_steps];               // the step of an anchor
+    uint64_t set[most_steps];               // start set: anchors, as sent and then with the waits in
+    uint64_t need[most_steps];              // waits into a step: anchors
+    uint64_t out[most_steps];               // waits out of an anchor: steps
+    bool waits;
+};
+
+inline int two(const uint8_t *p) { return p[0] | p[1] << 8; }
+
+// The bytes of a link record, by its map; 0: refusal 4, 1: refusal 26.
+constexpr uint8_t record_bytes[256] = {0, 3, 5, 5, 5, 5, 7, 7, 0, 0, 0, 0, 0, 0, 0, 0, 1, 5, 1, 7, 1, 7, 1, 9};
+constexpr int longest_record = 9;
+
+// Whether the bytes end within a record, and no fault of it is met before: refusal 1.
+inline bool cut(const uint8_t *p, const uint8_t *end, int n, int last) {
+    if (p == end) return true;
+    const int size = record_bytes[*p];
+    if (size < 3 || end - p >= size) return false;
+    return end - p < 3 || (p[1] < n && p[2] < n && p[1] != p[2] && (p[1] << 8 | p[2]) > last);
+}
+
+// Bytes to links: refusals 1 to 7 and 26.
+inline int read(Graph &g, const uint8_t *p, size_t length) {
+    const uint8_t *end = p + length;
+    if (end - p < 1) return 1;
+    const int n = *p++;
+    if (n == 0 || n > most_steps) return 2;
+    if (end - p < 2) return 1;
+    const int records = two(p);
+    p += 2;
+    if (records > most_records) return 3;
+    g.steps = n;
+    g.open = 0;
+    for (int v = 0; v < n; v++) {
+        if (p == end) return 1;
+        const int map = *p++;
+        if (map > 2 || (v == 0 && map != 1)) return 4;
+        int ticks = 0;
+        if (map == 2) {
+            if (end - p < 2) return 1;
+            ticks = two(p);
+            p += 2;
+        } else if (map == 1) {
+            g.open |= bit(v);
+        }
+        g.duration[v] = ticks;
+        g.incoming[v] = 0;
+    }
+    g.open &= ~uint64_t(1);
+    g.late = false;
+    int links = 0, returns = 0, source = 0, last = -1;
+    g.first[0] = 0;
+    for (int r = 0; r < records; r++) {
+        if (end - p < longest_record && cut(p, end, n, last)) return 1;
+        const int map = *p, size = record_bytes[map];
+        if (size < 3) return size == 0 ? 4 : 26;
+        const int i = p[1], j = p[2], pair = i << 8 | j;
+        if (i >= n || j >= n || i == j) return 5;
+        if (pair <= last) return 6;
+        last = pair;
+        p += 3;
+        while (source < i) g.first[++source] = links;
+        if (map & 3) {
+            int weight = map & 1 ? g.duration[i] : 0;
+            if (map & 2) {
+                const int least = two(p);
+                if (least > weight) weight = least;
+                p += 2;
+            }
+            g.forward[links++] = Forward{uint8_t(j), uint8_t(map & 1), weight};
+            g.incoming[j]++;
+        }
+        if (map & 0x14) {
+            if (map & 4) {
+                g.back[returns++] = Return{uint8_t(j), uint8_t(i), 0, -two(p)};
+                p += 2;
+            }
+            if (map & 16) {
+                const bool late = g.open >> i & 1;
+                g.back[returns++] = Return{uint8_t(j), uint8_t(i), late, -(two(p) + g.duration[i])};
+                g.late |= late;
+                p += 2;
+            }
+        }
+    }
+    while (source < n) g.first[++source] = links;
+    g.returns = returns;
+    return p == end ? 0 : 7;
+}
+
+// Forward order, numbers of anchors and start sets as sent: refusals 8 and 9.
+inline int sort(Graph &g) {
+    const int n = g.steps;
+    uint8_t left[most_steps];
+    int ready = 0, ends = 0;
+    for (int v = 0; v < n; v++) {
+        left[v] = g.incoming[v];
+        g.set[v] = 1;
+        if (left[v] == 0) g.order[ready++] = v;
+    }
+    const bool from_start = ready == 1 && g.order[0] == 0;
+    g.anchors = 1;
+    g.step[0] = 0;
+    g.anchor[0] = 0;
+    while (ends < ready) {
+        const int v = g.order[ends++];
+        const uint64_t plain = g.set[v];
+        uint64_t after = plain;
+        if (g.open >> v & 1) {
+            g.step[g.anchors] = v;
+            g.anchor[v] = g.anchors;
+            after |= bit(g.anchors & 63);
+            g.anchors++;
+        }
+        for (int l = g.first[v]; l < g.first[v + 1]; l++) {
+            const Forward &f = g.forward[l];
+            g.set[f.to] |= f.after ? after : plain;
+            if (--left[f.to] == 0) g.order[ready++] = f.to;
+        }
+    }
+    if (ready < n) return 8;
+    return from_start ? 0 : 9;
+}
+
+// What walks from the end of each anchor reach, into g.set, and the waits that this calls for. Says whether such a walk comes back to its anchor: 11.
+inline bool reach(Graph &g) {
+    uint64_t walk[most_steps], dirty = 0;
+    for (int v = 0; v < g.steps; v++) walk[v] = g.set[v];
+    auto along = [&](const Return &r) {
+        uint64_t more = walk[r.from] & ~walk[r.to];
+        if (r.late) more &= ~bit(g.anchor[r.to]);
+        walk[r.to] |= more;
+        return more != 0;
+    };
+    for (bool changed = true; changed;) {
+        changed = false;
+        for (int r = 0; r < g.returns; r++)
+            if (along(g.back[r])) dirty |= bit(g.back[r].to), changed = true;
+        if (!changed) break;
+        for (int at = 0; at < g.steps; at++) {
+            const int v = g.order[at];
+            if (!(dirty >> v & 1)) continue;
+            for (int l = g.first[v]; l < g.first[v + 1]; l++) {
+                const int to = g.forward[l].to;
+                if (walk[v] & ~walk[to]) walk[to] |= walk[v], dirty |= bit(to);
+            }
+        }
+        dirty = 0;
+    }
+    for (int k = 1; k < g.anchors; k++)
+        if (walk[g.step[k]] >> k & 1) return true;
+    for (int v = 0; v < g.steps; v++) g.need[v] = 0;
+    uint64_t any = 0;
+    for (int r = 0; r < g.returns; r++) {
+        const Return &b = g.back[r];
+        uint64_t need = walk[b.from] & ~g.set[b.to];
+        if (b.late) need &= ~bit(g.anchor[b.to]);
+        g.need[b.to] |= need;
+        any |= need;
+    }
+    g.waits = any != 0;
+    for (int v = 0; v < g.steps; v++) g.set[v] = walk[v];
+    return false;
+}
+
+// Forward order with the waits in; false where they close a circle.
+inline bool sort_waits(Graph &g) {
+    uint8_t left[most_steps];
+    for (int k = 0; k < g.anchors; k++) g.out[k] = 0;
+    for (int v = 0; v < g.steps; v++) {
+        left[v] = g.incoming[v];
+        for (uint64_t map = g.need[v]; map; map &= map - 1) {
+            g.out[lowest(map)] |= bit(v);
+            left[v]++;
+        }
+    }
+    int ready = 1, ends = 0;
+    g.order[0] = 0;
+    while (ends < ready) {
+        const int v = g.order[ends++];
+        for (int l = g.first[v]; l < g.first[v + 1]; l++) {
+            const int to = g.forward[l].to;
+            if (--left[to] == 0) g.order[ready++] = to;
+        }
+        if (g.open >> v & 1)
+            for (uint64_t map = g.out[g.anchor[v]]; map; map &= map - 1)
+                if (--left[lowest(map)] == 0) g.order[ready++] = lowest(map);
+    }
+    return ready == g.steps;
+}
+
+// Refusals up to 11, and the waits. Circles are looked for only if wanted: without late returns no circle uses a wait, so that the offsets tell 10 too.
+template <class Kernel> int prepare(Graph &g, const uint8_t *sheet, size_t length, bool offsets_follow) {
+    if (int k = read(g, sheet, length)) return k;
+    if (int k = sort(g)) return k;
+    const bool back = reach(g);
+    if ((back || g.late || !offsets_follow) && Kernel::circle(g)) return 10;
+    return back ? 11 : 0;
+}
+
+// Refusals up to 28, and the offsets.
+template <class Kernel> int offsets(Graph &g, const uint8_t *sheet, size_t length, int32_t *walk) {
+    if (int k = prepare<Kernel>(g, sheet, length, true)) return k;
+    if (g.waits && !sort_waits(g)) return 28;
+    if (!Kernel::walks(g, walk)) return g.late ? 28 : 10;
+    return 0;
+}
+
+// Refusals up to 28 and no offsets.
+template <class Kernel> int judged(Graph &g, const uint8_t *sheet, size_t length, int32_t *walk) {
+    if (int k = prepare<Kernel>(g, sheet, length, false)) return k;
+    if (g.late && g.waits && (!sort_waits(g) || !Kernel::walks(g, walk))) return 28;
+    return 0;
+}
+
+// The members that decide v: each is tested against those that decide, the latest first.
+inline uint64_t deciding(const Graph &g, const int32_t *walk, int stride, int v) {
+    const int32_t *row = walk + v * stride;
+    uint64_t kept = g.set[v], left = kept;
+    while (left) {
+        const int b = highest(left);
+        const int32_t *before = walk + g.step[b] * stride;
+        left &= ~bit(b);
+        if (b == 0) break;
+        for (uint64_t map = g.set[g.step[b]] & kept & ~bit(b); map; map &= map - 1) {
+            const int a = lowest(map);
+            if (before[a] + row[b] >= row[a]) kept &= ~bit(a);
+        }
+        left &= kept;
+    }
+    return kept;
+}
+
+template <class Kernel> uint32_t judge(const uint8_t *sheet, size_t length, bool allow) {
+    Graph g;
+    int32_t walk[most_steps * most_steps];
+    if (int k = judged<Kernel>(g, sheet, length, walk)) return refused + k;
+    if (g.waits && !allow) return refused + 12;
+    return g.waits;
+}
+
+template <class Kernel> uint32_t waits(const uint8_t *sheet, size_t length, uint64_t *maps, uint32_t *count) {
+    Graph g;
+    int32_t walk[most_steps * most_steps];
+    const int k = judged<Kernel>(g, sheet, length, walk);
+    std::memset(maps, 0, 64 * sizeof *maps);
+    *count = 0;
+    if (k) return refused + k;
+    uint32_t total = 0;
+    for (int v = 0; v < g.steps; v++)
+        for (uint64_t map = g.need[v]; map; map &= map - 1, total++) maps[v] |= bit(g.step[lowest(map)]);
+    *count = total;
+    return g.waits;
+}
+
+template <class Kernel> uint32_t plan(const uint8_t *sheet, size_t length, bool allow, uint32_t *table, size_t table_len) {
+    Graph g;
+    int32_t walk[most_steps * most_steps];
+    if (int k = offsets<Kernel>(g, sheet, length, walk)) return refused + k;
+    if (g.waits && !allow) return refused + 12;
+    const int n = g.steps;
+    if (table_len < size_t(n * n)) return refused + 14;
+    const int stride = Kernel::stride(g);
+    std::memset(table, 0xff, size_t(n * n) * sizeof *table);      // undecided
+    for (int v = 0; v < n; v++)
+        for (uint64_t map = deciding(g, walk, stride, v); map; map &= map - 1)
+            table[v * n + g.step[lowest(map)]] = walk[v * stride + lowest(map)];
+    return g.waits;
+}
+
+template <class Kernel>
+uint32_t starts(const uint8_t *sheet, size_t length, bool allow, const uint32_t *list, size_t list_len, uint32_t *out, size_t out_len) {
+    Graph g;
+    int32_t walk[most_steps * most_steps];
+    if (int k = offsets<Kernel>(g, sheet, length, walk)) return refused + k;
+    if (g.waits && !allow) return refused + 12;
+    const size_t n = g.steps;
+    const int stride = Kernel::stride(g);
+    for (size_t v = 0; v < n && v < list_len; v++)
+        if (list[v] > longest || (list[v] != 0 && !(g.open >> v & 1))) return refused + 13;
+    if (list_len < n || out_len < n) return refused + 14;
+    uint32_t end[most_steps];               // when an anchor ends
+    for (size_t at = 0; at < n; at++) {
+        const int v = g.order[at];
+        uint32_t start = 0;
+        for (uint64_t map = g.set[v]; v != 0 && map; map &= map - 1) {
+            const uint32_t t = end[lowest(map)] + walk[v * stride + lowest(map)];
+            if (t > start) start = t;
+        }
+        out[v] = start;
+        if (v == 0 || (g.open >> v & 1)) end[g.anchor[v]] = start + list[v];
+    }
+    return g.waits;
+}
+
+} // namespace planner
+
+#endif

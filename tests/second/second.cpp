@@ -1,0 +1,20 @@
+#include "second.h"
+#include "bellman_ford.hpp"
+
+using Kernel = planner::BellmanFord;
+
+uint32_t second_judge(const uint8_t *sheet, size_t sheet_len, bool allow_waits) {
+    return planner::judge<Kernel>(sheet, sheet_len, allow_waits);
+}
+
+uint32_t second_waits(const uint8_t *sheet, size_t sheet_len, uint64_t maps[64], uint32_t *count) {
+    return planner::waits<Kernel>(sheet, sheet_len, maps, count);
+}
+
+uint32_t second_plan(const uint8_t *sheet, size_t sheet_len, bool allow_waits, uint32_t *table, size_t table_len) {
+    return planner::plan<Kernel>(sheet, sheet_len, allow_waits, table, table_len);
+}
+
+uint32_t second_starts(const uint8_t *sheet, size_t sheet_len, bool allow_waits, const uint32_t *list, size_t list_len, uint32_t *out, size_t out_len) {
+    return planner::starts<Kernel>(sheet, sheet_len, allow_waits, list, list_len, out, out_len);
+}

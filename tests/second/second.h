@@ -1,0 +1,23 @@
+/* The second planner: the four planner calls of include/standplan.h under other names, written from document 01 and request L11 alone.
+ * Arguments, verdicts and what happens to lent memory are as there. */
+#ifndef SECOND_H
+#define SECOND_H
+
+#include <stdbool.h>
+#include <stddef.h>
+#include <stdint.h>
+
+#ifdef __cplusplus
+extern "C" {
+#endif
+
+uint32_t second_judge(const uint8_t *sheet, size_t sheet_len, bool allow_waits);
+uint32_t second_waits(const uint8_t *sheet, size_t sheet_len, uint64_t maps[64], uint32_t *count);
+uint32_t second_plan(const uint8_t *sheet, size_t sheet_len, bool allow_waits, uint32_t *table, size_t table_len);
+uint32_t second_starts(const uint8_t *sheet, size_t sheet_len, bool allow_waits, const uint32_t *list, size_t list_len, uint32_t *out, size_t out_len);
+
+#ifdef __cplusplus
+}
+#endif
+
+#endif

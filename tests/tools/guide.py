@@ -1,0 +1,80 @@
+"""The documents for newcomers: each command of docs/GUIDE.md prints what stands under it, the tables of docs/FORMAT.md hold the bytes and the text of the
+examples, each stored plan is its sheet's, and files, theorems and contracts that docs/ names are there."""
+import re
+import subprocess
+import sys
+
+from stored import ROOT
+
+sys.path.insert(0, str(ROOT / "tools"))
+import sheets  # noqa: E402
+
+
+def printed(command):
+    return subprocess.run(command, shell=True, cwd=ROOT, stdout=subprocess.PIPE, stderr=subprocess.STDOUT).stdout.decode()
+
+
+def commands():
+    """Blocks marked console: a line behind '$ ' is a command, the lines up to the next one are what it prints."""
+    count = 0
+    for block in re.findall(r"^```console\n(.*?)^```$", (ROOT / "docs/GUIDE.md").read_text("utf-8"), re.MULTILINE | re.DOTALL):
+        for part in re.split(r"^\$ ", block, flags=re.MULTILINE)[1:]:
+            command, _, wanted = part.partition("\n")
+            found = printed(command)
+            assert found == wanted, f"docs/GUIDE.md: {command}\nprints\n{found}not\n{wanted}"
+            count += 1
+    assert count >= 12, count
+    assert (ROOT / "target/stand.svg").read_bytes() == (ROOT / "examples/stand.svg").read_bytes(), "README's picture is not the guide's"
+    assert printed("target/stand examples/stand.sheet 10") == (ROOT / "examples/stand.run").read_text("ascii"), "examples/stand.run"
+    return count
+
+
+def format_tables():
+    """The tables with bytes, text and meaning, one for each example that is named in front of it."""
+    text = (ROOT / "docs/FORMAT.md").read_text("utf-8")
+    found = re.findall(r"^`([0-9a-f ]+)` \(examples/(\w+)\.sheet.*?\n\n\| bytes \| as text \| meaning \|\n\|---\|---\|---\|\n((?:\|.*\n)+)", text, re.MULTILINE)
+    assert [name for _, name, _ in found] == ["stand", "exposure"], found
+    for line, name, rows in found:
+        cells = [[cell.strip(" `") for cell in row.split("|")[1:3]] for row in rows.splitlines()]
+        data = (ROOT / f"examples/{name}.sheet").read_bytes()
+        assert bytes.fromhex(line) == data, f"docs/FORMAT.md: the bytes of {name}"
+        pieces = [[part.hex(" "), written] for part, written in sheets.pieces(sheets.from_bytes(data))]
+        assert cells == pieces, f"docs/FORMAT.md: the table of {name}: {cells}, not {pieces}"
+
+
+def plans():
+    for path in sorted((ROOT / "examples").glob("*.sheet")):
+        assert printed(f"./standplan examples/{path.name}") == path.with_suffix(".plan").read_text("ascii"), path
+
+
+def names():
+    """Files that are named, and what docs/PROOFS.md and docs/CERTIFICATE.md have in code type: edits, files, names of the sources."""
+    count = 0
+    for path in [ROOT / "README.md", *(ROOT / "docs").rglob("*.md")]:
+        for name in re.findall(r"(?<![\w/.])((?:bench|docs|examples|tools|tests|include|crates)/[\w./-]*\w)", path.read_text("utf-8")):
+            assert (ROOT / name).exists(), f"{path.name} names {name}, which is not there"
+            count += 1
+    source = "\n".join(path.read_text("utf-8") for kind in ("specs/*.antt", "proofs/*.antt", "src/*.rt") for path in (ROOT / "crates").glob(f"*/{kind}"))
+    known = set(re.findall(r"[^\s(){},;:.&]+", source))
+    known |= {f"{path.parts[-3]}/{path.stem}" for path in (ROOT / "crates").glob("*/must-fail/*.edit")}
+    known |= {path.name for path in (ROOT / "crates").iterdir()} | {"*", ""}
+    for page in ("PROOFS.md", "CERTIFICATE.md"):
+        for code in re.findall(r"`([^`\n]+)`", (ROOT / "docs" / page).read_text("utf-8")):
+            if " " in code or code.startswith("_") or not code.isascii():
+                continue                                   # a command, the end of a name, a sign
+            if "/" in code:
+                assert code in known or (ROOT / code).exists() or (ROOT / "crates" / code).exists(), f"docs/{page}: {code} is not there"
+            else:
+                missing = [part for part in re.split(r"::|\.", code) if part not in known]
+                assert not missing, f"docs/{page}: {code}: there is no {missing}"
+            count += 1
+    assert count > 200, count
+    return count
+
+
+if __name__ == "__main__":
+    ran = commands()
+    format_tables()
+    plans()
+    found = names()
+    print(f"{ran} commands of the guide print what it says; {found} names in the documents are there")

@@ -1,0 +1,47 @@
+"""The sheets that the repository stores, with what judging them gives where waits are not allowed: "0" or "refused 10"."""
+from pathlib import Path
+
+ROOT = Path(__file__).resolve().parents[2]
+
+
+def compared():
+    """crates/compare/stdin and stdout; tests/reference/container.py has their form."""
+    data, at = (ROOT / "crates/compare/stdin").read_bytes(), 0
+
+    def number(size):
+        nonlocal at
+        at += size
+        return int.from_bytes(data[at - size:at], "little")
+
+    judged = [line[8:] for line in (ROOT / "crates/compare/stdout").read_text("ascii").splitlines() if line.startswith("judge 0 ")]
+    for verdict in judged:
+        size = number(2)
+        yield data[at:at + size], verdict
+        at += size
+        number(2)
+        for _ in range(number(1)):
+            number(1)
+            entries = number(2)
+            number(2)
+            at += 4 * entries
+    assert at == len(data), "crates/compare/stdin has more sheets than stdout has answers"
+
+
+def answered():
+    """tests/rust/data/answers.txt."""
+    for line in (ROOT / "tests/rust/data/answers.txt").read_text("ascii").splitlines():
+        if line.startswith("sheet"):
+            sheet = bytes.fromhex(line[5:])
+        elif line.startswith("judge 0; "):
+            yield sheet, line[9:].removeprefix("ok ")
+
+
+def worked():
+    """The examples, and the program's own input; their plans are stored beside them."""
+    examples = [(path, path.with_suffix(".plan")) for path in sorted((ROOT / "examples").glob("*.sheet"))]
+    for sheet, plan in [(ROOT / "crates/standplan/stdin", ROOT / "crates/standplan/stdout"), *examples]:
+        yield sheet.read_bytes(), "0" if plan.read_text("ascii").startswith("verdict 0\n") else "refused 12"
+
+
+def sheets():
+    return [*worked(), *answered(), *compared()]

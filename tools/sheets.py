@@ -1,0 +1,237 @@
+"""Sheets as bytes and as text, for the tools beside this file. docs/FORMAT.md has both forms.
+
+The planner does not use this: it reads bytes, by a reader that is proved. The text is for examples and reports only. Request L4 brings a sheet
+writer as a call of the library; it then takes the place of `to_bytes` (and always leaves out a duration of 0: `with-field` goes).
+"""
+from __future__ import annotations
+
+import re
+from dataclasses import dataclass, field
+from pathlib import Path
+
+ROOT = Path(__file__).resolve().parent.parent
+STEPS, RECORDS, LARGEST = 64, 512, 65535
+AFTER, AT_LEAST, AT_MOST, FROM_FINISH = "after", "at-least", "at-most", "at-most-from-finish"
+BITS = {AFTER: 1, AT_LEAST: 2, AT_MOST: 4, FROM_FINISH: 16}         # of a link map, in the order of their fields
+
+
+@dataclass
+class Sheet:
+    """Steps: "open" or the fixed duration. Links: by the pair (i, j), each word with its number, or None for after."""
+
+    steps: list[str | int] = field(default_factory=list)
+    links: dict[tuple[int, int], dict[str, int | None]] = field(default_factory=dict)
+    kept: set[int] = field(default_factory=set)                      # steps whose duration of 0 has a field in the bytes
+    names: dict[int, str] = field(default_factory=dict)              # the comments behind steps; text alone has them
+
+
+class NoSheet(Exception):
+    """Bytes or a text that are no sheet; what is wrong, and where."""
+
+
+def refusal(number: int) -> str:
+    """What docs/REFUSALS.md says of a refusal."""
+    row = re.search(rf"^\| {number} \| (.*?)(?: \(also .*\))? \|$", (ROOT / "docs/REFUSALS.md").read_text("utf-8"), re.MULTILINE)
+    return f"refused {number}: {row[1]}" if row else f"refused {number}"
+
+
+# ---------------------------------------------------------------- bytes
+
+class _Bytes:
+    """Bytes, read from the front."""
+
+    def __init__(self, data: bytes) -> None:
+        self.data, self.at = data, 0
+
+    def number(self, size: int) -> int:
+        """A field of `size` bytes, low byte first."""
+        if self.at + size > len(self.data):
+            raise self.fault(1, len(self.data))
+        self.at += size
+        return int.from_bytes(self.data[self.at - size:self.at], "little")
+
+    def fault(self, number: int, place: int) -> NoSheet:
+        return NoSheet(f"byte {place}: {refusal(number)}")
+
+
+def from_bytes(data: bytes) -> Sheet:
+    """The sheet that the bytes hold; NoSheet with refusals 1 to 7 and 26. Bytes are counted from 0."""
+    source, sheet = _Bytes(data), Sheet()
+    n = source.number(1)
+    if not 1 <= n <= STEPS:
+        raise source.fault(2, 0)
+    r = source.number(2)
+    if r > RECORDS:
+        raise source.fault(3, 1)
+    for v in range(n):
+        bits = source.number(1)
+        if bits > 2 or v == 0 and bits != 1:
+            raise source.fault(4, source.at - 1)
+        sheet.steps.append("open" if bits == 1 else source.number(2) if bits == 2 else 0)
+        if bits == 2 and sheet.steps[v] == 0:
+            sheet.kept.add(v)
+    last = (-1, -1)
+    for _ in range(r):
+        place = source.at
+        bits = source.number(1)
+        if bits == 0 or bits & ~sum(BITS.values()):
+            raise source.fault(4, place)
+        if bits & BITS[FROM_FINISH] and not bits & BITS[AFTER]:
+            raise source.fault(26, place)
+        i, j = pair = source.number(1), source.number(1)
+        if i >= n or j >= n or i == j:
+            raise source.fault(5, place + 1 if i >= n else place + 2)
+        if pair <= last:
+            raise source.fault(6, place + 1)
+        sheet.links[pair] = {word: None if word == AFTER else source.number(2) for word, bit in BITS.items() if bits & bit}
+        last = pair
+    if source.at < len(data):
+        raise source.fault(7, source.at)
+    return sheet
+
+
+def pieces(sheet: Sheet) -> list[tuple[bytes, str]]:
+    """The sheet piece by piece: its bytes, and its line of text. The first piece has the counts, and no line."""
+    def two(x: int) -> bytes:
+        return x.to_bytes(2, "little")
+
+    found = [(bytes([len(sheet.steps)]) + two(len(sheet.links)), "")]
+    for v, step in enumerate(sheet.steps):
+        if step == "open":
+            found.append((b"\x01", f"step {v} open"))
+        elif step or v in sheet.kept:
+            found.append((b"\x02" + two(step), f"step {v} fixed {step}" + (" with-field" if not step else "")))
+        else:
+            found.append((b"\x00", f"step {v} fixed 0"))
+    for (i, j), words in sorted(sheet.links.items()):
+        given = [(word, words[word]) for word in BITS if word in words]
+        fields = b"".join(two(x) for _, x in given if x is not None)
+        text = "".join(f" {word}" if x is None else f" {word} {x}" for word, x in given)
+        found.append((bytes([sum(BITS[word] for word, _ in given), i, j]) + fields, f"link {i} {j}{text}"))
+    return found
+
+
+def to_bytes(sheet: Sheet) -> bytes:
+    return b"".join(data for data, _ in pieces(sheet))
+
+
+# ---------------------------------------------------------------- text
+
+def to_text(sheet: Sheet, show_bytes: bool = False) -> str:
+    """The sheet as text: the steps, then the links, rising; with show_bytes each line has its bytes as a comment."""
+    (counts, _), *rest = pieces(sheet)
+    if not show_bytes:
+        return "".join(f"{line}\n" for _, line in rest)
+    width = max(len(line) for _, line in rest)
+    head = f"# steps {len(sheet.steps)}, links {len(sheet.links)}"
+    return "".join(f"{line:{width}}  # {data.hex(' ')}\n" for data, line in [(counts, head), *rest])
+
+
+def _number(word: str, top: int, what: str) -> int:
+    if not (word.isascii() and word.isdigit()):
+        raise NoSheet(f"'{word}' is no number")
+    digits = word.lstrip("0") or "0"
+    if len(digits) > 9 or int(digits) > top:
+        raise NoSheet(f"{word} is too large: {what} at most {top}")
+    return int(digits)
+
+
+def _step_number(word: str) -> int:
+    return _number(word, STEPS - 1, f"a sheet has at most {STEPS} steps, and their numbers are")
+
+
+def _step_line(words: list[str]) -> tuple[int, str | int, bool]:
+    """A step's number, what it is, and whether its duration of 0 has a field."""
+    if len(words) < 2:
+        raise NoSheet("a step has a number, then 'open' or 'fixed' and its ticks")
+    v, form = _step_number(words[0]), words[1:]
+    if v == 0 and form != ["open"]:
+        raise NoSheet("step 0 is the start and has to be open")
+    if form == ["open"]:
+        return v, "open", False
+    if form[0] != "fixed" or len(form) < 2 or form[2:] not in ([], ["with-field"]):
+        raise NoSheet("a step is 'open' or 'fixed' and its ticks")
+    ticks = _number(form[1], LARGEST, "a duration is")
+    if ticks and form[2:]:
+        raise NoSheet("'with-field' stands behind a duration of 0 only; every other has its field")
+    return v, ticks, form[2:] != []
+
+
+def _link_line(words: list[str]) -> tuple[tuple[int, int], dict[str, int | None]]:
+    """A link line's pair, and its words with their numbers."""
+    if len(words) < 3:
+        raise NoSheet(f"a link has two steps, then one or more of {', '.join(BITS)}")
+    pair, given, rest = (_step_number(words[0]), _step_number(words[1])), {}, words[2:]
+    if pair[0] == pair[1]:
+        raise NoSheet(f"a link from step {pair[0]} to itself")
+    while rest:
+        word, *rest = rest
+        if word not in BITS:
+            raise NoSheet(f"'{word}' is none of {', '.join(BITS)}")
+        if word in given:
+            raise NoSheet(f"'{word}' stands twice")
+        if word == AFTER:
+            given[word] = None
+        elif rest:
+            given[word] = _number(rest.pop(0), LARGEST, "a bound is")
+        else:
+            raise NoSheet(f"'{word}' has no number behind it")
+    if FROM_FINISH in given and AFTER not in given:
+        raise NoSheet(f"'{FROM_FINISH}' stands only beside '{AFTER}' (refusal 26)")
+    return pair, given
+
+
+def from_text(data: bytes) -> Sheet:
+    """The sheet that a text holds; NoSheet with the number of the line that is wrong, counted from 1."""
+    sheet = Sheet()
+    steps: dict[int, tuple[int, str | int]] = {}                     # by number: the line, and what the step is
+    links: dict[tuple[int, int], int] = {}                           # by pair: the line
+    lines = data.removeprefix(b"\xef\xbb\xbf").split(b"\n")
+    line = 0
+    try:
+        for line, raw in enumerate(lines, 1):
+            try:
+                text, _, comment = raw.decode("utf-8").partition("#")
+            except UnicodeDecodeError:
+                raise NoSheet("this is no text") from None
+            words = text.split()
+            if not words:
+                continue
+            if words[0] == "step":
+                v, step, kept = _step_line(words[1:])
+                if v in steps:
+                    raise NoSheet(f"step {v} stands in line {steps[v][0]} already")
+                steps[v] = line, step
+                if kept:
+                    sheet.kept.add(v)
+                if name := "".join(filter(str.isprintable, comment)).strip():
+                    sheet.names[v] = name
+            elif words[0] == "link":
+                pair, given = _link_line(words[1:])
+                if pair in links:
+                    raise NoSheet(f"the pair {pair[0]} {pair[1]} stands in line {links[pair]} already; all that is said of a pair stands in one line")
+                if len(links) == RECORDS:
+                    raise NoSheet(f"a sheet has at most {RECORDS} links")
+                links[pair], sheet.links[pair] = line, given
+            else:
+                raise NoSheet(f"'{words[0]}' is neither 'step' nor 'link'")
+        # What only the whole text can tell.
+        if not steps:
+            raise NoSheet("there is no step; the first is 'step 0 open'")
+        for v, (line, _) in sorted(steps.items()):
+            if v != len(sheet.steps):
+                raise NoSheet(f"step {v} is here, and step {len(sheet.steps)} is missing")
+            sheet.steps.append(steps[v][1])
+        for pair, line in links.items():
+            for v in pair:
+                if v not in steps:
+                    raise NoSheet(f"there is no step {v}")
+    except NoSheet as fault:
+        raise NoSheet(f"line {line}: {fault}") from None
+    return sheet
+
+
+def from_either(data: bytes) -> Sheet:
+    """A sheet from bytes, or from a text. No text is a sheet in bytes: the third byte of a sheet is at most 2."""
+    first = data.removeprefix(b"\xef\xbb\xbf").lstrip()[:1]
+    return from_text(data) if first in (b"s", b"l", b"#") and data[2:3] > b"\x02" else from_bytes(data)
