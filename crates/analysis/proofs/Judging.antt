@@ -5,6 +5,7 @@ use mathlib.Core.List.{List}
 use mathlib.Core.Logic.{_≢_}
 use Prim.Native.Nat.{ℕ, _<_, _≤_}
 use borrow.Author.Tests.{lt-ltb}
+use Rattle.anchors.specs.Sets.{AnchorSets}
 use Rattle.definitions.specs.Answers.{closes-circle, unreached, infeasible, inconsistent, unserializable, judge-edges}
 use Rattle.definitions.specs.Basics.{Outcome, given, refused, refuse-if, when-given}
 use Rattle.definitions.specs.Links.{Edge, members}
@@ -12,15 +13,16 @@ use Rattle.definitions.specs.Rounds.{rounds, stable, source-row}
 use Rattle.definitions.specs.Numbers.{verdict-of, number}
 use Rattle.definitions.specs.Waits.{needs-waits, wait-count}
 use Rattle.definitions.specs.declared.Refusal.{Refusal}
-use Rattle.definitions.specs.declared.Refusal.the-variants.{Inconsistent, Unserializable}
+use Rattle.definitions.specs.declared.Refusal.the-variants.{ForwardCycle, Inconsistent, Unreachable, Unserializable}
+use Rattle.definitions.specs.declared.Status.the-variants as Statuses
 use Rattle.definitions.specs.declared.Verdict.the-variants as Verdicts
 use Rattle.demands.proofs.Sheets.{not-8, not-9, not-10-11}
 use Rattle.laws.proofs.Outcomes.{given-not-refused}
 use Rattle.reach.specs.Pushes.{Reached}
-use Rattle.theory.specs.Graphs.{ForwardAcyclic, Shape, Well}
+use Rattle.theory.specs.Graphs.{ForwardAcyclic, Rooted, Shape, Well}
 use Rattle.waits.specs.Reaching.{Reaches}
 use Rattle.analysis.specs.declared.Analysis.{Analysis}
-use Rattle.analysis.specs.Analysis.{judge-first, judge-waits, judge-rest, Serial, Blank, Serialized, Analysed}
+use Rattle.analysis.specs.Analysis.{judge-order, judge-first, judge-waits, judge-rest, Sorting, Serial, Blank, Serialized, Analysed}
 
 -- Refusals in a row are the first of them, and then the rest.
 split : {A : Type 0} (a b c : Bool) (i j k : ℕ) (rest : Outcome A) → refuse-if a i (refuse-if b j (refuse-if c k rest)) ≡ when-given {A = Unit {0}} (refuse-if a i (refuse-if b j (refuse-if c k (given tt)))) (λ u. rest)
@@ -39,22 +41,69 @@ module _ (n : ℕ) (g : List Edge) where
   unfolding judge-edges judge-first judge-rest judge-waits
   judge-split allow = split (closes-circle n g) (unreached n g) (infeasible n g) 8 9 10 (judge-rest n g allow)
 
-  -- 8 to 10, by their tests.
-  pub first-8 : closes-circle n g ≡ true → judge-first n g ≡ refused 8
-  unfolding judge-first refuse-if
-  first-8 h = rw h
+  -- 8 and 9, by their tests.
+  order-8 : closes-circle n g ≡ true → judge-order n g ≡ refused 8
+  unfolding judge-order refuse-if
+  order-8 h = rw h
 
-  pub first-9 : closes-circle n g ≡ false → unreached n g ≡ true → judge-first n g ≡ refused 9
-  unfolding judge-first refuse-if
-  first-9 h k = rw (h, k)
+  order-9 : closes-circle n g ≡ false → unreached n g ≡ true → judge-order n g ≡ refused 9
+  unfolding judge-order refuse-if
+  order-9 h k = rw (h, k)
 
-  pub first-10 : closes-circle n g ≡ false → unreached n g ≡ false → stable g (rounds g n (source-row n 0)) ≡ false → judge-first n g ≡ refused 10
+  order-done : closes-circle n g ≡ false → unreached n g ≡ false → judge-order n g ≡ given tt
+  unfolding judge-order refuse-if
+  order-done h k = rw (h, k)
+
+  -- What is found for them.
+  module _ (sets : List ℕ) where
+    pub sorting-8 : closes-circle n g ≡ true → Sorting n g sets (Statuses.Refused ForwardCycle)
+    sorting-8 h = record { judges = sym (order-8 h); found = λ f. absurd (given-not-refused (sym f ∙ order-8 h)) }
+
+    pub sorting-9 : closes-circle n g ≡ false → unreached n g ≡ true → Sorting n g sets (Statuses.Refused Unreachable)
+    sorting-9 h k = record { judges = sym (order-9 h k); found = λ f. absurd (given-not-refused (sym f ∙ order-9 h k)) }
+
+    pub sorting-done : closes-circle n g ≡ false → unreached n g ≡ false → AnchorSets n g sets → Sorting n g sets Statuses.Done
+    sorting-done h k a = record { judges = sym (order-done h k); found = λ f. a }
+
+  order-by : (a b : Bool) → refuse-if {A = Unit {0}} a 8 (refuse-if b 9 (given tt)) ≡ given tt → (a ≡ false) × (b ≡ false)
+  unfolding refuse-if
+  order-by true b h = absurd (given-not-refused (sym h))
+  order-by false true h = absurd (given-not-refused (sym h))
+  order-by false false h = (refl, refl)
+
+  order-passed : judge-order n g ≡ given tt → (closes-circle n g ≡ false) × (unreached n g ≡ false)
+  unfolding judge-order
+  order-passed h = order-by (closes-circle n g) (unreached n g) h
+
+  -- What refuses 8 or 9 refuses the first part.
+  refused-on : (a b c : Bool) (k : ℕ) → refuse-if {A = Unit {0}} a 8 (refuse-if b 9 (given tt)) ≡ refused k → refuse-if {A = Unit {0}} a 8 (refuse-if b 9 (refuse-if c 10 (given tt))) ≡ refused k
+  unfolding refuse-if
+  refused-on true b c k h = h
+  refused-on false true c k h = h
+  refused-on false false c k h = absurd (given-not-refused h)
+
+  pub first-refused : (k : ℕ) → judge-order n g ≡ refused k → judge-first n g ≡ refused k
+  unfolding judge-order judge-first
+  first-refused k h = refused-on (closes-circle n g) (unreached n g) (infeasible n g) k h
+
+  -- 10, where it is not 8 or 9.
+  first-10-by : closes-circle n g ≡ false → unreached n g ≡ false → stable g (rounds g n (source-row n 0)) ≡ false → judge-first n g ≡ refused 10
   unfolding judge-first refuse-if infeasible
-  first-10 h k l = rw (h, k, l)
+  first-10-by h k l = rw (h, k, l)
 
-  pub first-done : closes-circle n g ≡ false → unreached n g ≡ false → stable g (rounds g n (source-row n 0)) ≡ true → judge-first n g ≡ given tt
+  first-done-by : closes-circle n g ≡ false → unreached n g ≡ false → stable g (rounds g n (source-row n 0)) ≡ true → judge-first n g ≡ given tt
   unfolding judge-first refuse-if infeasible
-  first-done h k l = rw (h, k, l)
+  first-done-by h k l = rw (h, k, l)
+
+  module _ (passed : judge-order n g ≡ given tt) where
+    pub all-rooted : 1 ≤ n → Shape n (members g) → Rooted n (members g)
+    all-rooted some shape = not-9 some shape (order-passed passed .1)
+
+    pub first-10 : stable g (rounds g n (source-row n 0)) ≡ false → judge-first n g ≡ refused 10
+    first-10 l = let p = order-passed passed in first-10-by (p .0) (p .1) l
+
+    pub first-done : stable g (rounds g n (source-row n 0)) ≡ true → judge-first n g ≡ given tt
+    first-done l = let p = order-passed passed in first-done-by (p .0) (p .1) l
 
   -- 12 and the verdicts, by the count of waits.
   pub waits-none : wait-count n g ≡ 0 → (allow : Bool) → judge-waits n g allow ≡ given 0
@@ -80,6 +129,9 @@ module _ (n : ℕ) (g : List Edge) where
   first-passed : judge-first n g ≡ given tt → (closes-circle n g ≡ false) × (unreached n g ≡ false) × (infeasible n g ≡ false)
   unfolding judge-first
   first-passed h = passed-by (closes-circle n g) (unreached n g) (infeasible n g) h
+
+  pub first-order : judge-first n g ≡ given tt → judge-order n g ≡ given tt
+  first-order h = let p = first-passed h in order-done (p .0) (p .1)
 
   pub passed-well : 1 ≤ n → Shape n (members g) → judge-first n g ≡ given tt → inconsistent n g ≡ false → Well n (members g)
   passed-well some shape h k = let r = first-passed h in not-10-11 some shape (not-9 some shape (r .1)) (r .2) k

@@ -3,16 +3,22 @@ use mathlib.Core.Path.{_≡_}
 use mathlib.Core.Bool.{Bool, true, cond, not, _&&_}
 use mathlib.Core.List.{List}
 use Prim.Native.Nat.{ℕ}
-use lib.ListN.{replicate}
+use lib.ListN.{length, replicate}
+use Rattle.anchors.specs.Sets.{AnchorSets}
 use Rattle.definitions.specs.Answers.{closes-circle, unreached, infeasible, inconsistent, unserializable, judge-edges}
 use Rattle.definitions.specs.Basics.{Outcome, given, refused, refuse-if}
 use Rattle.definitions.specs.Links.{Edge}
-use Rattle.definitions.specs.Numbers.{verdict-of}
+use Rattle.definitions.specs.Numbers.{status-of, verdict-of}
+use Rattle.definitions.specs.declared.Status.{Status}
 use Rattle.definitions.specs.Waits.{wait-maps, wait-count, needs-waits}
 use Rattle.waits.specs.Reaching.{Reaches}
 use Rattle.analysis.specs.declared.Analysis.{Analysis}
+use Rattle.analysis.specs.declared.Found.{Found}
 
--- Judging in two parts: 8 to 10, and from 11 on.
+-- Judging in parts: 8 and 9, with 10, and from 11 on.
+unfoldable pub judge-order : ℕ → List Edge → Outcome (Unit {0})
+judge-order n g = refuse-if (closes-circle n g) 8 (refuse-if (unreached n g) 9 (given tt))
+
 unfoldable pub judge-first : ℕ → List Edge → Outcome (Unit {0})
 judge-first n g = refuse-if (closes-circle n g) 8 (refuse-if (unreached n g) 9 (refuse-if (infeasible n g) 10 (given tt)))
 
@@ -22,8 +28,18 @@ judge-waits n g allow = refuse-if (needs-waits n g && not allow) 12 (given (cond
 unfoldable pub judge-rest : ℕ → List Edge → Bool → Outcome ℕ
 judge-rest n g allow = refuse-if (inconsistent n g) 11 (refuse-if (unserializable n g) 28 (judge-waits n g allow))
 
+-- What is found for 8 and 9: where neither applies, the rows are the anchor sets.
+pub record Sorting (n : ℕ) (g : List Edge) (sets : List ℕ) (r : Status) : Type 0 where
+  pub judges : status-of r tt ≡ judge-order n g
+  pub found : judge-order n g ≡ given tt → AnchorSets n g sets
+
+-- An analysis from its parts.
+abbrev pub whole : Found → List ℕ → List ℕ → List ℕ → Analysis
+whole f order reach maps = record { verdict = f .verdict; order = order; reach = reach; maps = maps; count = f .count }
+
 -- What reaches what, the waits, and their count.
 pub record Serial (n : ℕ) (g : List Edge) (r : Analysis) : Type 0 where
+  pub long : length (r .reach) ≡ 64
   pub reaches : Reaches n g (r .reach)
   pub maps : r .maps ≡ wait-maps n g
   pub count : r .count ≡ wait-count n g

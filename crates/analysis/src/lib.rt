@@ -5,8 +5,8 @@ use definitions::Verdict;
 ghost use mathlib.Core.Path.{_≡_};
 ghost use mathlib.Core.List.{List};
 ghost use Prim.Native.Nat.{ℕ, _≤_};
-ghost use lib.ListN.{length};
-ghost use Rattle.precedence.specs.Chains.{Closed};
+ghost use lib.ListN.{length, replicate};
+ghost use Rattle.anchors.specs.Sets.{AnchorSets};
 ghost use Rattle.definitions.specs.Answers.{unserializable};
 ghost use Rattle.definitions.specs.Basics.{given};
 ghost use Rattle.definitions.specs.Links.{Edge, members};
@@ -16,8 +16,7 @@ ghost use Rattle.definitions.specs.declared.Verdict.the-variants.{Refused};
 ghost use Rattle.adjacency.specs.Lists.{Lists};
 ghost use Rattle.edges.specs.Words.{graph};
 ghost use Rattle.theory.specs.Graphs.{ForwardAcyclic, Gains, Shape, Well};
-ghost use Rattle.waits.specs.Reaching.{Reaches};
-ghost use Rattle.analysis.specs.Analysis.{Analysed, Blank, Serialized, judge-first, judge-waits};
+ghost use Rattle.analysis.specs.Analysis.{Analysed, Serialized, Sorting, judge-first, judge-order, judge-waits, whole};
 
 // The verdict; an order of the steps, for speed alone; what reaches what, bit a of row v; the waits, bit a of map i, and their count.
 pub struct Analysis {
@@ -28,34 +27,79 @@ pub struct Analysis {
     pub count: u32,
 }
 
-fn refused_analysis(k: Refusal) -> Analysis
-    ensures { λ r. ⌜ (r .verdict ≡ Refused k) × Blank r ⌝ }
+// The verdict and the count of the waits: the rest of an analysis is lent.
+pub struct Found {
+    pub verdict: Verdict,
+    pub count: u32,
+}
+
+fn refused(k: Refusal) -> Found
+    ensures { λ r. ⌜ (r .verdict ≡ Refused k) × (r .count ≡ 0) ⌝ }
 {
-    let blank = [0u64; 64];
-    Analysis {
+    Found {
         verdict: Verdict::Refused(k),
-        order: [0u8; 64],
-        reach: blank,
-        maps: blank,
         count: 0,
     }
 }
 
-// Refusals 8, 9 and 10.
-fn first_fault(es: &[u64], lists: &[u16], closed: &[u64; 64], order: &[u8; 64], n: usize) -> Status
-    requires { ⌜ (1 ≤ n) × (n ≤ 64) × (length (now es) ≤ 2048) × Lists (now es) (now lists) ⌝ }
-    ensures { λ r. ⌜ (Closed n (graph (now (es .entry))) (now (closed .entry)) → status-of r tt ≡ judge-first n (graph (now (es .entry)))) ⌝ }
+// The same as `sort`, from what comes before what: where the pass did not get through, forward edges close a circle.
+fn sort_closed(es: &[u64], n: usize, sets: &mut [u64; 64], order: &mut [u8; 64]) -> Status
+    requires { ⌜ n ≤ 64 ⌝ }
+    ensures { λ r. ⌜ (Shape n (members (graph (now (es .entry)))) → Sorting n (graph (now (es .entry))) (now (sets .exit)) r) ⌝ }
 {
-    if precedence::has_cycle(closed, n) {
+    let closed = precedence::forward(es, n);
+    if precedence::has_cycle(&closed, n) {
         return Status::Refused(Refusal::ForwardCycle);
     }
-    if precedence::has_unreached(closed, n) {
+    if precedence::has_unreached(&closed, n) {
         return Status::Refused(Refusal::Unreachable);
     }
+    let targets = anchors::targets(es);
+    *sets = anchors::anchor_sets(&closed, &targets, n);
+    *order = order::order(&closed, n);
+    Status::Done
+}
+
+// Refusals 8 and 9, an order of the steps, and the anchor sets into rows that are blank.
+fn sort(es: &[u64], lists: &[u16], n: usize, sets: &mut [u64; 64], order: &mut [u8; 64]) -> Status
+    requires { ⌜ (1 ≤ n) × (n ≤ 64) × (length (now es) ≤ 2048) × Lists (now es) (now lists) × (now sets ≡ replicate 64 0) × (length (now order) ≡ 64) ⌝ }
+    ensures { λ r. ⌜ (Shape n (members (graph (now (es .entry)))) → Sorting n (graph (now (es .entry))) (now (sets .exit)) r) ⌝ }
+{
+    if !sorting::sort(es, lists, n, sets, order) {
+        return sort_closed(es, n, sets, order);
+    }
+    if precedence::has_unreached(sets, n) {
+        return Status::Refused(Refusal::Unreachable);
+    }
+    Status::Done
+}
+
+// Refusal 10, where it is not 8 or 9.
+fn impossible(es: &[u64], lists: &[u16], order: &[u8; 64], n: usize) -> Status
+    requires { ⌜ (1 ≤ n) × (n ≤ 64) × (length (now es) ≤ 2048) × Lists (now es) (now lists) ⌝ }
+    ensures { λ r. ⌜ (Shape n (members (graph (now (es .entry)))) → judge-order n (graph (now (es .entry))) ≡ given tt → status-of r tt ≡ judge-first n (graph (now (es .entry)))) ⌝ }
+{
     if !feasibility::feasible(es, lists, order, n) {
         return Status::Refused(Refusal::Infeasible);
     }
     Status::Done
+}
+
+// Refusals 8, 9 and 10.
+fn first_fault(
+    es: &[u64],
+    lists: &[u16],
+    sets: &mut [u64; 64],
+    order: &mut [u8; 64],
+    n: usize,
+) -> Status
+    requires { ⌜ (1 ≤ n) × (n ≤ 64) × (length (now es) ≤ 2048) × Lists (now es) (now lists) × (now sets ≡ replicate 64 0) × (length (now order) ≡ 64) ⌝ }
+    ensures { λ r. ⌜ (Shape n (members (graph (now (es .entry)))) → (status-of r tt ≡ judge-first n (graph (now (es .entry)))) × (judge-first n (graph (now (es .entry))) ≡ given tt → AnchorSets n (graph (now (es .entry))) (now (sets .exit)))) ⌝ }
+{
+    match sort(es, lists, n, sets, order) {
+        Status::Refused(k) => Status::Refused(k),
+        Status::Done => impossible(es, lists, order, n),
+    }
 }
 
 // Refusal 12, and the verdict where it does not apply.
@@ -69,16 +113,6 @@ fn waits_verdict(count: u32, allow: bool) -> Verdict
         return Verdict::Serialized;
     }
     Verdict::Refused(Refusal::WaitsNeeded)
-}
-
-// The waits, from what comes before what and what reaches what.
-fn waits_from(es: &[u64], closed: &[u64; 64], reach: &[u64; 64], n: usize) -> [u64; 64]
-    requires { ⌜ n ≤ 64 ⌝ }
-    ensures { λ r. ⌜ (Closed n (graph (now (es .entry))) (now (closed .entry)) → Reaches n (graph (now (es .entry))) (now (reach .entry)) → r ≡ wait-maps n (graph (now (es .entry)))) ⌝ }
-{
-    let targets = anchors::targets(es);
-    let sets = anchors::anchor_sets(closed, &targets, n);
-    waits::wait_maps(es, reach, &sets)
 }
 
 // Refusal 28: waits are needed and cannot be put in.
@@ -99,56 +133,76 @@ fn waits_clash(
     !serializing::can_serialize(es, lists, maps, order, n)
 }
 
-// The analysis from refusal 11 on.
+// The analysis from refusal 11 on, with what reaches what and the waits into rows that are blank.
 fn serialize(
     es: &[u64],
     lists: &[u16],
-    closed: &[u64; 64],
-    order: [u8; 64],
+    sets: &[u64; 64],
+    order: &[u8; 64],
     n: usize,
     allow: bool,
-) -> Analysis
-    requires { ⌜ (1 ≤ n) × (n ≤ 64) × (length (now es) ≤ 2048) × Lists (now es) (now lists) ⌝ }
-    ensures { λ r. ⌜ (Closed n (graph (now (es .entry))) (now (closed .entry)) → Gains (members (graph (now (es .entry)))) 65535 → judge-first n (graph (now (es .entry))) ≡ given tt → Serialized n (graph (now (es .entry))) allow r) ⌝ }
+    reach: &mut [u64; 64],
+    maps: &mut [u64; 64],
+) -> Found
+    requires { ⌜ (1 ≤ n) × (n ≤ 64) × (length (now es) ≤ 2048) × Lists (now es) (now lists) × (now reach ≡ replicate 64 0) × (now maps ≡ replicate 64 0) ⌝ }
+    ensures { λ r. ⌜ (Shape n (members (graph (now (es .entry)))) → AnchorSets n (graph (now (es .entry))) (now (sets .entry)) → Gains (members (graph (now (es .entry)))) 65535 → judge-first n (graph (now (es .entry))) ≡ given tt → Serialized n (graph (now (es .entry))) allow (whole r (now (order .entry)) (now (reach .exit)) (now (maps .exit)))) ⌝ }
 {
-    let reach = reach::reach(es, lists, &order, n);
-    if waits::is_inconsistent(&reach, n) {
-        return refused_analysis(Refusal::Inconsistent);
+    reach::reach(es, lists, order, sets, n, reach);
+    if waits::is_inconsistent(reach, n) {
+        *reach = [0u64; 64];
+        return refused(Refusal::Inconsistent);
     }
-    let maps = waits_from(es, closed, &reach, n);
-    let count = waits::count_waits(&maps, n);
-    if waits_clash(es, lists, &maps, count, &order, n) {
-        return refused_analysis(Refusal::Unserializable);
+    waits::wait_maps(es, reach, sets, maps);
+    let count = waits::count_waits(maps, n);
+    if waits_clash(es, lists, maps, count, order, n) {
+        *reach = [0u64; 64];
+        *maps = [0u64; 64];
+        return refused(Refusal::Unserializable);
     }
     let verdict = waits_verdict(count, allow);
-    Analysis {
+    Found {
         verdict: verdict,
-        order: order,
-        reach: reach,
-        maps: maps,
         count: count,
     }
 }
 
-// The analysis of the edges of a sheet of n steps, with their adjacency lists.
-pub fn analyse(es: &[u64], lists: &[u16], n: usize, allow: bool) -> Analysis
-    requires { ⌜ (1 ≤ n) × (n ≤ 64) × (length (now es) ≤ 2048) × Lists (now es) (now lists) ⌝ }
-    ensures { λ r. ⌜ (Shape n (members (graph (now (es .entry)))) → Gains (members (graph (now (es .entry)))) 65535 → Analysed n (graph (now (es .entry))) allow r) ⌝ }
+// The analysis of the edges of a sheet of n steps, with their adjacency lists, into rows that are blank.
+pub fn judge(
+    es: &[u64],
+    lists: &[u16],
+    n: usize,
+    allow: bool,
+    order: &mut [u8; 64],
+    reach: &mut [u64; 64],
+    maps: &mut [u64; 64],
+) -> Found
+    requires { ⌜ (1 ≤ n) × (n ≤ 64) × (length (now es) ≤ 2048) × Lists (now es) (now lists) × (length (now order) ≡ 64) × (now reach ≡ replicate 64 0) × (now maps ≡ replicate 64 0) ⌝ }
+    ensures { λ r. ⌜ (Shape n (members (graph (now (es .entry)))) → Gains (members (graph (now (es .entry)))) 65535 → Analysed n (graph (now (es .entry))) allow (whole r (now (order .exit)) (now (reach .exit)) (now (maps .exit)))) ⌝ }
 {
-    let closed = precedence::forward(es, n);
-    let order = order::order(&closed, n);
-    match first_fault(es, lists, &closed, &order, n) {
-        Status::Refused(k) => refused_analysis(k),
-        Status::Done => serialize(es, lists, &closed, order, n, allow),
+    let mut sets = [0u64; 64];
+    match first_fault(es, lists, &mut sets, order, n) {
+        Status::Refused(k) => refused(k),
+        Status::Done => serialize(es, lists, &sets, order, n, allow, reach, maps),
     }
 }
 
-// The same, where the lists are still to be made.
+// The same, where the lists and the rows are still to be made.
 pub fn analyse_edges(es: &[u64], n: usize, allow: bool) -> Analysis
     requires { ⌜ (1 ≤ n) × (n ≤ 64) × (length (now es) ≤ 2048) ⌝ }
     ensures { λ r. ⌜ (Shape n (members (graph (now (es .entry)))) → Gains (members (graph (now (es .entry)))) 65535 → Analysed n (graph (now (es .entry))) allow r) ⌝ }
 {
     let mut lists = [0u16; 2112];
     adjacency::list(es, &mut lists);
-    analyse(es, &lists, n, allow)
+    let mut order = [0u8; 64];
+    let mut reach = [0u64; 64];
+    let mut maps = [0u64; 64];
+    let found = judge(es, &lists, n, allow, &mut order, &mut reach, &mut maps);
+    let verdict = found.verdict;
+    Analysis {
+        verdict: verdict,
+        order: order,
+        reach: reach,
+        maps: maps,
+        count: found.count,
+    }
 }

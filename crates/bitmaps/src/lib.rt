@@ -1,11 +1,23 @@
 // Sets of numbers below 64, each a u64: bit k stands where k is a member. Contracts say of every number whether it is a member.
 ghost use mathlib.Core.Path.{_≡_};
 ghost use mathlib.Core.Bool.{not, _&&_, _||_};
-ghost use Prim.Native.Nat.{ℕ, _<_};
-ghost use lib.Dec.{eqb};
+ghost use Prim.Native.Nat.{ℕ, _<_, _≤_};
+ghost use lib.Dec.{eqb, ltb};
 ghost use lib.ListN.{length};
 ghost use Rattle.definitions.specs.Basics.{any-below, select-below, test-bit};
 ghost use Rattle.bitmaps.specs.Members.{Lowest, Highest};
+
+// The numbers below n.
+pub fn below(n: usize) -> u64
+    requires { ⌜ n ≤ 64 ⌝ }
+    ensures { λ r. ⌜ ((k : ℕ) → test-bit r k ≡ ltb k n) ⌝ }
+{
+    if n < 64 {
+        (1 << n) - 1
+    } else {
+        18446744073709551615
+    }
+}
 
 // Whether k is a member.
 pub fn has(m: u64, k: usize) -> bool

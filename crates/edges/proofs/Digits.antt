@@ -3,7 +3,6 @@ use mathlib.Core.Path.{_≡_, ap, _∙_}
 use mathlib.Core.Bool.{Bool}
 use Prim.Native.Nat.{ℕ, _+_, _*_, _/_, _%_, _<_}
 use native.Mathlib.Omega.{arith}
-use native.Mathlib.Nat.{mod-eq-of-lt}
 use lib.Arith.{digits-div, digits-mod}
 use lib.Dec.{eqb}
 use Rattle.edges.specs.Words.{edge, unpack}
@@ -28,10 +27,6 @@ unpack-word f t c b g l h w hf ht hc hb hg hl hh e =
     let s : w / 274877906944 % 16777216 ≡ l = digit-at 274877906944 16777216 (f + t * 64 + c * 4096 + b * 8192 + g * 16384) l h w (omega arith) hl (omega arith) in
     let z : w / 4611686018427387904 % 2 ≡ h = digit-at 4611686018427387904 2 (f + t * 64 + c * 4096 + b * 8192 + g * 16384 + l * 274877906944) h 0 w (omega arith) hh (omega arith) in
     same-edge p q r s (ap (λ (x : ℕ). eqb x 1) u) (ap (λ (x : ℕ). eqb x 1) v) (ap (λ (x : ℕ). eqb x 1) z)
-
--- A number that fits is its own lowest digit.
-pub digit-kept : {x r k : ℕ} → r ≡ x → x < k → r % k ≡ x
-digit-kept {x} {r} {k} e h = ap (λ (y : ℕ). y % k) e ∙ mod-eq-of-lt h
 
 -- The ranges of the fields.
 pub from-small : (w : ℕ) → unpack w .from < 64

@@ -1,11 +1,11 @@
 // Edges held as words: see specs/Words.antt.
 ghost use mathlib.Core.Path.{_≡_};
-ghost use mathlib.Core.Bool.{true, false, not, _&&_};
+ghost use mathlib.Core.Bool.{not, _&&_};
 ghost use Prim.Native.Nat.{ℕ, _<_};
 ghost use lib.Dec.{eqb};
 ghost use Rattle.definitions.specs.Basics.{test-bit};
 ghost use Rattle.definitions.specs.Links.{late-into};
-ghost use Rattle.edges.specs.Words.{edge, unpack, Fit};
+ghost use Rattle.edges.specs.Words.{edge, unpack};
 
 // The fields of a word.
 pub fn edge_from(w: u64) -> usize
@@ -60,28 +60,8 @@ pub fn usable_by(m: u64, w: u64) -> u64
     m
 }
 
-// A number that fits the wider type, with its range.
-fn wide8(x: u8) -> u64
-    ensures { λ r. ⌜ (r ≡ x) × (r < 256) ⌝ }
-{
-    x as u64
-}
-
-fn wide32(x: u32) -> u64
-    ensures { λ r. ⌜ r ≡ x ⌝ }
-{
-    x as u64
-}
-
-// A mark as a digit.
-fn digit(mark: bool) -> u64
-    ensures { λ r. ⌜ (eqb r 1 ≡ mark) × (r < 2) ⌝ }
-{
-    if mark { 1 } else { 0 }
-}
-
-// The word of seven digits.
-fn word(from: u64, to: u64, counted: u64, back: u64, gain: u64, loss: u64, late: u64) -> u64
+// The word of an edge, from its seven digits.
+pub fn word(from: u64, to: u64, counted: u64, back: u64, gain: u64, loss: u64, late: u64) -> u64
     requires { ⌜ (from < 64) × (to < 64) × (counted < 2) × (back < 2) × (gain < 16777216) × (loss < 16777216) × (late < 2) ⌝ }
     ensures { λ r. ⌜ unpack r ≡ edge from to gain loss (eqb counted 1) (eqb back 1) (eqb late 1) ⌝ }
 {
@@ -92,26 +72,4 @@ fn word(from: u64, to: u64, counted: u64, back: u64, gain: u64, loss: u64, late:
         + gain * 16384
         + loss * 274877906944
         + late * 4611686018427387904
-}
-
-// The word of an edge whose fields fit. Others are cut down to their low digits, which is not promised.
-pub fn pack(from: u8, to: u8, gain: u32, loss: u32, counted: bool, back: bool, late: bool) -> u64
-    ensures { λ r. ⌜ (Fit from to → gain < 16777216 → loss < 16777216 → unpack r ≡ edge from to gain loss counted back late) ⌝ }
-{
-    let f = wide8(from) % 64;
-    let t = wide8(to) % 64;
-    let g = wide32(gain) % 16777216;
-    let l = wide32(loss) % 16777216;
-    let c = digit(counted);
-    let b = digit(back);
-    let h = digit(late);
-    word(f, t, c, b, g, l, h)
-}
-
-// The word of a wait of i for a.
-pub fn wait_word(a: usize, i: usize) -> u64
-    requires { ⌜ (a < 64) × (i < 64) ⌝ }
-    ensures { λ r. ⌜ unpack r ≡ edge a i 0 0 true false false ⌝ }
-{
-    pack(a as u8, i as u8, 0, 0, true, false, false)
 }

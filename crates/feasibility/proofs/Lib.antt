@@ -1,3 +1,4 @@
+pub mod Handing
 pub mod Pushing
 pub mod Passing
 pub mod Searching

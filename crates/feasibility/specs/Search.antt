@@ -1,32 +1,82 @@
--- A search on one row of cells. Bit v of a map of marks stands where the cell of step v was raised since v last handed on. The terms are those of relaxation's specs/Columns.antt.
+-- A search on one row of cells. Bit v of a map of marks stands where the cell of step v was raised since v last handed on.
 use mathlib.Core.Path.{_≡_}
 use mathlib.Core.Bool.{Bool, true, false}
+use mathlib.Core.Logic.{_⊎_}
 use mathlib.Core.List.{List}
-use Prim.Native.Nat.{ℕ, _<_}
+use Prim.Native.Nat.{ℕ, _+_, _*_, _<_, _≤_}
 use lib.ListN.{length}
 use Rattle.definitions.specs.Basics.{test-bit}
-use Rattle.definitions.specs.Links.{Graph, Walk}
+use Rattle.definitions.specs.Links.{Edge, Graph, Walk}
 use Rattle.definitions.specs.Rounds.{cell}
-use Rattle.relaxation.specs.Columns.{Handed, Swept}
+
+-- The cell of the weight 0, at which every cell begins. An edge gains and loses less than that, so that no sum is below 0.
+abbrev pub ground : ℕ
+ground = 16777216
+
+-- The graph of one edge.
+abbrev pub Only : Edge → Graph
+Only e x = x ≡ e
+
+-- The cell of v is what an edge out of u makes of own.
+pub record Came (E : Graph) (u own : ℕ) (s : ℕ → ℕ) (v : ℕ) : Type 0 where
+  pub edge : Edge
+  pub mem : E edge
+  pub leaves : edge .from ≡ u
+  pub ends : edge .to ≡ v
+  pub weighs : s v + edge .loss ≡ own + edge .gain
 
 -- A mark that is new stands where a cell grew.
 abbrev pub Grows : (ℕ → ℕ) → (ℕ → ℕ) → (ℕ → Bool) → (ℕ → Bool) → Type 0
 Grows r s f g = (v : ℕ) → g v ≡ true → f v ≡ false → r v < s v
 
--- Edges of a graph on a row and its marks, some of them one or more times; each edge out of u has handed on. Of the edges noted on the way only that they are in an array of 64 is said.
-pub record Pushed (E : Graph) (u : ℕ) (row row′ via′ : List ℕ) (m m′ : ℕ) : Type 0 where
-  pub long : length row′ ≡ 64
-  pub noted : length via′ ≡ 64
-  pub handed : Handed E u true (cell row) (cell row′) (test-bit m) (test-bit m′)
-  pub grows : Grows (cell row) (cell row′) (test-bit m) (test-bit m′)
+-- Edges out of u, whose cell held own, on a row and its marks; each has handed on. No mark is taken away, and a cell that is raised gets one.
+pub record Handed (E : Graph) (u own : ℕ) (r s : ℕ → ℕ) (f g : ℕ → Bool) : Type 0 where
+  pub up : (v : ℕ) → r v ≤ s v
+  pub hands : (e : Edge) → E e → e .from ≡ u → own + e .gain ≤ s (e .to) + e .loss
+  pub came : (v : ℕ) → (s v ≡ r v) ⊎ Came E u own s v
+  pub marks : (v : ℕ) → f v ≡ true → g v ≡ true
+  pub marked : (v : ℕ) → g v ≡ false → s v ≡ r v
+  pub grows : Grows r s f g
 
--- Steps hand on, one after another: those of On at least once. A step of On has a mark after that only where its cell grew.
-pub record Passed (E : Graph) (On : ℕ → Type 0) (row row′ via′ : List ℕ) (m m′ : ℕ) : Type 0 where
+-- The same on a row of 64 cells. Of the edges noted on the way only that they are in an array of 64 is said.
+pub record Pushed (E : Graph) (u own : ℕ) (row row′ via′ : List ℕ) (m m′ : ℕ) : Type 0 where
   pub long : length row′ ≡ 64
   pub noted : length via′ ≡ 64
-  pub swept : Swept E On (cell row) (cell row′) (test-bit m) (test-bit m′)
-  pub grows : Grows (cell row) (cell row′) (test-bit m) (test-bit m′)
-  pub clears : (v : ℕ) → On v → test-bit m′ v ≡ true → cell row v < cell row′ v
+  pub handed : Handed E u own (cell row) (cell row′) (test-bit m) (test-bit m′)
+
+-- Some walk to v weighs what its cell says, or more.
+pub record Attained (E : Graph) (r : ℕ → ℕ) (v : ℕ) : Type 0 where
+  pub x : ℕ
+  pub k : ℕ
+  pub p : ℕ
+  pub q : ℕ
+  pub walk : Walk E x v k p q
+  pub weighs : r v + q ≤ ground + p
+
+-- Steps without a mark have handed on all that they have.
+abbrev pub Covered : Graph → (ℕ → ℕ) → (ℕ → Bool) → Type 0
+Covered E r f = (e : Edge) → E e → f (e .from) ≡ false → r (e .from) + e .gain ≤ r (e .to) + e .loss
+
+-- At most c visits, one after another, in which steps hand on: those of On at least once. A step without a mark has handed on all; a step of On has one after that only where its cell grew.
+pub record Swept (E : Graph) (On : ℕ → Type 0) (c : ℕ) (r s : ℕ → ℕ) (f g : ℕ → Bool) : Type 0 where
+  pub up : (v : ℕ) → r v ≤ s v
+  pub attained : ((v : ℕ) → Attained E r v) → (v : ℕ) → Attained E s v
+  pub small : (b : ℕ) → ((v : ℕ) → r v ≤ b) → (v : ℕ) → s v ≤ b + ground * c
+  pub covers : Covered E r f → Covered E s g
+  pub hands : Covered E r f → (e : Edge) → E e → On (e .from) → r (e .from) + e .gain ≤ s (e .to) + e .loss
+  pub grows : Grows r s f g
+  pub clears : (v : ℕ) → On v → g v ≡ true → r v < s v
+
+pub record Passed (E : Graph) (On : ℕ → Type 0) (c : ℕ) (row row′ via′ : List ℕ) (m m′ : ℕ) : Type 0 where
+  pub long : length row′ ≡ 64
+  pub noted : length via′ ≡ 64
+  pub swept : Swept E On c (cell row) (cell row′) (test-bit m) (test-bit m′)
+
+-- A row on which c more visits reach no number that is too large.
+pub record Room (c : ℕ) (row : List ℕ) : Type 0 where
+  pub long : length row ≡ 64
+  pub least : (v : ℕ) → v < 64 → ground ≤ cell row v
+  pub below : (v : ℕ) → cell row v + ground * c ≤ 18446744073709551615
 
 -- A closed walk that weighs more than 0.
 pub record Circle (E : Graph) : Type 0 where

@@ -5,6 +5,10 @@ use mathlib.Core.List.{List}
 use Prim.Native.Nat.{ℕ, _+_, _*_, _≤_, _<_}
 use native.Mathlib.Omega.{arith}
 use lib.ListN.{length, getD, drop}
+use lib.Dec.{ltb}
+use mathlib.Core.Logic.{inl, inr}
+use borrow.Author.Tests.{ltb-true, ltb-false}
+use Rattle.laws.proofs.Bools.{bool-cases}
 use Rattle.definitions.specs.Basics.{given, refused, when-given}
 use Rattle.definitions.specs.Bytes.{byte, two-bytes, ticks-if, bound-from}
 use Rattle.definitions.specs.declared.Bound.the-variants.{Absent, Ticks}
@@ -14,13 +18,17 @@ use Rattle.fields.specs.Answers.{item-at}
 
 -- A number of two bytes.
 module _ (s : List ℕ) (at : ℕ) where
-  pub number-none : length s ≤ at → two-bytes (drop at s) ≡ refused 1
+  number-missing : length s ≤ at → two-bytes (drop at s) ≡ refused 1
   unfolding two-bytes byte when-given
-  number-none h = rw (drop-end s at h)
+  number-missing h = rw (drop-end s at h)
 
-  pub number-half : at < length s → length s ≤ at + 1 → two-bytes (drop at s) ≡ refused 1
+  number-half : at < length s → length s ≤ at + 1 → two-bytes (drop at s) ≡ refused 1
   unfolding two-bytes byte when-given
   number-half h k = rw (drop-byte s at h, drop-end s (at + 1) k)
+
+  -- One byte is there, or none.
+  pub number-none : length s ≤ at + 1 → two-bytes (drop at s) ≡ refused 1
+  number-none h = elim (bool-cases (ltb at (length s))) [ inl k ↦ number-half (ltb-true at (length s) k) h | inr k ↦ number-missing (ltb-false at (length s) k) ]
 
   pub number-there : at + 1 < length s → two-bytes (drop at s) ≡ item-at s (getD s at 0 + 256 * getD s (at + 1) 0) (at + 1 + 1)
   unfolding two-bytes byte when-given

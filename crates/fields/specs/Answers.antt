@@ -6,11 +6,8 @@ use lib.ListN.{length, take, drop}
 use Rattle.definitions.specs.Basics.{Outcome, given, refused}
 use Rattle.definitions.specs.Numbers.{number}
 use Rattle.definitions.specs.Bytes.{Taken, Parser, two-bytes, padded}
-use Rattle.definitions.specs.declared.Bound.{Bound}
 use Rattle.fields.specs.declared.NumberRead.{NumberRead}
-use Rattle.fields.specs.declared.BoundRead.{BoundRead}
 use Rattle.fields.specs.declared.NumberRead.the-variants as Numbers
-use Rattle.fields.specs.declared.BoundRead.the-variants as Bounds
 
 -- An item of the bytes s, which ends before the place `next`.
 abbrev pub item-at : {A : Type 0} → List ℕ → A → ℕ → Outcome (Taken A)
@@ -19,10 +16,6 @@ item-at s x next = given (record { value = x; rest = drop next s })
 abbrev pub number-read : List ℕ → NumberRead → Outcome (Taken ℕ)
 number-read s (Numbers.Item x next) = item-at s x next
 number-read s (Numbers.Refused k) = refused (number k)
-
-abbrev pub bound-read : List ℕ → BoundRead → Outcome (Taken Bound)
-bound-read s (Bounds.Item x next) = item-at s x next
-bound-read s (Bounds.Refused k) = refused (number k)
 
 -- The place after a number; 0 beside a refusal.
 abbrev pub number-end : NumberRead → ℕ

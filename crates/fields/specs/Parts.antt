@@ -1,4 +1,4 @@
--- A part of the definitions' parser of a link record that `read_bound` takes over, and what a parser makes of the bytes.
+-- A part of the definitions' parser of a link record, and what a parser makes of the bytes.
 use mathlib.Core.Bool.{Bool}
 use mathlib.Core.List.{List}
 use Prim.Native.Nat.{ℕ}

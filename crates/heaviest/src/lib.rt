@@ -1,97 +1,151 @@
-// Heaviest walks for every anchor at once: sweeps over the steps of a sheet until nothing is left to hand on.
+// Heaviest walks for every anchor at once: the columns of the anchors are numbered and begun, steps hand on until nothing is left to hand on, and the columns go back to the places of their anchors.
 use relations::transpose;
-use seeding::seed_waits;
-use seeding::seed_words;
+use seeding::column_of;
+use seeding::seed;
 use sweeps::sweep;
 ghost use mathlib.Core.Path.{_≡_};
+ghost use mathlib.Core.Bool.{true};
 ghost use mathlib.Core.List.{_++_};
 ghost use Prim.Native.Nat.{ℕ, _<_, _≤_};
-ghost use lib.Dec.{eqb};
-ghost use lib.ListN.{length, getD};
+ghost use lib.ListN.{getD, length};
 ghost use Rattle.adjacency.specs.Lists.{Lists};
 ghost use Rattle.definitions.specs.Anchors.{WellPosed};
-ghost use Rattle.definitions.specs.Basics.{all-below};
+ghost use Rattle.definitions.specs.Basics.{test-bit};
 ghost use Rattle.definitions.specs.Links.{members};
 ghost use Rattle.definitions.specs.Plan.{offset-row};
 ghost use Rattle.definitions.specs.Rounds.{cell};
 ghost use Rattle.edges.specs.Serial.{wait-edges};
 ghost use Rattle.edges.specs.Words.{graph};
-ghost use Rattle.relaxation.specs.Columns.{Square, entry};
-ghost use Rattle.sweeps.specs.Graphs.{Both};
+ghost use Rattle.relations.specs.Rows.{row-bit};
+ghost use Rattle.relaxation.specs.Columns.{Square, entry, value};
+ghost use Rattle.seeding.specs.Seeds.{Blank, Empty};
 ghost use Rattle.theory.specs.Graphs.{Gains, Well};
-ghost use Rattle.heaviest.specs.Settling.{First, FirstMarks, SettlingAll, Within};
+ghost use Rattle.heaviest.specs.Settling.{SettledBy, Spread, Supported, Within};
 
-// The empty walk at the source, and its mark.
-pub fn first_table() -> [[u32; 64]; 64]
-    ensures { λ d. ⌜ First d ⌝ }
+// A table without walks.
+pub fn empty_table() -> [[u32; 64]; 64]
+    ensures { λ d. ⌜ Empty d ⌝ }
 {
-    let mut d = [[0u32; 64]; 64];
-    d[0][0] = 1;
-    d
+    [[0u32; 64]; 64]
 }
 
-fn first_marks() -> [u64; 64]
-    ensures { λ r. ⌜ FirstMarks r ⌝ }
+// Numbers of which no step has one.
+fn no_numbers() -> [u8; 64]
+    ensures { λ r. ⌜ Blank r ⌝ }
 {
-    let mut fresh = [0u64; 64];
-    fresh[0] = 1;
-    fresh
+    [64u8; 64]
 }
 
-// Whether no step below n has anything left to hand on.
-fn quiet(fresh: &[u64; 64], n: usize) -> bool
+// A number below 64.
+fn step_of(x: u8) -> usize
+    ensures { λ r. ⌜ r < 64 ⌝ }
+{
+    (x % 64) as usize
+}
+
+// The places of the steps of an order. They decide speed alone, so nothing is promised.
+fn places(order: &[u8; 64], n: usize) -> [u8; 64]
     requires { ⌜ n ≤ 64 ⌝ }
-    ensures { λ r. ⌜ r ≡ all-below (λ v. eqb (getD (now (fresh .entry)) v 0) 0) n ⌝ }
 {
-    let mut v = 0;
-    while v < n {
-        if fresh[v] != 0 {
-            return false;
-        }
-        v += 1;
+    let mut place = [0u8; 64];
+    let mut k = 0;
+    while k < n {
+        let v = step_of(order[k]);
+        place[v] = k as u8;
+        k += 1;
     }
-    true
+    place
 }
 
-// n sweeps, or fewer where nothing is left to hand on.
+// n sweeps, or fewer where nothing is left to hand on. At first every step has a mark.
 fn settle(
     d: &mut [[u32; 64]; 64],
-    fresh: &mut [u64; 64],
     es: &[u64],
     lists: &[u16],
     waiting: &[u64; 64],
     order: &[u8; 64],
+    number: &[u8; 64],
+    width: usize,
     n: usize,
 )
-    requires { ⌜ (n ≤ 64) × (length (now es) ≤ 2048) × Lists (now es) (now lists) × Square (now d) × (length (now fresh) ≡ 64) ⌝ }
-    ensures { λ r. ⌜ SettlingAll (Both (now (es .entry)) (now (waiting .entry))) n n (now (d .entry)) (now (d .exit)) (now (fresh .entry)) (now (fresh .exit)) ⌝ }
+    requires { ⌜ (n ≤ 64) × (width ≤ 64) × (length (now es) ≤ 2048) × Lists (now es) (now lists) × Square (now d) ⌝ }
+    ensures { λ r. ⌜ SettledBy (now (es .entry)) (now (waiting .entry)) (now (number .entry)) width n (now (d .entry)) (now (d .exit)) ⌝ }
 {
+    let place = places(order, n);
+    let mut marks = bitmaps::below(n);
     let mut k = 0;
     while k < n {
-        if quiet(fresh, n) {
+        if marks == 0 {
             return;
         }
-        sweep(d, fresh, es, lists, waiting, order, n);
+        marks = sweep(
+            d,
+            marks,
+            es,
+            lists,
+            waiting,
+            order,
+            &place,
+            number,
+            width,
+            n,
+        );
         k += 1;
     }
 }
 
-// At [v][a] the cell of step v for anchor a, over the edges and the waits that maps hold. The order decides speed alone.
+// What a cell says.
+fn weight_of(c: u32) -> u32
+    ensures { λ r. ⌜ r ≡ value c ⌝ }
+{
+    if c < 1073741824 { 0 } else { c - 1073741823 }
+}
+
+// Row v says at each member of a map what its column says. No number is above its step, so the highest member goes first and nothing is lost. Other cells are left over from columns.
+fn spread_row(d: &mut [[u32; 64]; 64], number: &[u8; 64], map: u64, v: usize)
+    requires { ⌜ (v < 64) × Square (now d) × ((a : ℕ) → a < 64 → test-bit map a ≡ true → getD (now number) a 0 ≤ a) ⌝ }
+    ensures { λ r. ⌜ Spread (now (number .entry)) (λ w. w ≡ v) (λ w a. test-bit map a) (now (d .entry)) (now (d .exit)) ⌝ }
+{
+    let mut left = map;
+    while left != 0 {
+        let a = bitmaps::highest(left);
+        let k = column_of(number[a]);
+        d[v][a] = weight_of(d[v][k]);
+        left = bitmaps::remove(left, a);
+    }
+}
+
+// The same for every row below n.
+fn spread_rows(d: &mut [[u32; 64]; 64], number: &[u8; 64], sets: &[u64; 64], n: usize)
+    requires { ⌜ (n ≤ 64) × Square (now d) × ((v a : ℕ) → v < n → a < 64 → row-bit (now sets) v a ≡ true → getD (now number) a 0 ≤ a) ⌝ }
+    ensures { λ r. ⌜ Spread (now (number .entry)) (λ w. w < n) (row-bit (now (sets .entry))) (now (d .entry)) (now (d .exit)) ⌝ }
+{
+    let mut v = 0;
+    while v < n {
+        spread_row(d, number, sets[v], v);
+        v += 1;
+    }
+}
+
+// At [v][a] the cell of step v for anchor a, over the edges and the waits that maps hold, where a is a member of row v of sets: for an anchor whose members in sets are the steps that its walks reach.
+// The order decides speed alone.
 pub fn walks(
     d: &mut [[u32; 64]; 64],
     es: &[u64],
     lists: &[u16],
     maps: &[u64; 64],
+    sets: &[u64; 64],
     order: &[u8; 64],
     n: usize,
 )
-    requires { ⌜ (n ≤ 64) × (length (now es) ≤ 2048) × Lists (now es) (now lists) × First (now d) ⌝ }
+    requires { ⌜ (n ≤ 64) × (length (now es) ≤ 2048) × Lists (now es) (now lists) × Empty (now d) ⌝ }
     ensures square { λ r. ⌜ Square (now (d .exit)) ⌝ }
-    ensures cells { λ r. ⌜ (Within n (now (maps .entry)) → Well n (members (graph (now (es .entry)) ++ wait-edges n (now (maps .entry)))) → WellPosed (members (graph (now (es .entry)) ++ wait-edges n (now (maps .entry)))) → Gains (members (graph (now (es .entry)) ++ wait-edges n (now (maps .entry)))) 65535 → (a v : ℕ) → a < n → v < n → entry (now (d .exit)) v a ≡ cell (offset-row n (graph (now (es .entry)) ++ wait-edges n (now (maps .entry))) a) v) ⌝ }
+    ensures cells { λ r. ⌜ (Within n (now (maps .entry)) → Well n (members (graph (now (es .entry)) ++ wait-edges n (now (maps .entry)))) → WellPosed (members (graph (now (es .entry)) ++ wait-edges n (now (maps .entry)))) → Gains (members (graph (now (es .entry)) ++ wait-edges n (now (maps .entry)))) 65535 → (a : ℕ) → a < n → Supported n (graph (now (es .entry)) ++ wait-edges n (now (maps .entry))) (now (sets .entry)) a → (v : ℕ) → v < n → row-bit (now (sets .entry)) v a ≡ true → entry (now (d .exit)) v a ≡ cell (offset-row n (graph (now (es .entry)) ++ wait-edges n (now (maps .entry))) a) v) ⌝ }
 {
-    let waiting = transpose(maps, n);
-    let mut fresh = first_marks();
-    seed_words(d, &mut fresh, es);
-    seed_waits(d, &mut fresh, &waiting, n);
-    settle(d, &mut fresh, es, lists, &waiting, order, n);
+    let mut waiting = [0u64; 64];
+    transpose(maps, n, &mut waiting);
+    let mut number = no_numbers();
+    let width = seed(d, &mut number, es, sets, n);
+    settle(d, es, lists, &waiting, order, &number, width, n);
+    spread_rows(d, &number, sets, n);
 }

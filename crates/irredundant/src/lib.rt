@@ -1,12 +1,13 @@
 // Deciding sets (irredundant anchor sets), read off the working tables: heaviest walks and anchor sets.
 // d: cell a of row v is 0 where no walk comes from a to v, w + 1 for the weight w. sets: bit a of map v stands where a is in the anchor set of v.
-// Every function is safe for any tables; on those of an edge list its answer is the definition's.
+// Every function is safe for any tables; on orderly ones, as those of an accepted sheet are, its answer is the definition's.
 ghost use mathlib.Core.Path.{_≡_};
 ghost use mathlib.Core.Bool.{not, _&&_};
-ghost use Prim.Native.Nat.{ℕ, _+_, _-_, _<_, max};
-ghost use lib.Dec.{eqb, leb};
+ghost use Prim.Native.Nat.{ℕ, _+_, _-_, _<_, _≤_};
+ghost use lib.Dec.{eqb, ltb};
+ghost use lib.ListN.{getD};
 ghost use Rattle.definitions.specs.Basics.{test-bit};
-ghost use Rattle.irredundant.specs.Working.{weight, reaching, covering, deciding};
+ghost use Rattle.irredundant.specs.Working.{Full, Orderly, entry, weight, reaching, covering, deciding};
 
 // The weight that a cell holds, 0 where there is none.
 fn weight_of(c: u32) -> u32
@@ -26,31 +27,19 @@ pub fn offset_at(d: &[[u32; 64]; 64], v: usize, a: usize) -> u32
     weight_of(d[v][a])
 }
 
-// A cell as that of an offset: one without a walk counts as offset 0.
-fn one_or_more(c: u32) -> u32
-    ensures { λ r. ⌜ r ≡ max c 1 ⌝ }
+// Whether two numbers together are more than one.
+fn sum_passes(x: u32, y: u32, z: u32) -> bool
+    ensures { λ r. ⌜ r ≡ ltb z (x + y) ⌝ }
 {
-    if c == 0 {
-        return 1;
-    }
-    c
+    (z as u64) < (x as u64) + (y as u64)
 }
 
-// Whether two numbers together are as much as one.
-fn sum_reaches(x: u32, y: u32, z: u32) -> bool
-    ensures { λ r. ⌜ r ≡ leb x (y + z) ⌝ }
-{
-    (x as u64) <= (y as u64) + (z as u64)
-}
-
-// Whether the way from a over b comes to v as late as a itself. Two of the offsets are compared by their cells.
+// Whether the way from a over b comes to v as late as a itself. The cells of offsets are compared: each is one more than its offset.
 fn reaches(d: &[[u32; 64]; 64], v: usize, a: usize, b: usize) -> bool
     requires { ⌜ (v < 64) × (a < 64) × (b < 64) ⌝ }
-    ensures { λ r. ⌜ r ≡ reaching (now (d .entry)) v a b ⌝ }
+    ensures { λ r. ⌜ (1 ≤ entry (now (d .entry)) v a → 1 ≤ entry (now (d .entry)) b a → 1 ≤ entry (now (d .entry)) v b → r ≡ reaching (now (d .entry)) v a b) ⌝ }
 {
-    let y = one_or_more(d[b][a]);
-    let z = offset_at(d, v, b);
-    sum_reaches(d[v][a], y, z)
+    sum_passes(d[b][a], d[v][b], d[v][a])
 }
 
 // The map without a, where a is out.
@@ -67,7 +56,7 @@ fn remove_if(map: u64, a: usize, out: bool) -> u64
 // The map without those of the given ones from which the way over b reaches.
 fn without_reached(d: &[[u32; 64]; 64], v: usize, b: usize, map: u64, given: u64) -> u64
     requires { ⌜ (v < 64) × (b < 64) ⌝ }
-    ensures { λ r. ⌜ ((a : ℕ) → test-bit r a ≡ (test-bit map a && not (test-bit given a && reaching (now (d .entry)) v a b))) ⌝ }
+    ensures { λ r. ⌜ (1 ≤ entry (now (d .entry)) v b → Full (now (d .entry)) v given → Full (now (d .entry)) b given → (a : ℕ) → test-bit r a ≡ (test-bit map a && not (test-bit given a && reaching (now (d .entry)) v a b))) ⌝ }
 {
     let mut kept = map;
     let mut left = given;
@@ -83,24 +72,25 @@ fn without_reached(d: &[[u32; 64]; 64], v: usize, b: usize, map: u64, given: u64
 // The map without those that b leaves out of the deciding set of v: only members of b's own anchor set are compared.
 fn without_covered(d: &[[u32; 64]; 64], sets: &[u64; 64], v: usize, b: usize, map: u64) -> u64
     requires { ⌜ (v < 64) × (b < 64) ⌝ }
-    ensures { λ r. ⌜ ((a : ℕ) → test-bit r a ≡ (test-bit map a && not (covering (now (d .entry)) (now (sets .entry)) v a b))) ⌝ }
+    ensures { λ r. ⌜ (1 ≤ entry (now (d .entry)) v b → Full (now (d .entry)) v map → Full (now (d .entry)) b (getD (now (sets .entry)) b 0) → (a : ℕ) → test-bit r a ≡ (test-bit map a && not (covering (now (d .entry)) (now (sets .entry)) v a b))) ⌝ }
 {
     let behind = bitmaps::remove(sets[b], b);
     let given = bitmaps::both(map, behind);
     without_reached(d, v, b, map, given)
 }
 
-// The deciding set of v: its anchor set without those that a member leaves out. The largest members are often the latest and leave out most, so they come first.
+// The deciding set of v: its anchor set without those that a member leaves out. The largest members are often the latest and leave out most, so they come first; a member that is out is not asked whom it leaves out.
 pub fn deciding_set(d: &[[u32; 64]; 64], sets: &[u64; 64], v: usize) -> u64
     requires { ⌜ v < 64 ⌝ }
-    ensures { λ r. ⌜ ((a : ℕ) → test-bit r a ≡ deciding (now (d .entry)) (now (sets .entry)) v a) ⌝ }
+    ensures { λ r. ⌜ (Orderly (now (d .entry)) (now (sets .entry)) v → (a : ℕ) → test-bit r a ≡ deciding (now (d .entry)) (now (sets .entry)) v a) ⌝ }
 {
     let mut kept = sets[v];
     let mut left = sets[v];
     while left != 0 {
         let b = bitmaps::highest(left);
         kept = without_covered(d, sets, v, b, kept);
-        left = bitmaps::remove(left, b);
+        let less = bitmaps::remove(left, b);
+        left = bitmaps::both(less, kept);
     }
     kept
 }

@@ -3,28 +3,26 @@ use mathlib.Core.Path.{_≡_, refl, sym, ap, subst, _∙_}
 use mathlib.Core.Bool.{Bool, true, false, not, _&&_, _||_}
 use mathlib.Core.Logic.{_⊎_, inl, inr}
 use mathlib.Core.List.{List, [], _∷_}
-use Prim.Native.Nat.{ℕ, _+_, _≤_, _<_}
+use Prim.Native.Nat.{ℕ, _+_, _*_, _≤_, _<_}
 use native.Mathlib.Omega.{arith}
-use lib.Dec.{T, leb, ltb}
+use lib.Dec.{T, leb, ltb, eqb}
 use lib.ListN.{length, getD, drop}
 use mir.Val.{hasKey}
 use types.Run.{OneOf, hit}
-use borrow.Author.Tests.{leb-true, not-true, le-ltb, eq-eqb, ne-eqb, lt-leb}
+use borrow.Author.Tests.{leb-true, ltb-true, ltb-false, eqb-false, not-true, lt-ltb, le-ltb, lt-leb, le-leb, eq-eqb, ne-eqb}
 use Rattle.definitions.specs.Basics.{all, all-below, test-bit, given, refused, when-given}
 use Rattle.definitions.specs.Bytes.{_>>=_, give, demand, byte, ticks-if, link-map, sequenced, endpoints, rises, bound-from, link}
 use Rattle.definitions.specs.declared.Previous.{Previous}
-use Rattle.definitions.specs.declared.Previous.the-variants.{Pair}
+use Rattle.definitions.specs.declared.Previous.the-variants.{Nothing, Pair}
 use Rattle.definitions.specs.declared.Bound.{Bound}
-use Rattle.laws.proofs.Bools.{both-ways, and-split, or-split, not-passing}
+use Rattle.laws.proofs.Bools.{both-ways, bool-cases, same-or-not, and-split, or-split, not-passing}
 use Rattle.laws.proofs.Tests.{all-below-each}
 use Rattle.laws.proofs.Parsers.{when-given-twice, drop-byte, drop-end}
 use Rattle.fields.specs.Parts.{bound}
+use Rattle.link_record.specs.Answers.{Ranked, allowed, late-allowed, map-refusal}
 use Rattle.link_record.specs.Parts.{link-latest, link-fields, link-pair}
 
--- What a map is taken for: allowed; or 26, bit 4 without bit 0. Any other is 4.
-abbrev pub allowed : ℕ → Bool
-allowed m = link-map m && sequenced m
-
+-- A map that is refused with 26: bit 4 without bit 0.
 abbrev pub unsequenced : ℕ → Bool
 unsequenced m = link-map m && not (sequenced m)
 
@@ -37,15 +35,15 @@ keys-pass test (k₀ ∷ (k₁ ∷ ks)) m h (inl e) = ap test e ∙ and-split (t
 keys-pass test (k₀ ∷ (k₁ ∷ ks)) m h (inr k) = keys-pass test (k₁ ∷ ks) m (and-split (test k₀) (all test (k₁ ∷ ks)) h .1) k
 
 -- The maps with bits 0 and 4, and those with bit 4 and without bit 0.
-abbrev pub finish-maps : List ℕ
+abbrev finish-maps : List ℕ
 finish-maps = 17 ∷ 19 ∷ 21 ∷ 23 ∷ []
 
-abbrev pub alone-maps : List ℕ
+abbrev alone-maps : List ℕ
 alone-maps = 16 ∷ 18 ∷ 20 ∷ 22 ∷ []
 
-pub map-finish : (m : ℕ) → OneOf finish-maps m → allowed m ≡ true
+pub map-late : (m : ℕ) → OneOf finish-maps m → late-allowed m ≡ true
 unfolding all link-map sequenced test-bit
-map-finish m k = keys-pass allowed finish-maps m refl k
+map-late m k = keys-pass late-allowed finish-maps m refl k
 
 pub map-alone : (m : ℕ) → OneOf alone-maps m → unsequenced m ≡ true
 unfolding all link-map sequenced test-bit
@@ -56,12 +54,8 @@ pub map-low : (m : ℕ) → 1 ≤ m → m < 8 → allowed m ≡ true
 unfolding all-below link-map sequenced test-bit
 map-low m from to = rw (le-ltb m 1 from) at (all-below-each (λ k. ltb k 1 || allowed k) 8 refl m to)
 
-pub map-empty : (m : ℕ) → m < 1 → link-map m ≡ false
-unfolding link-map
-map-empty m h = rw (lt-leb 1 m h, lt-leb 16 m (omega arith))
-
--- No map from 24 on is known; from 8 on only those of the two lists: again a test computed for each.
-pub map-small : (m : ℕ) → link-map m ≡ true → m < 24
+-- No map from 24 on is known.
+map-small : (m : ℕ) → link-map m ≡ true → m < 24
 unfolding link-map
 map-small m h = go (or-split (leb 1 m && leb m 7) (leb 16 m && leb m 23) h)
   where
@@ -69,20 +63,29 @@ map-small m h = go (or-split (leb 1 m && leb m 7) (leb 16 m && leb m 23) h)
     go (inl e) = let to : m ≤ 7 = leb-true m 7 (and-split (leb 1 m) (leb m 7) e .1) in omega arith
     go (inr e) = let to : m ≤ 23 = leb-true m 23 (and-split (leb 16 m) (leb m 23) e .1) in omega arith
 
-known-maps : (m : ℕ) → m < 24 → (ltb m 8 || (hasKey finish-maps m || (hasKey alone-maps m || not (link-map m)))) ≡ true
-unfolding all-below link-map
-known-maps m to = all-below-each (λ k. ltb k 8 || (hasKey finish-maps k || (hasKey alone-maps k || not (link-map k)))) 24 refl m to
+-- A map that is not listed fails a test of known maps: of those below 24, the listed ones alone pass it, as a computed test says.
+not-listed : (listed test : ℕ → Bool) (m : ℕ) → (test m ≡ true → link-map m ≡ true) → all-below (λ k. listed k || not (test k)) 24 ≡ true → listed m ≡ false → test m ≡ false
+not-listed listed test m known each none = not-passing (test m) (λ t. both-ways t (not-true (test m) (rw none at (all-below-each (λ k. listed k || not (test k)) 24 each m (map-small m (known t))))))
 
-pub map-unknown : (m : ℕ) → 8 ≤ m → (OneOf finish-maps m → ⊥) → (OneOf alone-maps m → ⊥) → link-map m ≡ false
-map-unknown m from none none-2 = not-passing (link-map m) (λ known. go known (or-split _ _ (rw (le-ltb m 8 from) at (known-maps m (map-small m known)))))
-  where
-    go-2 : link-map m ≡ true → (hasKey alone-maps m ≡ true) ⊎ (not (link-map m) ≡ true) → ⊥
-    go-2 known (inl k) = none-2 (hit alone-maps m (subst T (sym k) tt))
-    go-2 known (inr n) = both-ways known (not-true (link-map m) n)
+none-of : (keys : List ℕ) (m : ℕ) → (OneOf keys m → ⊥) → hasKey keys m ≡ false
+none-of keys m none = not-passing (hasKey keys m) (λ k. none (hit keys m (subst T (sym k) tt)))
 
-    go : link-map m ≡ true → (hasKey finish-maps m ≡ true) ⊎ ((hasKey alone-maps m || not (link-map m)) ≡ true) → ⊥
-    go known (inl k) = none (hit finish-maps m (subst T (sym k) tt))
-    go known (inr n) = go-2 known (or-split (hasKey alone-maps m) (not (link-map m)) n)
+pub map-not-late : (m : ℕ) → (OneOf finish-maps m → ⊥) → late-allowed m ≡ false
+unfolding all-below link-map sequenced test-bit
+map-not-late m none = not-listed (hasKey finish-maps) late-allowed m (λ t. and-split (link-map m) (sequenced m) (and-split (leb 16 m) (allowed m) t .1) .0) refl (none-of finish-maps m none)
+
+-- A map with more than bits 0 to 2, or with none, is allowed only with bit 4.
+pub map-outside : (m : ℕ) → (m < 1) ⊎ (8 ≤ m) → late-allowed m ≡ allowed m
+unfolding link-map
+map-outside m outside =
+    elim (bool-cases (leb 16 m)) [
+      | inl high ↦ rw high
+      | inr low ↦ elim outside [ inl h ↦ rw (low, lt-leb 1 m h) | inr h ↦ rw (low, le-leb 1 m (omega arith), lt-leb m 7 h) ]
+    ]
+
+pub map-not-alone : (m : ℕ) → (OneOf alone-maps m → ⊥) → unsequenced m ≡ false
+unfolding all-below link-map sequenced test-bit
+map-not-alone m none = not-listed (hasKey alone-maps) unsequenced m (λ t. and-split (link-map m) (not (sequenced m)) t .0) refl (none-of alone-maps m none)
 
 -- The fields of a link record, one after the other.
 module _ (m i j : ℕ) (t : List ℕ) where
@@ -108,7 +111,7 @@ module _ (m i j : ℕ) (t : List ℕ) where
   fields-refused e = rw e
 
 -- Pairs that rise: by i, and by j where i is the same.
-pub rises-same : (i₀ j₀ i j : ℕ) → i₀ ≡ i → rises (Pair i₀ j₀) i j ≡ ltb j₀ j
+rises-same : (i₀ j₀ i j : ℕ) → i₀ ≡ i → rises (Pair i₀ j₀) i j ≡ ltb j₀ j
 unfolding rises
 rises-same i₀ j₀ i j e = rw (le-ltb i₀ i (omega arith), eq-eqb i₀ i e)
 
@@ -116,9 +119,31 @@ or-false : (b : Bool) → b || false ≡ b
 or-false true = refl
 or-false false = refl
 
-pub rises-other : (i₀ j₀ i j : ℕ) → (i₀ ≡ i → ⊥) → rises (Pair i₀ j₀) i j ≡ ltb i₀ i
+rises-other : (i₀ j₀ i j : ℕ) → (i₀ ≡ i → ⊥) → rises (Pair i₀ j₀) i j ≡ ltb i₀ i
 unfolding rises
 rises-other i₀ j₀ i j e = rw (ne-eqb i₀ i e) (or-false (ltb i₀ i))
+
+-- A pair rises exactly where its number does: j is the lower digit.
+pub rank-above : (previous : Previous) (last i j : ℕ) → Ranked previous last → last < i * 256 + j → j < 256 → rises previous i j ≡ true
+unfolding rises
+rank-above Nothing last i j e h b = refl
+rank-above (Pair i₀ j₀) last i j e h b = elim (same-or-not i₀ i) [ inl same ↦ rises-same i₀ j₀ i j same ∙ lt-ltb j₀ j (omega (arith, e .0, e .1)) | inr other ↦ rises-other i₀ j₀ i j other ∙ lt-ltb i₀ i (omega (arith, e .0, e .1)) ]
+
+pub rank-below : (previous : Previous) (last i j : ℕ) → Ranked previous last → i * 256 + j ≤ last → (i ≡ j → ⊥) → rises previous i j ≡ false
+rank-below Nothing last i j e h apart = absurd (apart (omega arith))
+rank-below (Pair i₀ j₀) last i j e h apart = elim (same-or-not i₀ i) [ inl same ↦ rises-same i₀ j₀ i j same ∙ le-ltb j₀ j (omega (arith, e .0, e .1)) | inr other ↦ rises-other i₀ j₀ i j other ∙ le-ltb i₀ i (omega (arith, e .0, e .1)) ]
+
+-- What is asked of the ends.
+pub endpoints-below : (n i j : ℕ) → endpoints n i j ≡ true → (i < n) × (j < n)
+unfolding endpoints
+endpoints-below n i j h =
+    let r = and-split (ltb i n && ltb j n) (not (eqb i j)) h in
+    let s = and-split (ltb i n) (ltb j n) (r .0) in
+    (ltb-true i n (s .0), ltb-true j n (s .1))
+
+pub endpoints-apart : (n i j : ℕ) → endpoints n i j ≡ true → i ≡ j → ⊥
+unfolding endpoints
+endpoints-apart n i j h = eqb-false i j (not-true (eqb i j) (and-split (ltb i n && ltb j n) (not (eqb i j)) h .1))
 
 -- A link record: its map, its pair, its fields.
 module _ (n : ℕ) (previous : Previous) (s : List ℕ) (at : ℕ) where
@@ -126,21 +151,26 @@ module _ (n : ℕ) (previous : Previous) (s : List ℕ) (at : ℕ) where
   unfolding link byte when-given
   link-none h = rw (drop-end s at h)
 
-  pub link-refused : at < length s → link-map (getD s at 0) ≡ false → link n previous (drop at s) ≡ refused 4
+  -- The map is not allowed: it is not known, or lacks bit 0.
+  pub link-refused : at < length s → allowed (getD s at 0) ≡ false → link n previous (drop at s) ≡ refused (map-refusal (getD s at 0))
   unfolding link byte demand when-given
-  link-refused h e = rw (drop-byte s at h, e)
+  link-refused h e =
+      elim (bool-cases (link-map (getD s at 0))) [
+        | inl known ↦ let alone : sequenced (getD s at 0) ≡ false = rw known at e in rw (drop-byte s at h, known, alone)
+        | inr unknown ↦ rw (drop-byte s at h, unknown)
+      ]
 
-  pub link-alone : at < length s → unsequenced (getD s at 0) ≡ true → link n previous (drop at s) ≡ refused 26
-  unfolding link byte demand when-given
-  link-alone h e = let m = and-split (link-map (getD s at 0)) (not (sequenced (getD s at 0))) e in rw (drop-byte s at h, m .0, not-true (sequenced (getD s at 0)) (m .1))
-
-  pub pair-none : (m : ℕ) → length s ≤ at → link-pair n previous m (drop at s) ≡ refused 1
+  pair-missing : (m : ℕ) → length s ≤ at → link-pair n previous m (drop at s) ≡ refused 1
   unfolding link-pair byte when-given
-  pair-none m h = rw (drop-end s at h)
+  pair-missing m h = rw (drop-end s at h)
 
-  pub pair-half : (m : ℕ) → at < length s → length s ≤ at + 1 → link-pair n previous m (drop at s) ≡ refused 1
+  pair-half : (m : ℕ) → at < length s → length s ≤ at + 1 → link-pair n previous m (drop at s) ≡ refused 1
   unfolding link-pair byte when-given
   pair-half m h k = rw (drop-byte s at h, drop-end s (at + 1) k)
+
+  -- One byte of the pair is there, or none.
+  pub pair-none : (m : ℕ) → length s ≤ at + 1 → link-pair n previous m (drop at s) ≡ refused 1
+  pair-none m h = elim (bool-cases (ltb at (length s))) [ inl k ↦ pair-half m (ltb-true at (length s) k) h | inr k ↦ pair-missing m (ltb-false at (length s) k) ]
 
   module _ (m : ℕ) (h : at + 1 < length s) where
     pub pair-endpoint : endpoints n (getD s at 0) (getD s (at + 1) 0) ≡ false → link-pair n previous m (drop at s) ≡ refused 5
@@ -151,9 +181,9 @@ module _ (n : ℕ) (previous : Previous) (s : List ℕ) (at : ℕ) where
     unfolding link-pair byte demand when-given
     pair-order e f = rw (drop-byte s at (omega arith), drop-byte s (at + 1) h, e, f)
 
-    pub pair-there : endpoints n (getD s at 0) (getD s (at + 1) 0) ≡ true → rises previous (getD s at 0) (getD s (at + 1) 0) ≡ true → link-pair n previous m (drop at s) ≡ link-fields m (getD s at 0) (getD s (at + 1) 0) (drop (at + 1 + 1) s)
+    pub pair-there : endpoints n (getD s at 0) (getD s (at + 1) 0) ≡ true → rises previous (getD s at 0) (getD s (at + 1) 0) ≡ true → link-pair n previous m (drop at s) ≡ link-fields m (getD s at 0) (getD s (at + 1) 0) (drop (at + 2) s)
     unfolding link-pair byte demand when-given
-    pair-there e f = rw (drop-byte s at (omega arith), drop-byte s (at + 1) h, e, f)
+    pair-there e f = let two : at + 1 + 1 ≡ at + 2 = omega arith in rw (drop-byte s at (omega arith), drop-byte s (at + 1) h, e, f, two)
 
 -- The definitions' own text of the fields is `link-fields`, whose bounds are read one by one.
 fields-as-defined : (m i j : ℕ) (s : List ℕ) → (ticks-if (test-bit m 1) >>= λ least. ticks-if (test-bit m 2) >>= λ most. ticks-if (test-bit m 4) >>= λ latest. give (record { from = i; to = j; sequencing = test-bit m 0; minimum = bound-from (test-bit m 1) least; maximum = bound-from (test-bit m 2) most; latest = bound-from (test-bit m 4) latest })) s ≡ link-fields m i j s

@@ -1,14 +1,52 @@
--- What is answered about a link record: the record and the place after it, or a refusal by its number.
+-- What is answered about the map and the pair of a link record.
+use mathlib.Core.Path.{_≡_}
+use mathlib.Core.Bool.{Bool, not, _&&_, cond}
 use mathlib.Core.List.{List}
-use Prim.Native.Nat.{ℕ}
+use Prim.Native.Nat.{ℕ, _+_, _*_, _≤_, _<_}
+use lib.Dec.{leb}
+use lib.ListN.{length, drop}
 use Rattle.definitions.specs.Basics.{Outcome, refused}
 use Rattle.definitions.specs.Numbers.{number}
-use Rattle.definitions.specs.Bytes.{Taken}
+use Rattle.definitions.specs.Bytes.{Taken, link-map, sequenced}
 use Rattle.definitions.specs.declared.Link.{Link}
-use Rattle.fields.specs.Answers.{item-at}
-use Rattle.link_record.specs.declared.LinkRead.{LinkRead}
-use Rattle.link_record.specs.declared.LinkRead.the-variants as Links
+use Rattle.definitions.specs.declared.Previous.{Previous}
+use Rattle.definitions.specs.declared.Previous.the-variants.{Nothing, Pair}
+use Rattle.link_record.specs.Parts.{link-fields}
+use Rattle.link_record.specs.declared.PairRead.{PairRead}
+use Rattle.link_record.specs.declared.PairRead.the-variants as Pairs
 
-abbrev pub link-read : List ℕ → LinkRead → Outcome (Taken Link)
-link-read s (Links.Item x next) = item-at s x next
-link-read s (Links.Refused k) = refused (number k)
+-- The number of the pair before, by which pairs are compared: 0 where there is none, which no pair of two steps has.
+abbrev pub Ranked : Previous → ℕ → Type 0
+Ranked Nothing last = last ≡ 0
+Ranked (Pair i j) last = (last ≡ i * 256 + j) × (j < 256)
+
+-- The maps that are allowed; and those of them with bit 4.
+abbrev pub allowed : ℕ → Bool
+allowed m = link-map m && sequenced m
+
+abbrev pub late-allowed : ℕ → Bool
+late-allowed m = leb 16 m && allowed m
+
+-- What is refused in a map that is not allowed.
+abbrev pub map-refusal : ℕ → ℕ
+map-refusal m = cond (link-map m && not (sequenced m)) 26 4
+
+-- A link record from its fields on, which begin at a place of the bytes s; or a refusal by its number.
+abbrev pub pair-read : List ℕ → ℕ → PairRead → Outcome (Taken Link)
+pair-read s at (Pairs.Pair m i j) = link-fields m i j (drop at s)
+pair-read s at (Pairs.Refused k) = refused (number k)
+
+-- The fields begin within the bytes, and both ends are steps.
+pub record Within (s : List ℕ) (at n i j : ℕ) : Type 0 where
+  pub begins : at ≤ length s
+  pub from : i < n
+  pub to : j < n
+
+abbrev pub pair-within : List ℕ → ℕ → ℕ → PairRead → Type 0
+pair-within s at n (Pairs.Pair m i j) = Within s at n i j
+pair-within s at n (Pairs.Refused k) = Unit {0}
+
+-- What is left to read, from the place `at` on, makes the whole record.
+pub record PairReads (s : List ℕ) (at n : ℕ) (whole : Outcome (Taken Link)) (r : PairRead) : Type 0 where
+  pub same : pair-read s at r ≡ whole
+  pub inside : pair-within s at n r

@@ -4,10 +4,10 @@ ghost use lib.ListN.{length, take};
 ghost use mathlib.Core.Path.{_≡_};
 ghost use Rattle.link_records.specs.Answers.{LinksReads};
 use definitions::Operation;
-use definitions::Previous;
 use definitions::Reading;
 use definitions::Refusal;
-use link_record::LinkRead;
+use link_record::PairRead;
+use links::FieldsRead;
 
 // Whether the records are the whole of the bytes; or the first fault. The first count words stand for their edges.
 pub struct LinksRead {
@@ -32,25 +32,35 @@ pub fn read_links(
     requires { ⌜ (n ≤ 64) × (4 * r ≤ length (now words)) ⌝ }
     ensures { λ q. ⌜ LinksReads (now (part .entry)) n r (take n operations) (now (words .exit)) q ⌝ }
 {
-    let mut previous = Previous::Nothing;
+    let digits = links::leaving_digits(operations, n);
+    let mut last = 0;
     let mut next = 0;
     let mut count = 0;
     let mut i = 0;
     while i < r {
-        match link_record::read_link(part, next, n, previous) {
-            LinkRead::Item(l, after) => {
-                let from = index(l.from);
-                let operation = operations[from];
-                let delay = operation.delay;
-                count = links::push_link(words, count, l, delay);
-                previous = Previous::Pair(l.from, l.to);
-                next = after;
-                i += 1;
+        match link_record::read_link(part, next, n, last) {
+            PairRead::Pair(m, from, to) => {
+                let source = index(from);
+                let d = digits[source];
+                match links::push_link(part, next + 3, m, words, count, from, to, d) {
+                    FieldsRead::Item(after, more) => {
+                        last = link_record::rank(from, to);
+                        next = after;
+                        count = more;
+                        i += 1;
+                    }
+                    FieldsRead::Refused(k) => {
+                        return LinksRead {
+                            reading: Reading::Refused(k),
+                            count: 0,
+                        };
+                    }
+                }
             }
-            LinkRead::Refused(k) => {
+            PairRead::Refused(k) => {
                 return LinksRead {
                     reading: Reading::Refused(k),
-                    count: count,
+                    count: 0,
                 };
             }
         }
@@ -58,7 +68,7 @@ pub fn read_links(
     if next < part.len() {
         return LinksRead {
             reading: Reading::Refused(Refusal::Trailing),
-            count: count,
+            count: 0,
         };
     }
     LinksRead {

@@ -1,2 +1,4 @@
+pub mod Words
 pub mod Pushing
+pub mod Taking
 pub mod Listing

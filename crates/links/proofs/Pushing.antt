@@ -36,6 +36,10 @@ module _ (H : Type 0) where
   push-both {es} {fs} {s} {t} {u} {c} P Q =
       record { long = Q .long ∙ P .long; counts = omega (arith, P .counts, Q .counts, length-append es fs); same = λ a. Q .same a ∙ ap (λ (x : List Edge). x ++ fs) (P .same a) ∙ append-assoc (graph (take c s)) es fs }
 
+-- What is pushed under a weaker hypothesis is pushed.
+pub push-under : {H K : Type 0} {es : List Edge} {s t : List ℕ} {c d : ℕ} → (K → H) → Pushed H es s t c d → Pushed K es s t c d
+push-under f P = record { long = P .long; counts = P .counts; same = λ k. P .same (f k) }
+
 -- Each of the four lists of a record has one edge at most.
 pub sequencing-few : (d : Delay) (i j : ℕ) (b : Bool) → length (sequencing-edges d i j b) ≤ 1
 unfolding sequencing-edges

@@ -1,15 +1,24 @@
--- What the functions that write edge words are said with: the edges of one link record, and a list of words with more edges behind its first ones.
+-- What the functions that write edge words are said with: the edges of one link record, a list of words with more edges behind its first ones, and the fields that were read for them.
 use mathlib.Core.Path.{_≡_}
-use mathlib.Core.Bool.{Bool, true, false}
+use mathlib.Core.Bool.{Bool, true, false, cond}
 use mathlib.Core.List.{List, [], _∷_, _++_}
-use Prim.Native.Nat.{ℕ, _+_}
-use lib.ListN.{length, take}
-use Rattle.definitions.specs.Links.{Edge, sequencing-edge, finish-edge}
+use Prim.Native.Nat.{ℕ, _+_, _*_, _≤_, _<_}
+use lib.Dec.{eqb}
+use lib.ListN.{length, take, drop, getD}
+use Rattle.definitions.specs.Basics.{refused}
+use Rattle.definitions.specs.Numbers.{number}
+use Rattle.definitions.specs.Bytes.{Parser}
+use Rattle.definitions.specs.Links.{Edge, delay-at, sequencing-edge, finish-edge}
 use Rattle.definitions.specs.declared.Delay.{Delay}
+use Rattle.definitions.specs.declared.Delay.the-variants.{Open, Fixed}
+use Rattle.definitions.specs.declared.Operation.{Operation}
 use Rattle.definitions.specs.declared.Bound.{Bound}
 use Rattle.definitions.specs.declared.Bound.the-variants.{Absent, Ticks}
 use Rattle.definitions.specs.declared.Link.{Link}
 use Rattle.edges.specs.Words.{edge, graph}
+use Rattle.fields.specs.Answers.{item-at}
+use Rattle.links.specs.declared.FieldsRead.{FieldsRead}
+use Rattle.links.specs.declared.FieldsRead.the-variants.{Item, Refused}
 
 -- The edges of a record for (i, j), where the delay of i is d: after, at least, at most, at most from the finish.
 unfoldable pub sequencing-edges : Delay → ℕ → ℕ → Bool → List Edge
@@ -36,3 +45,24 @@ pub record Pushed (H : Type 0) (es : List Edge) (words words′ : List ℕ) (c c
   pub long : length words′ ≡ length words
   pub counts : c′ ≡ c + length es
   pub same : H → graph (take c′ words′) ≡ graph (take c words) ++ es
+
+-- What step i adds, where its delay is d, to the word of an after link that leaves it: the mark where it is open and not step 0, its ticks as gain where it is fixed.
+unfoldable pub leaving : Delay → ℕ → ℕ
+leaving (Fixed ticks) i = ticks * 16384
+leaving Open i = cond (eqb i 0) 0 4096
+
+-- What each of n steps adds.
+pub record Leaves (os : List Operation) (n : ℕ) (digits : List ℕ) : Type 0 where
+  pub each : (i : ℕ) → i < n → getD digits i 0 ≡ leaving (delay-at os i) i
+
+-- The parser p takes a value from the place `at` of the bytes s up to the place `next`, and its edges are pushed.
+pub record Took {A : Type 0} (H : Type 0) (p : Parser A) (es : A → List Edge) (s : List ℕ) (at : ℕ) (words words′ : List ℕ) (c next c′ : ℕ) : Type 0 where
+  pub value : A
+  pub same : p (drop at s) ≡ item-at s value next
+  pub inside : next ≤ length s
+  pub pushed : Pushed H (es value) words words′ c c′
+
+-- The value is taken, or the parser refuses. What the words hold beside a refusal is not said.
+abbrev pub Pushes : {A : Type 0} → Type 0 → Parser A → (A → List Edge) → List ℕ → ℕ → List ℕ → List ℕ → ℕ → FieldsRead → Type 0
+Pushes H p es s at words words′ c (Item next c′) = Took H p es s at words words′ c next c′
+Pushes H p es s at words words′ c (Refused k) = p (drop at s) ≡ refused (number k)

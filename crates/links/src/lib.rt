@@ -1,141 +1,245 @@
-// The one function that turns a link record into its edges, held as words.
-use definitions::Bound;
+// The fields of a link record, turned into its edges as they are read. The edges are held as words.
 use definitions::Delay;
-use definitions::Link;
-use edges::pack;
+use definitions::Operation;
+use definitions::Refusal;
+use fields::NumberRead;
 ghost use mathlib.Core.Path.{_≡_};
 ghost use mathlib.Core.Bool.{true, false};
-ghost use Prim.Native.Nat.{_+_, _<_, _≤_};
+ghost use Prim.Native.Nat.{_+_, _*_, _<_, _≤_};
+ghost use lib.ListN.{length, take};
+ghost use Rattle.definitions.specs.Basics.{test-bit};
 ghost use Rattle.definitions.specs.Links.{sequencing-edge, finish-edge};
+ghost use Rattle.definitions.specs.declared.Delay.{Delay};
 ghost use Rattle.edges.specs.Words.{edge, unpack, Fit};
-ghost use Rattle.links.specs.Pushes.{sequencing-edges, minimum-edges, maximum-edges, finish-edges, link-edges, Pushed};
+ghost use Rattle.fields.specs.Parts.{bound};
+ghost use Rattle.link_record.specs.Parts.{link-fields};
+ghost use Rattle.links.specs.Pushes.{leaving, Leaves, sequencing-edges, minimum-edges, maximum-edges, finish-edges, link-edges, Pushed, Pushes};
 
-fn ticks_of(x: u16) -> u32
-    ensures { λ r. ⌜ (r ≡ x) × (r < 65536) ⌝ }
-{
-    x as u32
+// The place after the fields that were read, and the count of words after their edges; or the fault met there.
+pub enum FieldsRead {
+    Item(usize, usize),
+    Refused(Refusal),
 }
 
-// The words of an after, an at-least and an at-most link on (from, to), and of one at most from the finish.
-fn sequencing_word(delay: Delay, from: u8, to: u8) -> u64
-    ensures { λ r. ⌜ (Fit from to → unpack r ≡ sequencing-edge delay from to) ⌝ }
+fn wide(x: u8) -> u64
+    ensures { λ r. ⌜ r ≡ x ⌝ }
+{
+    x as u64
+}
+
+fn ticks_of(x: u16) -> u64
+    ensures { λ r. ⌜ (r ≡ x) × (r < 65536) ⌝ }
+{
+    x as u64
+}
+
+fn digits_of(x: u32) -> u64
+    ensures { λ r. ⌜ (r ≡ x) × (r < 4294967296) ⌝ }
+{
+    x as u64
+}
+
+fn fixed_digits(x: u16) -> u32
+    ensures { λ r. ⌜ r ≡ x * 16384 ⌝ }
+{
+    (x as u32) * 16384
+}
+
+// What step i, with this delay, adds to the words of the after links that leave it.
+fn leaving_of(delay: Delay, i: usize) -> u32
+    ensures { λ r. ⌜ r ≡ leaving delay i ⌝ }
 {
     match delay {
-        Delay::Open => pack(from, to, 0, 0, from != 0, false, false),
-        Delay::Fixed(ticks) => pack(from, to, ticks_of(ticks), 0, false, false, false),
+        Delay::Open => { if i == 0 { 0 } else { 4096 } }
+        Delay::Fixed(ticks) => fixed_digits(ticks),
     }
+}
+
+// What each of the n steps adds to the words of the after links that leave it.
+pub fn leaving_digits(operations: [Operation; 64], n: usize) -> [u32; 64]
+    requires { ⌜ n ≤ 64 ⌝ }
+    ensures { λ r. ⌜ Leaves (take n operations) n r ⌝ }
+{
+    let mut found = [0u32; 64];
+    let mut i = 0;
+    while i < n {
+        let operation = operations[i];
+        let delay = operation.delay;
+        let digits = leaving_of(delay, i);
+        found[i] = digits;
+        i += 1;
+    }
+    found
+}
+
+// The words of an after, an at-least and an at-most link on (from, to), and of one at most from the finish; `digits` are what `from` adds.
+fn sequencing_word(digits: u32, from: u8, to: u8) -> u64
+    requires { ⌜ Fit from to ⌝ }
+    ensures { λ r. ⌜ ((d : Delay) → digits ≡ leaving d from → unpack r ≡ sequencing-edge d from to) ⌝ }
+{
+    wide(from) + wide(to) * 64 + digits_of(digits)
 }
 
 fn minimum_word(from: u8, to: u8, least: u16) -> u64
-    ensures { λ r. ⌜ (Fit from to → unpack r ≡ edge from to least 0 false false false) ⌝ }
+    requires { ⌜ Fit from to ⌝ }
+    ensures { λ r. ⌜ unpack r ≡ edge from to least 0 false false false ⌝ }
 {
-    pack(from, to, ticks_of(least), 0, false, false, false)
+    edges::word(wide(from), wide(to), 0, 0, ticks_of(least), 0, 0)
 }
 
 fn maximum_word(from: u8, to: u8, most: u16) -> u64
-    ensures { λ r. ⌜ (Fit from to → unpack r ≡ edge to from 0 most false true false) ⌝ }
+    requires { ⌜ Fit from to ⌝ }
+    ensures { λ r. ⌜ unpack r ≡ edge to from 0 most false true false ⌝ }
 {
-    pack(to, from, 0, ticks_of(most), false, true, false)
+    edges::word(wide(to), wide(from), 0, 1, 0, ticks_of(most), 0)
 }
 
-fn finish_word(delay: Delay, from: u8, to: u8, most: u16) -> u64
-    ensures { λ r. ⌜ (Fit from to → unpack r ≡ finish-edge delay from to most) ⌝ }
+fn finish_word(digits: u32, from: u8, to: u8, most: u16) -> u64
+    requires { ⌜ Fit from to ⌝ }
+    ensures { λ r. ⌜ ((d : Delay) → digits ≡ leaving d from → unpack r ≡ finish-edge d from to most) ⌝ }
 {
-    match delay {
-        Delay::Open => pack(to, from, 0, ticks_of(most), false, true, from != 0),
-        Delay::Fixed(ticks) => pack(
-            to,
-            from,
-            0,
-            ticks_of(ticks) + ticks_of(most),
-            false,
-            true,
-            false,
-        ),
-    }
+    let d = digits_of(digits);
+    edges::word(
+        wide(to),
+        wide(from),
+        0,
+        1,
+        0,
+        d / 16384 + ticks_of(most),
+        d / 4096 % 2,
+    )
 }
 
-// The parts of a link record's edges, written at count; each says the count after it.
-fn push_sequencing(
-    words: &mut [u64],
-    count: usize,
-    from: u8,
-    to: u8,
-    delay: Delay,
-    sequencing: bool,
-) -> usize
-    requires { do ⌜ count < (← ⟦words.len()⟧) ⌝ }
-    ensures { λ r. ⌜ Pushed (Fit from to) (sequencing-edges delay from to sequencing) (now (words .entry)) (now (words .exit)) count r ⌝ }
+// Whether bit k of the map m stands.
+fn has(m: u8, k: usize) -> bool
+    requires { ⌜ k < 64 ⌝ }
+    ensures { λ r. ⌜ r ≡ test-bit m k ⌝ }
 {
-    if sequencing {
-        let w = sequencing_word(delay, from, to);
+    bitmaps::has(wide(m), k)
+}
+
+// The after link of a record with the map m, written at count; it says the count after it.
+fn push_sequencing(words: &mut [u64], count: usize, m: u8, from: u8, to: u8, digits: u32) -> usize
+    requires { ⌜ (count < length (now words)) × Fit from to ⌝ }
+    ensures { λ r. ⌜ ((d : Delay) → Pushed (digits ≡ leaving d from) (sequencing-edges d from to (test-bit m 0)) (now (words .entry)) (now (words .exit)) count r) ⌝ }
+{
+    if has(m, 0) {
+        let w = sequencing_word(digits, from, to);
         words[count] = w;
         return count + 1;
     }
     count
 }
 
-fn push_minimum(words: &mut [u64], count: usize, from: u8, to: u8, bound: Bound) -> usize
-    requires { do ⌜ count < (← ⟦words.len()⟧) ⌝ }
-    ensures { λ r. ⌜ Pushed (Fit from to) (minimum-edges from to bound) (now (words .entry)) (now (words .exit)) count r ⌝ }
-{
-    match bound {
-        Bound::Ticks(least) => {
-            let w = minimum_word(from, to, least);
-            words[count] = w;
-            count + 1
-        }
-        Bound::Absent => count,
-    }
-}
-
-fn push_maximum(words: &mut [u64], count: usize, from: u8, to: u8, bound: Bound) -> usize
-    requires { do ⌜ count < (← ⟦words.len()⟧) ⌝ }
-    ensures { λ r. ⌜ Pushed (Fit from to) (maximum-edges from to bound) (now (words .entry)) (now (words .exit)) count r ⌝ }
-{
-    match bound {
-        Bound::Ticks(most) => {
-            let w = maximum_word(from, to, most);
-            words[count] = w;
-            count + 1
-        }
-        Bound::Absent => count,
-    }
-}
-
-fn push_finish(
+// A field of a record with the map m, at a place of the bytes, and its edge, written at count: at least, at most, at most from the finish.
+fn push_minimum(
+    s: &[u8],
+    at: usize,
+    m: u8,
     words: &mut [u64],
     count: usize,
     from: u8,
     to: u8,
-    delay: Delay,
-    bound: Bound,
-) -> usize
-    requires { do ⌜ count < (← ⟦words.len()⟧) ⌝ }
-    ensures { λ r. ⌜ Pushed (Fit from to) (finish-edges delay from to bound) (now (words .entry)) (now (words .exit)) count r ⌝ }
+) -> FieldsRead
+    requires { ⌜ (at ≤ length (now s)) × (count < length (now words)) × Fit from to ⌝ }
+    ensures { λ r. ⌜ Pushes (Unit {0}) (bound (test-bit m 1)) (minimum-edges from to) (now (s .entry)) at (now (words .entry)) (now (words .exit)) count r ⌝ }
 {
-    match bound {
-        Bound::Ticks(most) => {
-            let w = finish_word(delay, from, to, most);
+    if !has(m, 1) {
+        return FieldsRead::Item(at, count);
+    }
+    match fields::read_number(s, at) {
+        NumberRead::Item(least, next) => {
+            let w = minimum_word(from, to, least);
             words[count] = w;
-            count + 1
+            FieldsRead::Item(next, count + 1)
         }
-        Bound::Absent => count,
+        NumberRead::Refused(k) => FieldsRead::Refused(k),
     }
 }
 
-// The edges of one link record, whose first step has this delay, written at count; it says the count after them.
-pub fn push_link(words: &mut [u64], count: usize, link: Link, delay: Delay) -> usize
-    requires { do ⌜ count + 4 ≤ (← ⟦words.len()⟧) ⌝ }
-    ensures { λ r. ⌜ Pushed (Fit (link .from) (link .to)) (link-edges delay link) (now (words .entry)) (now (words .exit)) count r ⌝ }
+fn push_maximum(
+    s: &[u8],
+    at: usize,
+    m: u8,
+    words: &mut [u64],
+    count: usize,
+    from: u8,
+    to: u8,
+) -> FieldsRead
+    requires { ⌜ (at ≤ length (now s)) × (count < length (now words)) × Fit from to ⌝ }
+    ensures { λ r. ⌜ Pushes (Unit {0}) (bound (test-bit m 2)) (maximum-edges from to) (now (s .entry)) at (now (words .entry)) (now (words .exit)) count r ⌝ }
 {
-    let from = link.from;
-    let to = link.to;
-    let least = link.minimum;
-    let most = link.maximum;
-    let latest = link.latest;
-    let first = push_sequencing(words, count, from, to, delay, link.sequencing);
-    let second = push_minimum(words, first, from, to, least);
-    let third = push_maximum(words, second, from, to, most);
-    push_finish(words, third, from, to, delay, latest)
+    if !has(m, 2) {
+        return FieldsRead::Item(at, count);
+    }
+    match fields::read_number(s, at) {
+        NumberRead::Item(most, next) => {
+            let w = maximum_word(from, to, most);
+            words[count] = w;
+            FieldsRead::Item(next, count + 1)
+        }
+        NumberRead::Refused(k) => FieldsRead::Refused(k),
+    }
+}
+
+fn push_finish(
+    s: &[u8],
+    at: usize,
+    m: u8,
+    words: &mut [u64],
+    count: usize,
+    from: u8,
+    to: u8,
+    digits: u32,
+) -> FieldsRead
+    requires { ⌜ (at ≤ length (now s)) × (count < length (now words)) × Fit from to ⌝ }
+    ensures { λ r. ⌜ ((d : Delay) → Pushes (digits ≡ leaving d from) (bound (test-bit m 4)) (finish-edges d from to) (now (s .entry)) at (now (words .entry)) (now (words .exit)) count r) ⌝ }
+{
+    if !has(m, 4) {
+        return FieldsRead::Item(at, count);
+    }
+    match fields::read_number(s, at) {
+        NumberRead::Item(most, next) => {
+            let w = finish_word(digits, from, to, most);
+            words[count] = w;
+            FieldsRead::Item(next, count + 1)
+        }
+        NumberRead::Refused(k) => FieldsRead::Refused(k),
+    }
+}
+
+// The fields of a link record with the map m for (from, to), and its edges, written at count; `digits` are what `from` adds. Most records have an after link and no field.
+pub fn push_link(
+    s: &[u8],
+    at: usize,
+    m: u8,
+    words: &mut [u64],
+    count: usize,
+    from: u8,
+    to: u8,
+    digits: u32,
+) -> FieldsRead
+    requires { ⌜ (at ≤ length (now s)) × (count + 4 ≤ length (now words)) × Fit from to ⌝ }
+    ensures { λ r. ⌜ ((d : Delay) → Pushes (digits ≡ leaving d from) (link-fields m from to) (link-edges d) (now (s .entry)) at (now (words .entry)) (now (words .exit)) count r) ⌝ }
+{
+    let first = push_sequencing(words, count, m, from, to, digits);
+    if m == 1 {
+        return FieldsRead::Item(at, first);
+    }
+    match push_minimum(s, at, m, words, first, from, to) {
+        FieldsRead::Item(next, second) => match push_maximum(s, next, m, words, second, from, to) {
+            FieldsRead::Item(after, third) => push_finish(
+                s,
+                after,
+                m,
+                words,
+                third,
+                from,
+                to,
+                digits,
+            ),
+            FieldsRead::Refused(k) => FieldsRead::Refused(k),
+        },
+        FieldsRead::Refused(k) => FieldsRead::Refused(k),
+    }
 }

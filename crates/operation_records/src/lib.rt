@@ -28,7 +28,7 @@ pub struct OperationsRead {
 }
 
 // What stands in the array where no step does.
-pub fn blank_operation() -> Operation
+fn blank_operation() -> Operation
     ensures { λ r. ⌜ r ≡ blank-operation ⌝ }
 {
     let delay = Delay::Fixed(0);
@@ -37,6 +37,7 @@ pub fn blank_operation() -> Operation
 
 // The duration of a step that lasts a fixed number of ticks.
 fn fixed_operation(s: &[u8], at: usize) -> OperationRead
+    requires { ⌜ at ≤ length (now s) ⌝ }
     ensures { λ r. ⌜ OperationReads (now (s .entry)) at fixed r ⌝ }
 {
     match fields::read_number(s, at) {

@@ -1,2 +1,4 @@
+pub mod Overriding
+pub mod Sourcing
 pub mod Tables
 pub mod Writing

@@ -3,21 +3,23 @@ use mathlib.Core.Path.{_≡_, ap, _∙_}
 use mathlib.Core.Bool.{Bool, true, _&&_, _||_}
 use mathlib.Core.Logic.{_⊎_, inl, inr}
 use mathlib.Core.List.{List, _++_}
-use Prim.Native.Nat.{ℕ, _≤_}
+use Prim.Native.Nat.{ℕ, _<_, _≤_}
 use native.Mathlib.Omega.{arith}
 use lib.Dec.{eqb, ltb}
-use borrow.Author.Tests.{eq-eqb, eqb-true, lt-ltb}
-use Rattle.definitions.specs.Anchors.{InAnchorSet, is-source, chain, in-anchor-set}
+use borrow.Author.Tests.{eq-eqb, eqb-true, lt-ltb, ltb-true}
+use Rattle.definitions.specs.Anchors.{InAnchorSet, WellPosed, is-source, chain, in-anchor-set}
 use Rattle.definitions.specs.Links.{Edge, members, usable}
-use Rattle.definitions.specs.Rounds.{after-reaches}
+use Rattle.definitions.specs.Plan.{offset-row}
+use Rattle.definitions.specs.Rounds.{after-reaches, cell}
 use Rattle.definitions.specs.Waits.{serialized}
 use Rattle.edges.specs.Serial.{wait-edges}
 use Rattle.laws.proofs.Bools.{and-join, and-split, or-left, or-right, or-split, same-test}
 use Rattle.relations.specs.Rows.{row-bit}
-use Rattle.heaviest.specs.Settling.{Within}
+use Rattle.heaviest.specs.Settling.{Supported, Within}
 use Rattle.irredundant.specs.Working.{Holds}
 use Rattle.serializing.proofs.Trying.{Offsets, walks-offsets}
 use Rattle.theory.specs.Graphs.{Serializable, Shape, Well}
+use Rattle.theory.proofs.Offsets.{offset-row-iff}
 use Rattle.theory.proofs.Plans.{plan-posed, plan-well}
 use Rattle.theory.proofs.Reachability.{dec-member, in-anchor-set-iff}
 use Rattle.theory.proofs.Serialization.{chain-reach, forward-acyclic, reach-chain, waited-gains}
@@ -52,9 +54,29 @@ module _ {n : ℕ} {g : List Edge} (well : Well n (members g)) (serial : Seriali
       back : (ltb a n && in-anchor-set n (serialized n g) a v) ≡ true → (after-reaches n (usable g a) a v || eqb a 0) ≡ true
       back h = back-by (in-anchor-set-iff shape a v .0 (and-split (ltb a n) (in-anchor-set n (serialized n g) a v) h .1))
 
--- The tables hold the plan's walks and anchor sets: the edges with their waits are those of the sheet with its waits in, which can be scheduled and is well-posed.
-pub plannable-holds : {n : ℕ} {g : List Edge} {reach maps sets : List ℕ} (d : List (List ℕ)) → n ≤ 64 → Plannable n g reach maps
-    → (Within n maps → Offsets n (g ++ wait-edges n maps) d)
-    → ((v a : ℕ) → row-bit sets v a ≡ (ltb v n && (row-bit reach v a || eqb a 0))) → Holds n (serialized n g) d sets
-plannable-holds {n} {g} {reach} {maps} {sets} d few p cells sets-are =
-    record { cells = walks-offsets few (p .well .shape) (p .waits) d cells (plan-well (p .well) (p .serial)) (plan-posed (p .well) (p .serial)) (waited-gains (serialized-waited (p .well .shape)) (p .gains)); members = λ a v b. sets-are v a ∙ ap (λ (t : Bool). t && (row-bit reach v a || eqb a 0)) (lt-ltb v n b) ∙ ap (λ (t : Bool). t || eqb a 0) (p .reaches .bits a v b) ∙ member-reaches (p .well) (p .serial) a v }
+-- The tables hold the plan's walks and anchor sets: the edges with their waits are those of the sheet with its waits in, which can be scheduled and is well-posed. The members of an anchor are the steps
+-- that have an offset for it, so the table holds these.
+module _ {n : ℕ} {g : List Edge} {reach maps : List ℕ} (sets : List ℕ) (d : List (List ℕ)) (few : n ≤ 64) (p : Plannable n g reach maps) (cells : Within n maps → Offsets n (g ++ wait-edges n maps) sets d) (sets-are : (v a : ℕ) → v < n → row-bit sets v a ≡ (row-bit reach v a || eqb a 0)) where
+  well : Well n (members (serialized n g))
+  well = plan-well (p .well) (p .serial)
+
+  posed : WellPosed (members (serialized n g))
+  posed = plan-posed (p .well) (p .serial)
+
+  are-members : (a v : ℕ) → v < n → row-bit sets v a ≡ (ltb a n && in-anchor-set n (serialized n g) a v)
+  are-members a v b =
+      sets-are v a b
+      ∙ ap (λ (t : Bool). t || eqb a 0) (p .reaches .bits a v b)
+      ∙ member-reaches (p .well) (p .serial) a v
+
+  supported : (a : ℕ) → a < n → Supported n (serialized n g) sets a
+  supported a inside v b =
+      are-members a v b
+      ∙ ap (λ (t : Bool). t && in-anchor-set n (serialized n g) a v) (lt-ltb a n inside)
+      ∙ same-test (in-anchor-set n (serialized n g) a v) (ltb 0 (cell (offset-row n (serialized n g) a) v))
+      (λ h. lt-ltb 0 (cell (offset-row n (serialized n g) a) v) (offset-row-iff well posed a v b .1 (in-anchor-set-iff (well .shape) a v .0 h)))
+      (λ h. in-anchor-set-iff (well .shape) a v .1 (offset-row-iff well posed a v b .0 (ltb-true 0 (cell (offset-row n (serialized n g) a) v) h)))
+
+  pub plannable-holds : Holds n (serialized n g) d sets
+  plannable-holds =
+      record { cells = λ a v inside b m. walks-offsets few (p .well .shape) (p .waits) sets d cells well posed (waited-gains (serialized-waited (p .well .shape)) (p .gains)) a inside (supported a inside) v b m; members = are-members }

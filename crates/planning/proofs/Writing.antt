@@ -75,7 +75,7 @@ module _ {n : ℕ} {g : List Edge} {allow : Bool} {found : Analysis} (analysed :
       let passes = judged .0 in
       let well = passes-well (omega arith) shape passes in
       let serial = analysed .found (cond (needs-waits n g) 1 0) (judge-given n g true (cond (needs-waits n g) 1 0) .1 (passes, judged .1, never (needs-waits n g), refl)) in
-      record { well = well; serial = serializable-iff (omega arith) shape (well .rooted) .0 (judged .1); gains = gains; reaches = serial .reaches; waits = serial .maps }
+      record { well = well; serial = serializable-iff (omega arith) shape (well .rooted) .0 (judged .1); gains = gains; long = serial .long; reaches = serial .reaches; waits = serial .maps }
     where
       never : (b : Bool) → (b && not true) ≡ false
       never true = refl

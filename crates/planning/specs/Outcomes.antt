@@ -3,6 +3,7 @@ use mathlib.Core.Path.{_≡_}
 use mathlib.Core.Bool.{Bool, true, false, _||_}
 use mathlib.Core.List.{List}
 use Prim.Native.Nat.{ℕ, _*_}
+use lib.ListN.{length}
 use Rattle.definitions.specs.Answers.{judge-edges, too-short}
 use Rattle.definitions.specs.Basics.{Outcome, given, refused, refuse-if, when-given}
 use Rattle.definitions.specs.Links.{Edge, members}
@@ -28,5 +29,6 @@ pub record Plannable (n : ℕ) (g : List Edge) (reach maps : List ℕ) : Type 0 
   pub well : Well n (members g)
   pub serial : Serializable (members (serialized n g))
   pub gains : Gains (members g) 65535
+  pub long : length reach ≡ 64
   pub reaches : Reaches n g reach
   pub waits : maps ≡ wait-maps n g

@@ -1,3 +1,4 @@
 pub mod Pushing
 pub mod Passing
+pub mod Returning
 pub mod Searching

@@ -15,7 +15,7 @@ use Rattle.theory.specs.Sweeps.{Leads}
 use Rattle.reach.specs.Pushes.{Covered, Gives, Handed, HandedAll, Swept, SweptAll}
 
 -- What an edge has for a column it has for a larger one.
-gives-on : {a : ℕ} (r s : ℕ → Bool) {e : Edge} → (r (e .from) ≡ true → s (e .from) ≡ true) → Gives a r e → Gives a s e
+pub gives-on : {a : ℕ} (r s : ℕ → Bool) {e : Edge} → (r (e .from) ≡ true → s (e .from) ≡ true) → Gives a r e → Gives a s e
 gives-on r s h (inl k) = inl (h k)
 gives-on r s h (inr l) = inr l
 

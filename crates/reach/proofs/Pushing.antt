@@ -20,8 +20,15 @@ use Rattle.theory.specs.Sweeps.{Leads}
 use Rattle.theory.proofs.Usables.{late-into-iff}
 use Rattle.reach.specs.Pushes.{Begun, Handed, HandedAll, Joined, Settled, Within, column}
 
+-- Which edges an anchor may use is given as a relation U: in crate reach all but late returns into it, in crate sorting the forward edges.
+abbrev pub Using : (ℕ → Edge → Type 0) → Graph → ℕ → Graph
+Using U E a e = E e × U a e
+
+abbrev pub May-use : ℕ → Edge → Type 0
+May-use a e = ¬ LateInto e a
+
 -- One edge on one column: its end comes into it where h stands, which says that the edge has something for the column and may be used.
-module _ (a : ℕ) (e : Edge) (held h : Bool) (r s f g : ℕ → Bool) (only : h ≡ true → ((held ≡ true) ⊎ Leads a e) × (¬ LateInto e a)) (offers : ¬ LateInto e a → (held ≡ true) ⊎ Leads a e → h ≡ true) (here : s (e .to) ≡ (r (e .to) || h)) (other : (v : ℕ) → v ≢ e .to → s v ≡ r v) where
+module _ (U : ℕ → Edge → Type 0) (a : ℕ) (e : Edge) (held h : Bool) (r s f g : ℕ → Bool) (only : h ≡ true → ((held ≡ true) ⊎ Leads a e) × U a e) (offers : U a e → (held ≡ true) ⊎ Leads a e → h ≡ true) (here : s (e .to) ≡ (r (e .to) || h)) (other : (v : ℕ) → v ≢ e .to → s v ≡ r v) where
   edge-up : Within r s
   edge-up v q = by (same-or-not v (e .to))
     where
@@ -29,11 +36,11 @@ module _ (a : ℕ) (e : Edge) (held h : Bool) (r s f g : ℕ → Bool) (only : h
       by (inl o) = ap s o ∙ here ∙ or-left h (sym (ap r o) ∙ q)
       by (inr o) = other v o ∙ q
 
-  edge-hands : (x : Edge) → UsableFrom (λ y. y ≡ e) a x → (held ≡ true) ⊎ Leads a x → s (x .to) ≡ true
+  edge-hands : (x : Edge) → Using U (λ y. y ≡ e) a x → (held ≡ true) ⊎ Leads a x → s (x .to) ≡ true
   edge-hands x m =
-      subst (λ (y : Edge). ¬ LateInto y a → (held ≡ true) ⊎ Leads a y → s (y .to) ≡ true) (sym (m .0)) (λ l k. here ∙ or-right (r (e .to)) (offers l k)) (m .1)
+      subst (λ (y : Edge). U a y → (held ≡ true) ⊎ Leads a y → s (y .to) ≡ true) (sym (m .0)) (λ l k. here ∙ or-right (r (e .to)) (offers l k)) (m .1)
 
-  edge-sound : (t : ℕ → Bool) → Settled a (UsableFrom (λ y. y ≡ e) a) t → (held ≡ true → t (e .from) ≡ true) → Within r t → Within s t
+  edge-sound : (t : ℕ → Bool) → Settled a (Using U (λ y. y ≡ e) a) t → (held ≡ true → t (e .from) ≡ true) → Within r t → Within s t
   edge-sound t st holds below v q = by (same-or-not v (e .to))
     where
       gives : (held ≡ true) ⊎ Leads a e → (t (e .from) ≡ true) ⊎ Leads a e
@@ -48,11 +55,11 @@ module _ (a : ℕ) (e : Edge) (held h : Bool) (r s f g : ℕ → Bool) (only : h
       by (inl o) = ap t o ∙ at (or-split (r (e .to)) h (sym here ∙ sym (ap s o) ∙ q))
       by (inr o) = below v (sym (other v o) ∙ q)
 
-  edge-handed : Within f g → ((v : ℕ) → g v ≡ false → s v ≡ r v) → Handed a (UsableFrom (λ y. y ≡ e) a) (e .from) held r s f g
+  pub edge-handed : Within f g → ((v : ℕ) → g v ≡ false → s v ≡ r v) → Handed a (Using U (λ y. y ≡ e) a) (e .from) held r s f g
   edge-handed marks marked = record { up = edge-up; hands = λ x m o k. edge-hands x m k; sound = edge-sound; marks = marks; marked = marked }
 
 -- What the code hands on: the anchors that the edge starts from, where they may use it.
-module _ (e : Edge) (m all given h : ℕ) (begins : Begun (e .from) m all) (chosen : given ≡ cond (e .counted) all m) (may : (a : ℕ) → test-bit h a ≡ (test-bit given a && not (late-into a e))) where
+module _ (e : Edge) (m all given : ℕ) (begins : Begun (e .from) m all) (chosen : given ≡ cond (e .counted) all m) where
   given-only : (a : ℕ) → test-bit given a ≡ true → (test-bit m a ≡ true) ⊎ Leads a e
   given-only a k = by (e .counted) refl (sym (ap (λ (x : ℕ). test-bit x a) chosen) ∙ k)
     where
@@ -78,27 +85,23 @@ module _ (e : Edge) (m all given h : ℕ) (begins : Begun (e .from) m all) (chos
       ∙ begins a
       ∙ or-right (test-bit m a) (and-join (ap not (ne-eqb (e .from) 0 (λ z. l .not-source (sym (l .leaves) ∙ z)))) (eq-eqb a (e .from) (sym (l .leaves))))
 
-  handed-only : (a : ℕ) → test-bit h a ≡ true → ((test-bit m a ≡ true) ⊎ Leads a e) × (¬ LateInto e a)
-  handed-only a k =
-      let p = and-split (test-bit given a) (not (late-into a e)) (sym (may a) ∙ k) in
-      (given-only a (p .0), λ l. both-ways (late-into-iff e a .1 l) (not-true (late-into a e) (p .1)))
-
-  handed-by : (a : ℕ) → ¬ LateInto e a → (test-bit m a ≡ true) ⊎ Leads a e → test-bit h a ≡ true
-  handed-by a u k = may a ∙ and-join (given-by a k) (ap not (not-passing (late-into a e) (λ t. u (late-into-iff e a .0 t))))
-
   -- They come into the row of its end.
-  pub word-handed : (rows rows′ : List ℕ) (marks marks′ to : ℕ) → to ≡ e .to → Joined to h rows rows′ marks marks′ → HandedAll (λ a. UsableFrom (λ y. y ≡ e) a) (e .from) m rows rows′ marks marks′
-  word-handed rows rows′ marks marks′ to ends J =
+  pub handed-where : (U : ℕ → Edge → Type 0) (h : ℕ) → ((a : ℕ) → test-bit h a ≡ true → (test-bit given a ≡ true) × U a e) → ((a : ℕ) → U a e → test-bit given a ≡ true → test-bit h a ≡ true) → (rows rows′ : List ℕ) (marks marks′ to : ℕ) → to ≡ e .to → Joined to h rows rows′ marks marks′ → HandedAll (Using U (λ y. y ≡ e)) (e .from) m rows rows′ marks marks′
+  handed-where U h only may rows rows′ marks marks′ to ends J =
       let K : Joined (e .to) h rows rows′ marks marks′ = rw ends at J in
-      record { long = K .long; each = λ a. edge-handed a e (test-bit m a) (test-bit h a) (column rows a) (column rows′ a) (test-bit marks) (test-bit marks′) (handed-only a) (handed-by a) (K .here a) (K .other a) (K .marks) (K .marked a) }
+      record { long = K .long; each = λ a. edge-handed U a e (test-bit m a) (test-bit h a) (column rows a) (column rows′ a) (test-bit marks) (test-bit marks′) (λ k. let p = only a k in (given-only a (p .0), p .1)) (λ u k. may a u (given-by a k)) (K .here a) (K .other a) (K .marks) (K .marked a) }
+
+  -- So do those whose walks may use a late return.
+  pub word-handed : {h : ℕ} → ((a : ℕ) → test-bit h a ≡ (test-bit given a && not (late-into a e))) → (rows rows′ : List ℕ) (marks marks′ to : ℕ) → to ≡ e .to → Joined to h rows rows′ marks marks′ → HandedAll (λ a. UsableFrom (λ y. y ≡ e) a) (e .from) m rows rows′ marks marks′
+  word-handed {h} may = handed-where May-use h (λ a k. let p = and-split (test-bit given a) (not (late-into a e)) (sym (may a) ∙ k) in (p .0, λ l. both-ways (late-into-iff e a .1 l) (not-true (late-into a e) (p .1)))) (λ a u k. may a ∙ and-join k (ap not (not-passing (late-into a e) (λ t. u (late-into-iff e a .0 t)))))
 
 -- Every anchor may use an edge that is not late.
 pub timely-may : (e : Edge) (given a : ℕ) → e .late ≡ false → test-bit given a ≡ (test-bit given a && not (late-into a e))
 unfolding late-into
 timely-may e given a q = sym (ap (λ (t : Bool). test-bit given a && not (t && eqb (e .to) a)) q ∙ and-true (test-bit given a))
 
--- The union is stored, with a mark where it is not what the row had.
-module _ (rows : List ℕ) (marks marks′ v h new : ℕ) (long : length rows ≡ 64) (low : v < 64) (joins : (a : ℕ) → test-bit new a ≡ (column rows a v || test-bit h a)) (bits : (u : ℕ) → test-bit marks′ u ≡ (test-bit marks u || (not (eqb new (getD rows v 0)) && eqb u v))) where
+-- The union is stored. Without a mark it is what the row had.
+module _ (rows : List ℕ) (marks marks′ v h new : ℕ) (long : length rows ≡ 64) (low : v < 64) (joins : (a : ℕ) → test-bit new a ≡ (column rows a v || test-bit h a)) (more : Within (test-bit marks) (test-bit marks′)) (same : test-bit marks′ v ≡ false → new ≡ getD rows v 0) where
   stored : getD (set rows v new) v 0 ≡ new
   stored = getD-set-same rows v new 0 (omega arith)
 
@@ -108,13 +111,18 @@ module _ (rows : List ℕ) (marks marks′ v h new : ℕ) (long : length rows �
   kept : (a u : ℕ) → test-bit marks′ u ≡ false → (u ≡ v) ⊎ (u ≢ v) → column (set rows v new) a u ≡ column rows a u
   kept a u q (inr o) = other a u o
   kept a u q (inl o) =
-      let n = or-neither (test-bit marks u) (not (eqb new (getD rows v 0)) && eqb u v) .0 (sym (bits u) ∙ q) .1 in
-      let same = eqb-true new (getD rows v 0) (not-false (eqb new (getD rows v 0)) (sym (ap (λ (t : Bool). not (eqb new (getD rows v 0)) && t) (eq-eqb u v o) ∙ and-true (not (eqb new (getD rows v 0)))) ∙ n)) in
-      ap (column (set rows v new) a) o ∙ ap (λ (x : ℕ). test-bit x a) (stored ∙ same) ∙ sym (ap (column rows a) o)
+      ap (column (set rows v new) a) o ∙ ap (λ (x : ℕ). test-bit x a) (stored ∙ same (sym (ap (test-bit marks′) o) ∙ q)) ∙ sym (ap (column rows a) o)
 
-  pub joined : Joined v h rows (set rows v new) marks marks′
-  joined =
-      record { long = length-set rows v new ∙ long; here = λ a. ap (λ (x : ℕ). test-bit x a) stored ∙ joins a; other = other; marks = λ u q. bits u ∙ or-left (not (eqb new (getD rows v 0)) && eqb u v) q; marked = λ a u q. kept a u q (same-or-not u v) }
+  pub joined-by : Joined v h rows (set rows v new) marks marks′
+  joined-by =
+      record { long = length-set rows v new ∙ long; here = λ a. ap (λ (x : ℕ). test-bit x a) stored ∙ joins a; other = other; marks = more; marked = λ a u q. kept a u q (same-or-not u v) }
+
+-- So it is where a mark comes only if the row grows.
+pub joined : (rows : List ℕ) (marks marks′ v h new : ℕ) → length rows ≡ 64 → v < 64 → ((a : ℕ) → test-bit new a ≡ (column rows a v || test-bit h a)) → ((u : ℕ) → test-bit marks′ u ≡ (test-bit marks u || (not (eqb new (getD rows v 0)) && eqb u v))) → Joined v h rows (set rows v new) marks marks′
+joined rows marks marks′ v h new long low joins bits =
+    joined-by rows marks marks′ v h new long low joins (λ u q. bits u ∙ or-left (not (eqb new (getD rows v 0)) && eqb u v) q) (λ q.
+    let n = or-neither (test-bit marks v) (not (eqb new (getD rows v 0)) && eqb v v) .0 (sym (bits v) ∙ q) .1 in
+    eqb-true new (getD rows v 0) (not-false (eqb new (getD rows v 0)) (sym (ap (λ (t : Bool). not (eqb new (getD rows v 0)) && t) (eq-eqb v v refl) ∙ and-true (not (eqb new (getD rows v 0)))) ∙ n)))
 
 -- One graph and then another make a third, where the edges out of u are in one of them.
 handed-both : {a : ℕ} {E F G : Graph} {u : ℕ} {held : Bool} {r s t f g h : ℕ → Bool} → E ⊑ G → F ⊑ G → ((e : Edge) → G e → e .from ≡ u → E e ⊎ F e) → Handed a E u held r s f g → Handed a F u held s t g h → Handed a G u held r t f h
@@ -135,25 +143,25 @@ handed-as i j H =
     record { long = H .long; each = λ a. let h = H .each a in record { up = h .up; hands = λ e m o k. h .hands e (j a e m) o k; sound = λ t st holds below. h .sound t (λ e m. st e (i a e m)) holds below; marks = h .marks; marked = h .marked } }
 
 -- What an anchor may use of one of two graphs.
-usable-split : (E F : Graph) {a : ℕ} {e : Edge} → ¬ LateInto e a → E e ⊎ F e → UsableFrom E a e ⊎ UsableFrom F a e
-usable-split E F timely (inl m) = inl (m, timely)
-usable-split E F timely (inr m) = inr (m, timely)
+usable-split : (U : ℕ → Edge → Type 0) (E F : Graph) {a : ℕ} {e : Edge} → U a e → E e ⊎ F e → Using U E a e ⊎ Using U F a e
+usable-split U E F timely (inl m) = inl (m, timely)
+usable-split U E F timely (inr m) = inr (m, timely)
 
 -- The loop over the list of a step: k is one more than the index of the edge that comes next, and those behind it have handed on.
-pub record Listing (es : List ℕ) (u m : ℕ) (rows₀ rows : List ℕ) (marks₀ marks k : ℕ) : Type 0 where
+pub record Listing (U : ℕ → Edge → Type 0) (es : List ℕ) (u m : ℕ) (rows₀ rows : List ℕ) (marks₀ marks k : ℕ) : Type 0 where
   pub few : k ≤ length es
   pub leaves : (i : ℕ) → k ≡ suc i → unpack (getD es i 0) .from ≡ u
-  pub handed : HandedAll (λ a. UsableFrom (Behind es k) a) u m rows₀ rows marks₀ marks
+  pub handed : HandedAll (Using U (Behind es k)) u m rows₀ rows marks₀ marks
 
-module _ (es : List ℕ) (u m : ℕ) (rows₀ : List ℕ) (marks₀ : ℕ) where
-  pub listing-start : (k : ℕ) → length rows₀ ≡ 64 → k ≡ last-from es u (length es) → Listing es u m rows₀ rows₀ marks₀ marks₀ k
+module _ (U : ℕ → Edge → Type 0) (es : List ℕ) (u m : ℕ) (rows₀ : List ℕ) (marks₀ : ℕ) where
+  pub listing-start : (k : ℕ) → length rows₀ ≡ 64 → k ≡ last-from es u (length es) → Listing U es u m rows₀ rows₀ marks₀ marks₀ k
   listing-start k long h =
       record { few = omega (arith, last-below es u (length es)); leaves = λ i e. last-leaves es u (length es) i (sym h ∙ e) .0; handed = record { long = long; each = λ a. record { up = λ v q. q; hands = λ e b o q. absurd (away e (b .0) o); sound = λ t st holds below. below; marks = λ v q. q; marked = λ v q. refl } } }
     where
       away : (e : Edge) → Behind es k e → e .from ≢ u
       away e b o = last-skips es u (length es) (b .place) (omega (arith, b .behind)) (b .inside) (ap (λ (x : Edge). x .from) (sym (b .same)) ∙ o)
 
-  module _ (rows : List ℕ) (marks k : ℕ) (some : 1 ≤ k) (L : Listing es u m rows₀ rows marks₀ marks k) where
+  module _ (rows : List ℕ) (marks k : ℕ) (some : 1 ≤ k) (L : Listing U es u m rows₀ rows marks₀ marks k) where
     own : unpack (getD es (k - 1) 0) .from ≡ u
     own = L .leaves (k - 1) (omega arith)
 
@@ -169,16 +177,16 @@ module _ (es : List ℕ) (u m : ℕ) (rows₀ : List ℕ) (marks₀ : ℕ) where
         ∙ A .nexts (k - 1) (omega (arith, L .few))
         ∙ ap (λ (v : ℕ). last-from es v (k - 1)) own
 
-    module _ (rows′ : List ℕ) (marks′ k′ : ℕ) (H : HandedAll (λ a. UsableFrom (λ e. e ≡ unpack (getD es (k - 1) 0)) a) (unpack (getD es (k - 1) 0) .from) m rows rows′ marks marks′) (next : k′ ≡ last-from es u (k - 1)) where
+    module _ (rows′ : List ℕ) (marks′ k′ : ℕ) (H : HandedAll (Using U (λ e. e ≡ unpack (getD es (k - 1) 0))) (unpack (getD es (k - 1) 0) .from) m rows rows′ marks marks′) (next : k′ ≡ last-from es u (k - 1)) where
       below : k′ ≤ k - 1
       below = omega (arith, last-below es u (k - 1))
 
-      pub listing-turn : Listing es u m rows₀ rows′ marks₀ marks′ k′
+      pub listing-turn : Listing U es u m rows₀ rows′ marks₀ marks′ k′
       listing-turn =
-          record { few = omega (arith, below, L .few); leaves = λ i e. last-leaves es u (k - 1) i (sym next ∙ e) .0; handed = handed-all own (λ a e b. (record { place = b .0 .place; behind = omega (arith, below, b .0 .behind); inside = b .0 .inside; same = b .0 .same }, b .1)) (λ a e o. (record { place = k - 1; behind = below; inside = omega (arith, L .few); same = o .0 }, o .1)) (λ a e b o. usable-split (Behind es k) (λ x. x ≡ unpack (getD es (k - 1) 0)) (b .1) (behind-split es u k k′ next e o (b .0))) (L .handed) H }
+          record { few = omega (arith, below, L .few); leaves = λ i e. last-leaves es u (k - 1) i (sym next ∙ e) .0; handed = handed-all own (λ a e b. (record { place = b .0 .place; behind = omega (arith, below, b .0 .behind); inside = b .0 .inside; same = b .0 .same }, b .1)) (λ a e o. (record { place = k - 1; behind = below; inside = omega (arith, L .few); same = o .0 }, o .1)) (λ a e b o. usable-split U (Behind es k) (λ x. x ≡ unpack (getD es (k - 1) 0)) (b .1) (behind-split es u k k′ next e o (b .0))) (L .handed) H }
 
       pub listing-less : k′ < k
       listing-less = omega (arith, below)
 
-  pub listing-end : (rows : List ℕ) (marks k : ℕ) → k ≡ 0 → Listing es u m rows₀ rows marks₀ marks k → HandedAll (λ a. UsableFrom (members (graph es)) a) u m rows₀ rows marks₀ marks
+  pub listing-end : (rows : List ℕ) (marks k : ℕ) → k ≡ 0 → Listing U es u m rows₀ rows marks₀ marks k → HandedAll (Using U (members (graph es))) u m rows₀ rows marks₀ marks
   listing-end rows marks k z L = handed-as (λ a e b. (behind-mem es k e (b .0), b .1)) (λ a e b. (mem-behind es k z e (b .0), b .1)) (L .handed)

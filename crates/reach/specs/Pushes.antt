@@ -5,10 +5,10 @@ use mathlib.Core.Bool.{Bool, true, false, not, _&&_, _||_}
 use mathlib.Core.List.{List}
 use mathlib.Core.Logic.{_⊎_, _≢_}
 use Prim.Native.Nat.{ℕ}
-use lib.Dec.{eqb}
+use lib.Dec.{eqb, ltb}
 use lib.ListN.{getD, length}
 use Rattle.definitions.specs.Basics.{test-bit}
-use Rattle.definitions.specs.Links.{Edge, Graph, members, usable}
+use Rattle.definitions.specs.Links.{Edge, Forward, Graph, LateInto, UsableFrom, members, usable}
 use Rattle.definitions.specs.Rounds.{after-reaches}
 use Rattle.theory.specs.Graphs.{Shape}
 use Rattle.theory.specs.Sweeps.{Leads}
@@ -68,6 +68,32 @@ pub record Swept (a : ℕ) (E : Graph) (On : ℕ → Type 0) (r s f g : ℕ → 
 pub record SweptAll (E : ℕ → Graph) (On : ℕ → Type 0) (rows rows′ : List ℕ) (k k′ : ℕ) : Type 0 where
   pub long : length rows′ ≡ 64
   pub each : (a : ℕ) → Swept a (E a) On (column rows a) (column rows′ a) (test-bit k) (test-bit k′)
+
+-- The rows are the anchor sets of n steps without step 0: its delay counts as 0, so it is no anchor here.
+pub record Stripped (sets : List ℕ) (n : ℕ) (rows : List ℕ) : Type 0 where
+  pub long : length rows ≡ 64
+  pub bits : (a v : ℕ) → column rows a v ≡ (ltb v n && (column sets a v && not (eqb a 0)))
+
+-- The returns that walks from the end of a may use; no return is counted on a sheet.
+abbrev pub HomeFrom : ℕ → Edge → Type 0
+HomeFrom a e = (e .back ≡ true) × (¬ LateInto e a)
+
+abbrev pub Uncounted : Graph → Type 0
+Uncounted E = (e : Edge) → E e → e .back ≡ true → e .counted ≡ false
+
+-- One edge handed on what its start has, where it is a return.
+pub record Returned (x : Edge) (rows rows′ : List ℕ) (k k′ : ℕ) : Type 0 where
+  pub long : length rows′ ≡ 64
+  pub hands : Uncounted (λ e. e ≡ x) → HandedAll (λ a e. (e ≡ x) × HomeFrom a e) (x .from) (getD rows (x .from) 0) rows rows′ k k′
+
+-- Every return handed on, on one column. Where the forward edges had handed on before, every edge has that leaves a step without a mark.
+pub record Homed (a : ℕ) (E : Graph) (r s g : ℕ → Bool) : Type 0 where
+  pub sound : (t : ℕ → Bool) → Settled a E t → Within r t → Within s t
+  pub covers : Settled a (Forward E) r → Covered a E s g
+
+pub record HomedAll (E : Graph) (rows rows′ : List ℕ) (k : ℕ) : Type 0 where
+  pub long : length rows′ ≡ 64
+  pub each : Uncounted E → (a : ℕ) → Homed a (UsableFrom E a) (column rows a) (column rows′ a) (test-bit k)
 
 -- What `reach` gives. On the edges of a sheet of n steps, bit a of row v says whether a walk that begins with a counted edge out of a reaches v over the edges that it may use.
 pub record Reached (n : ℕ) (es : List Edge) (r : List ℕ) : Type 0 where

@@ -1,18 +1,19 @@
 // Which anchors reach which vertices: each step hands on, along its edges, the anchors of its row, in an order and back, until nothing is left to hand on. See specs/Pushes.antt.
+use edges::edge_from;
 use edges::edge_to;
+use edges::is_back;
 use edges::is_counted;
 use edges::is_late;
 use edges::usable_by;
 ghost use mathlib.Core.Path.{_≡_};
 ghost use mathlib.Core.Bool.{cond};
-ghost use Prim.Native.Nat.{ℕ, _<_, _≤_};
-ghost use lib.Dec.{ltb};
-ghost use lib.ListN.{length};
+ghost use Prim.Native.Nat.{_<_, _≤_};
+ghost use lib.ListN.{length, replicate};
+ghost use Rattle.anchors.specs.Sets.{AnchorSets};
 ghost use Rattle.adjacency.specs.Lists.{Lists};
-ghost use Rattle.definitions.specs.Basics.{test-bit};
 ghost use Rattle.definitions.specs.Links.{UsableFrom, members};
 ghost use Rattle.edges.specs.Words.{graph, unpack};
-ghost use Rattle.reach.specs.Pushes.{Begun, HandedAll, Joined, Reached, SweptAll};
+ghost use Rattle.reach.specs.Pushes.{Begun, HandedAll, HomedAll, Joined, Reached, Returned, Stripped, SweptAll};
 
 // A place in an adjacency list.
 fn index(x: u16) -> usize
@@ -143,32 +144,66 @@ fn sweep(
     sweep_down(rows, left, es, lists, n)
 }
 
-// A mark for every step below n.
-fn all_marks(n: usize) -> u64
-    requires { ⌜ n ≤ 64 ⌝ }
-    ensures { λ r. ⌜ ((v : ℕ) → test-bit r v ≡ ltb v n) ⌝ }
+// The anchor sets of n steps without step 0, into rows that are blank.
+fn strip(rows: &mut [u64; 64], sets: &[u64; 64], n: usize)
+    requires { ⌜ (n ≤ 64) × (now rows ≡ replicate 64 0) ⌝ }
+    ensures { λ r. ⌜ Stripped (now (sets .entry)) n (now (rows .exit)) ⌝ }
 {
-    if n < 64 {
-        (1 << n) - 1
-    } else {
-        18446744073709551615
+    let mut v = 0;
+    while v < n {
+        rows[v] = bitmaps::remove(sets[v], 0);
+        v += 1;
     }
 }
 
-// Sweeps until nothing is left to hand on, n at most: on a sheet of n steps no anchor needs more. The order decides speed alone.
-pub fn reach(es: &[u64], lists: &[u16], order: &[u8; 64], n: usize) -> [u64; 64]
-    requires { ⌜ (n ≤ 64) × (length (now es) ≤ 2048) × Lists (now es) (now lists) ⌝ }
-    ensures { λ r. ⌜ Reached n (graph (now (es .entry))) r ⌝ }
+// One edge hands on what its start has, where it is a return.
+fn push_return(rows: &mut [u64; 64], marks: u64, w: u64) -> u64
+    requires { ⌜ length (now rows) ≡ 64 ⌝ }
+    ensures { λ r. ⌜ Returned (unpack w) (now (rows .entry)) (now (rows .exit)) marks r ⌝ }
 {
-    let mut rows = [0u64; 64];
-    let mut marks = all_marks(n);
+    if !is_back(w) {
+        return marks;
+    }
+    let from = edge_from(w);
+    let to = edge_to(w);
+    let h = usable_by(rows[from], w);
+    join(rows, marks, to, h)
+}
+
+// Every return, one after another. The marks of the rows that grew.
+fn push_returns(rows: &mut [u64; 64], es: &[u64]) -> u64
+    requires { ⌜ length (now rows) ≡ 64 ⌝ }
+    ensures { λ r. ⌜ HomedAll (members (graph (now (es .entry)))) (now (rows .entry)) (now (rows .exit)) r ⌝ }
+{
+    let mut marks = 0;
+    let mut k = 0;
+    while k < es.len() {
+        marks = push_return(rows, marks, es[k]);
+        k += 1;
+    }
+    marks
+}
+
+// From the anchor sets, in which the forward edges have handed on: the returns once, and then sweeps until nothing is left to hand on, n at most, since on a sheet of n steps no anchor needs more. The order decides speed alone.
+pub fn reach(
+    es: &[u64],
+    lists: &[u16],
+    order: &[u8; 64],
+    sets: &[u64; 64],
+    n: usize,
+    rows: &mut [u64; 64],
+)
+    requires { ⌜ (n ≤ 64) × (length (now es) ≤ 2048) × Lists (now es) (now lists) × (now rows ≡ replicate 64 0) ⌝ }
+    ensures { λ r. ⌜ (AnchorSets n (graph (now (es .entry))) (now (sets .entry)) → Reached n (graph (now (es .entry))) (now (rows .exit))) ⌝ }
+{
+    strip(rows, sets, n);
+    let mut marks = push_returns(rows, es);
     let mut done = 0;
     while done < n {
-        marks = sweep(&mut rows, marks, es, lists, order, n);
         if marks == 0 {
-            return rows;
+            return;
         }
+        marks = sweep(rows, marks, es, lists, order, n);
         done += 1;
     }
-    rows
 }

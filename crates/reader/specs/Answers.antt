@@ -1,13 +1,23 @@
--- What the reader's report says, and the words beside it.
+-- What the reader's report says, and the words beside it; and what its parts say: N and R, and the link records.
 use mathlib.Core.Path.{_≡_}
 use mathlib.Core.List.{List}
 use Prim.Native.Nat.{ℕ, _≤_}
-use lib.ListN.{length, take}
+use lib.ListN.{length, take, drop}
 use Rattle.definitions.specs.Answers.{count-of, edges-of}
-use Rattle.definitions.specs.Basics.{Outcome, given, when-given}
+use Rattle.definitions.specs.Basics.{Outcome, given, refused, when-given}
 use Rattle.definitions.specs.Bytes.{Records, blank-operation, padded}
-use Rattle.definitions.specs.Numbers.{reading-of}
+use Rattle.definitions.specs.Numbers.{number, reading-of}
 use Rattle.edges.specs.Words.{graph}
+use Rattle.definitions.specs.declared.Operation.{Operation}
+use Rattle.definitions.specs.declared.Reading.{Reading}
+use Rattle.definitions.specs.declared.Reading.the-variants as Readings
+use Rattle.fields.specs.Parts.{outcome}
+use Rattle.operation_records.specs.declared.Place.{Place}
+use Rattle.operation_records.specs.declared.Place.the-variants as Places
+use Rattle.link_records.specs.Answers.{LinksReads}
+use Rattle.link_records.specs.declared.LinksRead.{LinksRead}
+use Rattle.reader.specs.Parts.{sheet-records, link-count}
+use Rattle.reader.specs.declared.Head.{Head}
 use Rattle.reader.specs.declared.Report.{Report}
 
 -- A sheet as a report and words hold it: its steps, with blank ones behind them, and its edges as the first words.
@@ -22,3 +32,22 @@ pub record Holds (q : Records) (words : List ℕ) (r : Report) : Type 0 where
 pub record Reports (p : Outcome Records) (words : List ℕ) (r : Report) : Type 0 where
   pub reading : reading-of {A = Unit {0}} (r .reading) tt ≡ when-given p (λ q. given tt)
   pub sheet : (q : Records) → p ≡ given q → Holds q words r
+
+-- What N and R leave to be read: the records; or a refusal by its number.
+abbrev pub head-outcome : List ℕ → Head → Reading → Outcome Records
+head-outcome s h Readings.Whole = outcome (sheet-records (h .n) (h .r)) (drop (h .at) s)
+head-outcome s h (Readings.Refused k) = refused (number k)
+
+-- N and R of the bytes s, of which reading makes p. They keep their limits, also beside a refusal.
+pub record Heads (p : Outcome Records) (s : List ℕ) (h : Head) : Type 0 where
+  pub same : head-outcome s h (h .reading) ≡ p
+  pub inside : h .at ≤ length s
+  pub steps : h .n ≤ 64
+  pub few : h .r ≤ 512
+  pub room : h .r ≤ link-count s
+
+-- The link records, where the reading up to the steps, and the row of steps, have these answers.
+abbrev pub TailReads : List ℕ → ℕ → ℕ → List Operation → List ℕ → LinksRead → Reading → Place → Type 0
+TailReads s n r os words q (Readings.Refused k) place = q .reading ≡ Readings.Refused k
+TailReads s n r os words q Readings.Whole (Places.Refused k) = q .reading ≡ Readings.Refused k
+TailReads s n r os words q Readings.Whole (Places.At middle) = LinksReads (drop middle s) n r os words q

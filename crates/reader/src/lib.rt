@@ -3,17 +3,19 @@ ghost use mathlib.Core.Path.{_≡_};
 ghost use mathlib.Core.List.{List};
 ghost use Prim.Native.Nat.{ℕ, _*_, _≤_, _<_};
 ghost use lib.Dec.{leb};
-ghost use lib.ListN.{length, drop};
+ghost use lib.ListN.{length, take, drop};
 ghost use Rattle.definitions.specs.Basics.{refused};
 ghost use Rattle.definitions.specs.Numbers.{number};
 ghost use Rattle.definitions.specs.Bytes as Bytes;
 ghost use Rattle.fields.specs.Parts.{outcome};
-ghost use Rattle.reader.specs.Parts.{link-count, sheet-records, sheet-counted};
-ghost use Rattle.reader.specs.Answers.{Reports};
+ghost use Rattle.operation_records.specs.Answers.{place-end};
+ghost use Rattle.reader.specs.Parts.{link-count, sheet-counted};
+ghost use Rattle.reader.specs.Answers.{Heads, TailReads, Reports};
 use definitions::Operation;
 use definitions::Reading;
 use definitions::Refusal;
 use fields::NumberRead;
+use link_records::LinksRead;
 use operation_records::Place;
 
 // Whether the bytes are a sheet, or the first fault. Beside a sheet: its n steps, with blank ones behind them, and how many words stand for its edges. What stands beside a fault is not said.
@@ -36,58 +38,88 @@ fn count_index(x: u16) -> usize
     x as usize
 }
 
+// N and R, and the place after them; or the first fault there, beside counts of 0.
+struct Head {
+    reading: Reading,
+    at: usize,
+    n: usize,
+    r: usize,
+}
+
 // A refusal.
-fn refused_report(k: Refusal) -> Report
-    ensures { λ q. ⌜ ((words : List ℕ) → Reports (refused (number k)) words q) ⌝ }
+fn refused_head(k: Refusal) -> Head
+    ensures { λ h. ⌜ ((s : List ℕ) → Heads (refused (number k)) s h) ⌝ }
 {
-    let operation = operation_records::blank_operation();
-    let operations = [operation; 64];
-    Report {
+    Head {
         reading: Reading::Refused(k),
+        at: 0,
         n: 0,
-        operations: operations,
-        count: 0,
+        r: 0,
     }
 }
 
-// The records of a sheet. The link records are read from the byte after the last step record.
-fn read_records(s: &[u8], at: usize, n: usize, r: usize, words: &mut [u64]) -> Report
-    requires { ⌜ (at ≤ length (now s)) × (n ≤ 64) × (r ≤ 512) × (4 * r ≤ length (now words)) ⌝ }
-    ensures { λ q. ⌜ Reports (outcome (sheet-records n r) (drop at (now (s .entry)))) (now (words .exit)) q ⌝ }
-{
-    let steps = operation_records::read_operations(s, at, n);
-    let place = steps.place;
-    match place {
-        Place::Refused(k) => refused_report(k),
-        Place::At(middle) => {
-            let operations = steps.operations;
-            let pairs = link_records::read_links(&s[middle..], n, r, operations, words);
-            let reading = pairs.reading;
-            Report {
-                reading: reading,
-                n: n,
-                operations: operations,
-                count: pairs.count,
-            }
-        }
-    }
-}
-
-// A sheet from R on.
-fn read_counted(s: &[u8], n: usize, words: &mut [u64]) -> Report
-    requires { ⌜ (n ≤ 64) × (4 * link-count (now s) ≤ length (now words)) ⌝ }
-    ensures { λ q. ⌜ Reports (outcome (sheet-counted n) (drop 1 (now (s .entry)))) (now (words .exit)) q ⌝ }
+// R, once N is read.
+fn read_counted(s: &[u8], n: usize) -> Head
+    requires { ⌜ n ≤ 64 ⌝ }
+    ensures { λ h. ⌜ Heads (outcome (sheet-counted n) (drop 1 (now (s .entry)))) (now (s .entry)) h ⌝ }
 {
     match fields::read_number(s, 1) {
         NumberRead::Item(count, next) => {
             let r = count_index(count);
             if 512 < r {
-                refused_report(Refusal::LinkCount)
+                refused_head(Refusal::LinkCount)
             } else {
-                read_records(s, next, n, r, words)
+                Head {
+                    reading: Reading::Whole,
+                    at: next,
+                    n: n,
+                    r: r,
+                }
             }
         }
-        NumberRead::Refused(k) => refused_report(k),
+        NumberRead::Refused(k) => refused_head(k),
+    }
+}
+
+// N and R.
+fn read_head(s: &[u8]) -> Head
+    ensures { λ h. ⌜ Heads (Bytes.read (now (s .entry))) (now (s .entry)) h ⌝ }
+{
+    if s.len() == 0 {
+        return refused_head(Refusal::Truncated);
+    }
+    let n = index(s[0]);
+    match n {
+        1..=64 => read_counted(s, n),
+        _ => refused_head(Refusal::OperationCount),
+    }
+}
+
+// The link records, once nothing before them was refused. They are read from the byte after the last step record.
+fn read_tail(
+    s: &[u8],
+    reading: Reading,
+    place: Place,
+    n: usize,
+    r: usize,
+    operations: [Operation; 64],
+    words: &mut [u64],
+) -> LinksRead
+    requires { ⌜ (place-end place ≤ length (now s)) × (n ≤ 64) × (4 * r ≤ length (now words)) ⌝ }
+    ensures { λ q. ⌜ TailReads (now (s .entry)) n r (take n operations) (now (words .exit)) q reading place ⌝ }
+{
+    match reading {
+        Reading::Refused(k) => LinksRead {
+            reading: Reading::Refused(k),
+            count: 0,
+        },
+        Reading::Whole => match place {
+            Place::Refused(k) => LinksRead {
+                reading: Reading::Refused(k),
+                count: 0,
+            },
+            Place::At(middle) => link_records::read_links(&s[middle..], n, r, operations, words),
+        },
     }
 }
 
@@ -107,12 +139,19 @@ pub fn read(s: &[u8], words: &mut [u64]) -> Report
     requires { ⌜ 4 * link-count (now s) ≤ length (now words) ⌝ }
     ensures { λ r. ⌜ Reports (Bytes.read (now (s .entry))) (now (words .exit)) r ⌝ }
 {
-    if s.len() == 0 {
-        return refused_report(Refusal::Truncated);
-    }
-    let n = index(s[0]);
-    match n {
-        1..=64 => read_counted(s, n, words),
-        _ => refused_report(Refusal::OperationCount),
+    let head = read_head(s);
+    let at = head.at;
+    let n = head.n;
+    let steps = operation_records::read_operations(s, at, n);
+    let place = steps.place;
+    let operations = steps.operations;
+    let reading = head.reading;
+    let tail = read_tail(s, reading, place, n, head.r, operations, words);
+    let judged = tail.reading;
+    Report {
+        reading: judged,
+        n: n,
+        operations: operations,
+        count: tail.count,
     }
 }

@@ -74,13 +74,6 @@ module _ {A B : Type 0} (row bit : A → ℕ) (passes : A → Bool) (f : B → A
   pub relate-more : {rows : List ℕ} (i : ℕ) (z : B) {v u : ℕ} {t : Bool} (m : ℕ) → i < length l → Gathered relates (map f (take i l)) rows → v ≡ row (f (getD l i z)) → v < 64 → u ≡ bit (f (getD l i z)) → t ≡ passes (f (getD l i z)) → ((k : ℕ) → test-bit m k ≡ (row-bit rows v k || (t && eqb k u))) → Gathered relates (map f (take (i + 1) l)) (set rows v m)
   relate-more i z {v} {u} {t} m b g e c d h bits = pass-more relates f l i z v m (λ k. t && eqb k u) b g c bits (λ w k. rw (e, d, h))
 
--- A part that is taken in under a condition: it is left out where the condition fails, and is there where it holds.
-pub or-skip : (b t c : Bool) → t ≡ false → b ≡ (b || (t && c))
-or-skip b t c h = sym (or-none b) ∙ ap (λ (x : Bool). b || (x && c)) (sym h)
-
-pub or-take : (b t c : Bool) → t ≡ true → (b || c) ≡ (b || (t && c))
-or-take b t c h = ap (λ (x : Bool). b || (x && c)) (sym h)
-
 and-comm : (a b : Bool) → (a && b) ≡ (b && a)
 and-comm true true = refl
 and-comm true false = refl

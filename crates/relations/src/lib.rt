@@ -3,6 +3,7 @@ ghost use mathlib.Core.Path.{_≡_};
 ghost use mathlib.Core.Bool.{_&&_};
 ghost use Prim.Native.Nat.{ℕ, _<_, _≤_};
 ghost use lib.Dec.{ltb};
+ghost use lib.ListN.{replicate};
 ghost use Rattle.definitions.specs.Basics.{any-below};
 ghost use Rattle.relations.specs.Rows.{row-bit, Spread};
 
@@ -35,16 +36,14 @@ fn spread(out: &mut [u64], m: u64, v: usize)
     }
 }
 
-// The relation turned round: bit v of row k stands where bit k of row v does, for v below n.
-pub fn transpose(rows: &[u64; 64], n: usize) -> [u64; 64]
-    requires { ⌜ n ≤ 64 ⌝ }
-    ensures { λ r. ⌜ ((v k : ℕ) → row-bit r k v ≡ (ltb v n && row-bit (now (rows .entry)) v k)) ⌝ }
+// The relation turned round, into rows that are blank: bit v of row k stands where bit k of row v does, for v below n.
+pub fn transpose(rows: &[u64; 64], n: usize, out: &mut [u64; 64])
+    requires { ⌜ (n ≤ 64) × (now out ≡ replicate 64 0) ⌝ }
+    ensures { λ r. ⌜ ((v k : ℕ) → row-bit (now (out .exit)) k v ≡ (ltb v n && row-bit (now (rows .entry)) v k)) ⌝ }
 {
-    let mut out = [0u64; 64];
     let mut i = 0;
     while i < n {
-        spread(&mut out, rows[i], i);
+        spread(out, rows[i], i);
         i += 1;
     }
-    out
 }

@@ -1,44 +1,165 @@
--- One edge with its marks, for the anchors that may use it.
+-- One edge on the columns of a table.
 use mathlib.Core.Path.{_≡_, refl, sym, ap, _∙_}
-use mathlib.Core.Bool.{Bool, true, false, not, _&&_, _||_, true≢false}
+use mathlib.Core.Bool.{Bool, true, false, cond}
 use mathlib.Core.Logic.{_⊎_, inl, inr, _≢_}
 use mathlib.Core.List.{List}
-use Prim.Native.Nat.{ℕ, _<_}
+use Prim.Native.Nat.{ℕ, _+_, _-_, _≤_, _<_, max}
+use native.Mathlib.Decide.{decLe}
 use native.Mathlib.Omega.{arith}
-use lib.ListN.{length, getD, set, length-set}
-use lib.Seq.{getD-set-same, getD-set-other}
-use borrow.Author.Tests.{not-true}
+use lib.ListN.{getD}
+use borrow.Author.Tests.{le-ltb, lt-ltb}
 use Rattle.definitions.specs.Basics.{test-bit}
-use Rattle.definitions.specs.Links.{Edge, LateInto, UsableFrom, late-into}
-use Rattle.laws.proofs.Bools.{and-join, and-split, both-ways, not-passing, or-left, same-or-not}
-use Rattle.theory.proofs.Usables.{late-into-iff}
-use Rattle.relaxation.specs.Columns.{HandedAll, Only, RelaxedAll, column, marks}
+use Rattle.definitions.specs.Links.{Edge, Graph, LateInto, UsableFrom}
+use Rattle.definitions.specs.Rounds.{extend}
+use Rattle.laws.proofs.Bools.{both-ways, same-or-not}
+use Rattle.theory.proofs.Relaxation.{extend-mono}
+use Rattle.theory.proofs.RowLaws.{extend-none, extend-some}
+use Rattle.relaxation.specs.Columns.{Handed, HandedAll, Numbers, Only, Square, Under, column, entry, value}
+use Rattle.relaxation.specs.Lifts.{Clear, Raised, Risen, delta-of, lent, moved}
 
-or-false : (x y : Bool) → (x || y) ≡ false → y ≡ false
-or-false true y h = absurd (true≢false h)
-or-false false y h = h
-
--- The marks of the anchors whose cells grew are put beside those at the edge's end.
-pub handed-word : (e : Edge) (m used moved map to : ℕ) (d d′ : List (List ℕ)) (fresh : List ℕ) → to ≡ e .to → length fresh ≡ 64 → to < 64 → ((a : ℕ) → test-bit used a ≡ (test-bit m a && not (late-into a e))) → RelaxedAll e used moved d d′ → ((j : ℕ) → test-bit map j ≡ (test-bit (getD fresh to 0) j || test-bit moved j)) → HandedAll (λ a. UsableFrom (Only e) a) (e .from) m d d′ fresh (set fresh to map)
-handed-word e m used moved map to d d′ fresh t long b users R united =
-    record { square = R .square; long = length-set fresh to map ∙ long; each = λ a. record { up = R .each a .up; hands = λ q x o f. rw (o .0) (R .each a .hands (usable a q (λ l. o .1 (rw (o .0) l)))); sound = λ s st below v. R .each a .sound s (λ q. st e (refl, timely a q)) below v; marks = λ v. stands a v (same-or-not v to); marked = λ v. still a v (same-or-not v to) } }
+-- Of two numbers the first is below the second, or not.
+pub below-or-not : (k n : ℕ) → (k < n) ⊎ (n ≤ k)
+below-or-not k n = by (decLe n k)
   where
-    usable : (a : ℕ) → test-bit m a ≡ true → ¬ LateInto e a → test-bit used a ≡ true
-    usable a q l = users a ∙ and-join q (ap not (not-passing (late-into a e) (λ i. l (late-into-iff e a .0 i))))
+    by : Dec (n ≤ k) → (k < n) ⊎ (n ≤ k)
+    by (yes h) = inr h
+    by (no h) = inl (omega arith)
 
-    timely : (a : ℕ) → test-bit used a ≡ true → ¬ LateInto e a
-    timely a q l = both-ways (late-into-iff e a .1 l) (not-true (late-into a e) (and-split (test-bit m a) (not (late-into a e)) (sym (users a) ∙ q) .1))
+-- The larger of two cells says the larger of what they say.
+value-max : (b c : ℕ) → value (max b c) ≡ max (value b) (value c)
+value-max b c = omega arith
 
-    at : (a : ℕ) → marks (set fresh to map) a to ≡ (marks fresh a to || test-bit moved a)
-    at a = ap (λ (x : ℕ). test-bit x a) (getD-set-same fresh to map 0 (omega arith)) ∙ united a
+-- A cell to which another one moves along an edge. It stays where that one says nothing; else it says the walk made longer, where that is more.
+module _ (old c new gain loss : ℕ) (g : gain < 16777216) (l : loss < 16777216) (low : value old ≤ 16777216) (small : value c ≤ 16777216) (R : Risen old (moved c (delta-of gain loss)) new) where
+  larger : moved c (delta-of gain loss) < 2147483648 → new ≡ max old (moved c (delta-of gain loss))
+  larger h = R .sum ∙ whole (max old (moved c (delta-of gain loss))) (R .above .larger low h) (omega arith)
+    where
+      whole : (x : ℕ) → old + R .by ≡ x → x < 4294967296 → moved old (R .by) ≡ x
+      whole x e b = omega arith
 
-    beside : (a v : ℕ) → v ≢ to → marks (set fresh to map) a v ≡ marks fresh a v
-    beside a v h = ap (λ (x : ℕ). test-bit x a) (getD-set-other fresh to v map 0 h)
+  same : 4278190080 ≤ moved c (delta-of gain loss) → new ≡ old
+  same h = omega (arith, R .sum, R .above .none low h)
 
-    stands : (a v : ℕ) → (v ≡ to) ⊎ (v ≢ to) → marks fresh a v ≡ true → marks (set fresh to map) a v ≡ true
-    stands a v (inl h) q = rw h (at a ∙ or-left (test-bit moved a) (ap (marks fresh a) (sym h) ∙ q))
-    stands a v (inr h) q = beside a v h ∙ q
+  risen-none : Clear c → value c ≡ 0 → value new ≡ value old
+  risen-none (inl e) z = by (below-or-not gain loss)
+    where
+      by : (gain < loss) ⊎ (loss ≤ gain) → value new ≡ value old
+      by (inl h) = ap value (same (omega arith))
+      by (inr h) =
+          let m : moved c (delta-of gain loss) < 16777216 = omega arith in
+          ap value (larger (omega arith)) ∙ value-max old (moved c (delta-of gain loss)) ∙ omega arith
+  risen-none (inr b) z = absurd (omega arith)
 
-    still : (a v : ℕ) → (v ≡ to) ⊎ (v ≢ to) → marks (set fresh to map) a v ≡ false → column d′ a v ≡ column d a v
-    still a v (inl h) q = R .each a .kept (or-false (marks fresh a to) (test-bit moved a) (sym (at a) ∙ ap (marks (set fresh to map) a) (sym h) ∙ q)) v
-    still a v (inr h) q = R .each a .other v (λ k. h (k ∙ sym t))
+  risen-some : 1 ≤ value c → value new ≡ max (value old) (value c + gain - loss)
+  risen-some h =
+      let m : moved c (delta-of gain loss) ≡ c + gain - loss = omega arith in
+      let e : value (moved c (delta-of gain loss)) ≡ value c + gain - loss = omega arith in
+      ap value (larger (omega arith)) ∙ value-max old (moved c (delta-of gain loss)) ∙ ap (max (value old)) e
+
+-- Where an edge has something to hand on and the column that is sought holds a walk at its start, the column holds one at its end.
+ends-live : {E : Graph} {t r : ℕ → ℕ} → Under E t r → (e : Edge) → E e → 1 ≤ t (e .from) → 1 ≤ r (e .to)
+ends-live {t = t} U e m h = U .live (e .to) (omega (arith, U .settles e m, extend-some (t (e .from)) (e .gain) (e .loss) h))
+
+-- A column that stays, where its end has what the edges hand on.
+handed-still : {E : Graph} {u x : ℕ} {r s : ℕ → ℕ} {f g : ℕ → Bool} → ((v : ℕ) → s v ≡ r v) → ((v : ℕ) → f v ≡ true → g v ≡ true) → ((t : ℕ → ℕ) → Under E t r → x ≤ t u → (e : Edge) → E e → e .from ≡ u → extend x (e .gain) (e .loss) ≤ r (e .to)) → Handed E u x r s f g
+handed-still same kept hands =
+    record { up = λ t U h v. omega (arith, same v); under = λ t U h. record { settles = U .settles; small = U .small; below = λ v. omega (arith, same v, U .below v); live = λ v q. omega (arith, same v, U .live v q) }; hands = λ t U h e m o. omega (arith, hands t U h e m o, same (e .to)); marks = kept; marked = λ v q. same v }
+
+-- A column that is lifted at the edge's end.
+module _ (e : Edge) (a x : ℕ) (r s : ℕ → ℕ) (timely : ¬ LateInto e a) (none : r (e .to) ≤ 16777216 → x ≤ 16777216 → x ≡ 0 → s (e .to) ≡ r (e .to)) (some : r (e .to) ≤ 16777216 → x ≤ 16777216 → 1 ≤ x → s (e .to) ≡ max (r (e .to)) (x + e .gain - e .loss)) (other : (v : ℕ) → v ≢ e .to → s v ≡ r v) where
+  module _ (t : ℕ → ℕ) (U : Under (UsableFrom (Only e) a) t r) (h : x ≤ t (e .from)) where
+    small : x ≤ 16777216
+    small = omega (arith, U .small (e .from))
+
+    low : r (e .to) ≤ 16777216
+    low = omega (arith, U .below (e .to), U .small (e .to))
+
+    -- What the edge hands on is at its end, and no more than that comes there.
+    lifted : (0 < x) ⊎ (x ≤ 0) → (r (e .to) ≤ s (e .to)) × (s (e .to) ≤ t (e .to)) × (extend x (e .gain) (e .loss) ≤ s (e .to))
+    lifted (inl q) =
+        let new = some low small q in
+        let longer = extend-some x (e .gain) (e .loss) q in (
+          omega arith,
+          omega (arith, U .below (e .to), extend-mono x (t (e .from)) (e .gain) (e .loss) h, U .settles e (refl, timely)),
+          omega (arith, ends-live U e (refl, timely) (omega arith)),
+        )
+    lifted (inr q) =
+        let new = none low small (omega arith) in
+        (omega arith, omega (arith, U .below (e .to)), omega (arith, extend-none x (e .gain) (e .loss) (omega arith)))
+
+    up : (v : ℕ) → (v ≡ e .to) ⊎ (v ≢ e .to) → r v ≤ s v
+    up v (inl q) = rw q (lifted (below-or-not 0 x) .0)
+    up v (inr o) = omega (arith, other v o)
+
+    below : (v : ℕ) → (v ≡ e .to) ⊎ (v ≢ e .to) → s v ≤ t v
+    below v (inl q) = rw q (lifted (below-or-not 0 x) .1)
+    below v (inr o) = omega (arith, other v o, U .below v)
+
+  handed-lifted : {f k : ℕ → Bool} → ((v : ℕ) → f v ≡ true → k v ≡ true) → ((v : ℕ) → k v ≡ false → s v ≡ r v) → Handed (UsableFrom (Only e) a) (e .from) x r s f k
+  handed-lifted marks marked =
+      record { up = λ t U h v. up t U h v (same-or-not v (e .to)); under = λ t U h. record { settles = U .settles; small = U .small; below = λ v. below t U h v (same-or-not v (e .to)); live = λ v q. omega (arith, U .live v q, up t U h v (same-or-not v (e .to))) }; hands = λ t U h y o q. rw (o .0) (lifted t U h (below-or-not 0 x) .2); marks = marks; marked = marked }
+
+-- What a row lends in a column.
+module _ (row : List ℕ) (width k : ℕ) where
+  pub lent-in : k < width → lent row width k ≡ value (getD row k 0)
+  lent-in h = ap (λ (b : Bool). cond b (value (getD row k 0)) 0) (lt-ltb k width h)
+
+  pub lent-beyond : width ≤ k → lent row width k ≡ 0
+  lent-beyond h = ap (λ (b : Bool). cond b (value (getD row k 0)) 0) (le-ltb k width h)
+
+-- One edge on all columns. In a column that is not lifted the row lends nothing, or the edge is late for its anchor.
+module _ (e : Edge) (number row : List ℕ) (width : ℕ) (clear : (k : ℕ) → k < width → Clear (getD row k 0)) (d : List (List ℕ)) where
+  nothing : (k x : ℕ) → lent row width k ≡ 0 → extend (lent row width k) (e .gain) (e .loss) ≤ x
+  nothing k x z = omega (arith, extend-none (lent row width k) (e .gain) (e .loss) z)
+
+  module _ (On : ℕ → Type 0) (to delta : ℕ) (d′ : List (List ℕ)) (m m′ : ℕ) (g : e .gain < 16777216) (l : e .loss < 16777216) (ends : to ≡ e .to) (moves : delta ≡ delta-of (e .gain) (e .loss)) (R : Raised On to delta row d d′ m m′) where
+    pub handed-row : ((all : ℕ) (anchor : ℕ → ℕ) → Numbers all number anchor → (k : ℕ) → k < all → (On k × (k < width) × ¬ LateInto e (anchor k)) ⊎ ((¬ On k) × ((width ≤ k) ⊎ LateInto e (anchor k)))) → HandedAll (λ a. UsableFrom (Only e) a) number (e .from) (lent row width) d d′ m m′
+    handed-row decide = record { square = R .lifted .square; each = λ all anchor N k q. by (anchor k) k (decide all anchor N k q) }
+      where
+        rises : (k : ℕ) → On k → Risen (entry d (e .to) k) (moved (getD row k 0) (delta-of (e .gain) (e .loss))) (entry d′ (e .to) k)
+        rises k on = rw (← ends, ← moves) (R .lifted .lifts k on)
+
+        still : (k v : ℕ) → ¬ On k → (v ≡ to) ⊎ (v ≢ to) → column d′ k v ≡ column d k v
+        still k v off (inl h) = rw h (ap value (R .lifted .keeps k off))
+        still k v off (inr o) = ap value (R .lifted .other v k o)
+
+        by : (a k : ℕ) → (On k × (k < width) × ¬ LateInto e a) ⊎ ((¬ On k) × ((width ≤ k) ⊎ LateInto e a)) → Handed (UsableFrom (Only e) a) (e .from) (lent row width k) (column d k) (column d′ k) (test-bit m) (test-bit m′)
+        by a k (inl h) =
+            rw (lent-in row width k (h .1))
+            (handed-lifted e a (value (getD row k 0)) (column d k) (column d′ k) (h .2) (λ low small z. risen-none (entry d (e .to) k) (getD row k 0) (entry d′ (e .to) k) (e .gain) (e .loss) g l low small (rises k (h .0)) (clear k (h .1)) z) (λ low small q. risen-some (entry d (e .to) k) (getD row k 0) (entry d′ (e .to) k) (e .gain) (e .loss) g l low small (rises k (h .0)) q) (λ v o. ap value (R .lifted .other v k (λ q. o (q ∙ ends)))) (R .marks) (λ v q. ap value (R .marked v k q)))
+        by a k (inr h) = handed-still (λ v. still k v (h .0) (same-or-not v to)) (R .marks) (λ t U b x o q. none (h .1) x o)
+          where
+            none : (width ≤ k) ⊎ LateInto e a → (x : Edge) → UsableFrom (Only e) a x → extend (lent row width k) (x .gain) (x .loss) ≤ column d k (x .to)
+            none (inl b) x o = rw (o .0) (nothing k (column d k (e .to)) (lent-beyond row width k b))
+            none (inr late) x o = absurd (o .1 (rw (o .0) late))
+
+  -- Where no walk gets longer than offset 0 by it, the edge has handed on.
+  pub handed-idle : (top m : ℕ) → ((k : ℕ) → k < width → getD row k 0 ≤ 1073741824 + top) → Square d → top + e .gain ≤ e .loss → HandedAll (λ a. UsableFrom (Only e) a) number (e .from) (lent row width) d d m m
+  handed-idle top m tops S low =
+      record { square = S; each = λ all anchor N k q. handed-still (λ v. refl) (λ v h. h) (λ t U b x o f. rw (o .0) (by t (anchor k) k U (refl, λ l. o .1 (rw (o .0) l)) b (below-or-not k width))) }
+    where
+      some : (t : ℕ → ℕ) (a k : ℕ) → Under (UsableFrom (Only e) a) t (column d k) → UsableFrom (Only e) a e → value (getD row k 0) ≤ t (e .from) → k < width → (0 < value (getD row k 0)) ⊎ (value (getD row k 0) ≤ 0) → extend (value (getD row k 0)) (e .gain) (e .loss) ≤ column d k (e .to)
+      some t a k U o b h (inl q) =
+          omega (arith, extend-some (value (getD row k 0)) (e .gain) (e .loss) q, tops k h, ends-live U e o (omega arith))
+      some t a k U o b h (inr q) = omega (arith, extend-none (value (getD row k 0)) (e .gain) (e .loss) (omega arith))
+
+      by : (t : ℕ → ℕ) (a k : ℕ) → Under (UsableFrom (Only e) a) t (column d k) → UsableFrom (Only e) a e → lent row width k ≤ t (e .from) → (k < width) ⊎ (width ≤ k) → extend (lent row width k) (e .gain) (e .loss) ≤ column d k (e .to)
+      by t a k U o b (inl h) =
+          rw (lent-in row width k h) (some t a k U o (omega (arith, lent-in row width k h)) h (below-or-not 0 (value (getD row k 0))))
+      by t a k U o b (inr h) = nothing k (column d k (e .to)) (lent-beyond row width k h)
+
+-- An edge that is not late is for every anchor; a late one for all but its end.
+pub timely-columns : (e : Edge) (number : List ℕ) (width : ℕ) → e .late ≡ false → (all : ℕ) (anchor : ℕ → ℕ) → Numbers all number anchor → (k : ℕ) → k < all → ((k < width) × (k < width) × ¬ LateInto e (anchor k)) ⊎ ((¬ (k < width)) × ((width ≤ k) ⊎ LateInto e (anchor k)))
+timely-columns e number width timely all anchor N k q = by (below-or-not k width)
+  where
+    by : (k < width) ⊎ (width ≤ k) → ((k < width) × (k < width) × ¬ LateInto e (anchor k)) ⊎ ((¬ (k < width)) × ((width ≤ k) ⊎ LateInto e (anchor k)))
+    by (inl h) = inl (h, h, λ l. both-ways (l .0) timely)
+    by (inr h) = inr (λ b. omega arith, inl h)
+
+pub late-columns : (e : Edge) (number : List ℕ) (to width : ℕ) → e .late ≡ true → to ≡ e .to → to < 64 → (all : ℕ) (anchor : ℕ → ℕ) → Numbers all number anchor → (k : ℕ) → k < all → (((k < width) × (k ≢ getD number to 0)) × (k < width) × ¬ LateInto e (anchor k)) ⊎ ((¬ ((k < width) × (k ≢ getD number to 0))) × ((width ≤ k) ⊎ LateInto e (anchor k)))
+late-columns e number to width late ends small all anchor N k q = by (below-or-not k width) (same-or-not k (getD number to 0))
+  where
+    by : (k < width) ⊎ (width ≤ k) → (k ≡ getD number to 0) ⊎ (k ≢ getD number to 0) → (((k < width) × (k ≢ getD number to 0)) × (k < width) × ¬ LateInto e (anchor k)) ⊎ ((¬ ((k < width) × (k ≢ getD number to 0))) × ((width ≤ k) ⊎ LateInto e (anchor k)))
+    by (inl h) (inl i) = inr (λ b. b .1 i, inr (late, sym ends ∙ sym (N .back to small (omega arith)) ∙ ap anchor (sym i)))
+    by (inl h) (inr o) = inl ((h, o), h, λ l. o (sym (N .there k q) ∙ ap (λ (v : ℕ). getD number v 0) (sym (l .1) ∙ sym ends)))
+    by (inr h) i = inr (λ b. omega (arith, b .0), inl h)

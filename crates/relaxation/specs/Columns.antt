@@ -1,16 +1,14 @@
--- A working table, by rows of steps, is read by columns. The column of an anchor has its cell of each step: 0 where no walk comes, w + 1 for the weight w.
--- Marks, bit a of map v, stand where the cell of step v and anchor a may have been raised since step v last handed on.
+-- The working table, by rows of steps. Its columns are numbered: column k is that of an anchor. A cell that is floor + w holds the weight w; one below the floor holds none.
+-- Read as a column, a cell is 0 where no walk comes, w + 1 for the weight w. Marks, a map of steps: bit v stands where row v may have been raised since step v last handed on.
 use mathlib.Core.Path.{_≡_}
-use mathlib.Core.Bool.{Bool, true, false, _&&_, _||_}
-use mathlib.Core.Logic.{_≢_, _⊎_}
+use mathlib.Core.Bool.{Bool, true, false}
 use mathlib.Core.List.{List, []}
-use Prim.Native.Nat.{ℕ, _≤_, _<_, max, min}
-use lib.Dec.{eqb, ltb}
+use Prim.Native.Nat.{ℕ, suc, _-_, _≤_, _<_}
 use lib.ListN.{length, getD}
 use Rattle.definitions.specs.Basics.{test-bit}
 use Rattle.definitions.specs.Links.{Edge, Graph}
+use Rattle.definitions.specs.Rounds.{extend}
 use Rattle.definitions.specs.Waits.{wait-edge}
-use Rattle.relations.specs.Rows.{row-bit}
 use Rattle.theory.specs.Sweeps.{Settles, hand}
 
 -- 64 rows of 64 cells.
@@ -19,57 +17,41 @@ pub record Square (d : List (List ℕ)) : Type 0 where
   pub cells : (v : ℕ) → v < 64 → length (getD d v []) ≡ 64
 
 abbrev pub entry : List (List ℕ) → ℕ → ℕ → ℕ
-entry d v a = getD (getD d v []) a 0
+entry d v k = getD (getD d v []) k 0
+
+-- What a cell says: 0 for no walk, w + 1 for the weight w.
+abbrev pub value : ℕ → ℕ
+value c = suc c - 1073741824
 
 abbrev pub column : List (List ℕ) → ℕ → ℕ → ℕ
-column d a v = entry d v a
+column d k v = value (entry d v k)
 
-abbrev pub marks : List ℕ → ℕ → ℕ → Bool
-marks fresh a v = row-bit fresh v a
+-- A column below the one that is sought. In t every edge has handed on, and it is small; r is nowhere above it and holds a walk wherever t does.
+pub record Under (E : Graph) (t r : ℕ → ℕ) : Type 0 where
+  pub settles : Settles E t
+  pub small : (v : ℕ) → t v ≤ 16777216
+  pub below : (v : ℕ) → r v ≤ t v
+  pub live : (v : ℕ) → 1 ≤ t v → 1 ≤ r v
 
--- One cell took the larger of what it had and c. Where `raised` does not stand it did not grow; where it stands nothing is said.
-pub record Raised (v a c : ℕ) (d d′ : List (List ℕ)) (raised : Bool) : Type 0 where
-  pub square : Square d′
-  pub here : entry d′ v a ≡ max (entry d v a) c
-  pub other : (w b : ℕ) → (w ≢ v) ⊎ (b ≢ a) → entry d′ w b ≡ entry d w b
-  pub grew : raised ≡ ltb (entry d v a) c
-
--- The same, where a map has the cell's anchor put in if the cell grew.
-pub record RaisedIn (v a c moved moved′ : ℕ) (d d′ : List (List ℕ)) : Type 0 where
-  pub grew : Bool
-  pub cell : Raised v a c d d′ grew
-  pub map : (j : ℕ) → test-bit moved′ j ≡ (test-bit moved j || (grew && eqb j a))
-
--- What an edge hands on, cut at the largest number of a cell.
-abbrev pub cut-hand : (ℕ → ℕ) → Edge → ℕ
-cut-hand r e = min (hand r e) 4294967295
-
--- One edge on one column: where it is `used` it hands on, and elsewhere it changes nothing. Nothing is raised but at its end, nor above a column where it has handed on.
-pub record Relaxed (e : Edge) (used : Bool) (r s : ℕ → ℕ) (raised : Bool) : Type 0 where
-  pub up : (v : ℕ) → r v ≤ s v
-  pub hands : used ≡ true → cut-hand r e ≤ s (e .to)
-  pub sound : (t : ℕ → ℕ) → (used ≡ true → hand t e ≤ t (e .to)) → ((v : ℕ) → r v ≤ t v) → (v : ℕ) → s v ≤ t v
-  pub other : (v : ℕ) → v ≢ e .to → s v ≡ r v
-  pub kept : raised ≡ false → (v : ℕ) → s v ≡ r v
-
--- One edge on the columns of the anchors in m; the anchors in moved may have been raised.
-pub record RelaxedAll (e : Edge) (m moved : ℕ) (d d′ : List (List ℕ)) : Type 0 where
-  pub square : Square d′
-  pub each : (a : ℕ) → Relaxed e (test-bit m a) (column d a) (column d′ a) (test-bit moved a)
-
--- Edges of a graph on one column and its marks, some of them one or more times. No mark is taken away, and a cell that is raised gets one. Where `used` stands each edge out of u has handed on.
-pub record Handed (E : Graph) (u : ℕ) (used : Bool) (r s : ℕ → ℕ) (f g : ℕ → Bool) : Type 0 where
-  pub up : (v : ℕ) → r v ≤ s v
-  pub hands : used ≡ true → (e : Edge) → E e → e .from ≡ u → cut-hand r e ≤ s (e .to)
-  pub sound : (t : ℕ → ℕ) → Settles E t → ((v : ℕ) → r v ≤ t v) → (v : ℕ) → s v ≤ t v
+-- Edges of a graph on one column and its marks, some of them one or more times, where step u has x to hand on. No mark is taken away, and a step whose cell changes has one.
+-- Below a column that is sought no cell falls, nothing is raised above it, and each edge out of u has handed on.
+pub record Handed (E : Graph) (u x : ℕ) (r s : ℕ → ℕ) (f g : ℕ → Bool) : Type 0 where
+  pub up : (t : ℕ → ℕ) → Under E t r → x ≤ t u → (v : ℕ) → r v ≤ s v
+  pub under : (t : ℕ → ℕ) → Under E t r → x ≤ t u → Under E t s
+  pub hands : (t : ℕ → ℕ) → Under E t r → x ≤ t u → (e : Edge) → E e → e .from ≡ u → extend x (e .gain) (e .loss) ≤ s (e .to)
   pub marks : (v : ℕ) → f v ≡ true → g v ≡ true
   pub marked : (v : ℕ) → g v ≡ false → s v ≡ r v
 
--- The same for every anchor, in its own graph; u hands on for the anchors in m.
-pub record HandedAll (E : ℕ → Graph) (u m : ℕ) (d d′ : List (List ℕ)) (fresh fresh′ : List ℕ) : Type 0 where
+-- Numbers of columns: `number` says the column of a step, 64 or any number that is not below the width for one that has none; `anchor` says the step of a column.
+pub record Numbers (width : ℕ) (number : List ℕ) (anchor : ℕ → ℕ) : Type 0 where
+  pub there : (k : ℕ) → k < width → getD number (anchor k) 0 ≡ k
+  pub inside : (k : ℕ) → k < width → anchor k < 64
+  pub back : (v : ℕ) → v < 64 → getD number v 0 < width → anchor (getD number v 0) ≡ v
+
+-- The same for every numbered column, in the graph of its anchor: of column k step u hands on x k.
+pub record HandedAll (E : ℕ → Graph) (number : List ℕ) (u : ℕ) (x : ℕ → ℕ) (d d′ : List (List ℕ)) (m m′ : ℕ) : Type 0 where
   pub square : Square d′
-  pub long : length fresh′ ≡ 64
-  pub each : (a : ℕ) → Handed (E a) u (test-bit m a) (column d a) (column d′ a) (marks fresh a) (marks fresh′ a)
+  pub each : (width : ℕ) (anchor : ℕ → ℕ) → Numbers width number anchor → (k : ℕ) → k < width → Handed (E (anchor k)) u (x k) (column d k) (column d′ k) (test-bit m) (test-bit m′)
 
 -- The graph of one edge, and that of the waits for u, bit i of a map.
 abbrev pub Only : Edge → Graph
@@ -82,16 +64,15 @@ pub record WaitsFor (u m : ℕ) (e : Edge) : Type 0 where
 
 -- Steps without a mark have handed on all that they have.
 abbrev pub Covered : Graph → (ℕ → ℕ) → (ℕ → Bool) → Type 0
-Covered E r f = (e : Edge) → E e → f (e .from) ≡ false → cut-hand r e ≤ r (e .to)
+Covered E r f = (e : Edge) → E e → f (e .from) ≡ false → hand r e ≤ r (e .to)
 
--- Steps hand on, one after another, all that they have not handed on yet: those of On at least once. Of the marks it is said that a step without one has handed on all, and no more.
+-- Steps hand on, one after another, all that they have not handed on yet: those of On at least once. All is said below a column that is sought.
 pub record Swept (E : Graph) (On : ℕ → Type 0) (r s : ℕ → ℕ) (f g : ℕ → Bool) : Type 0 where
-  pub up : (v : ℕ) → r v ≤ s v
-  pub sound : (t : ℕ → ℕ) → Settles E t → ((v : ℕ) → r v ≤ t v) → (v : ℕ) → s v ≤ t v
-  pub covers : Covered E r f → Covered E s g
-  pub hands : Covered E r f → (e : Edge) → E e → On (e .from) → cut-hand r e ≤ s (e .to)
+  pub up : (t : ℕ → ℕ) → Under E t r → (v : ℕ) → r v ≤ s v
+  pub under : (t : ℕ → ℕ) → Under E t r → Under E t s
+  pub covers : (t : ℕ → ℕ) → Under E t r → Covered E r f → Covered E s g
+  pub hands : (t : ℕ → ℕ) → Under E t r → Covered E r f → (e : Edge) → E e → On (e .from) → hand r e ≤ s (e .to)
 
-pub record SweptAll (E : ℕ → Graph) (On : ℕ → Type 0) (d d′ : List (List ℕ)) (fresh fresh′ : List ℕ) : Type 0 where
+pub record SweptAll (E : ℕ → Graph) (width : ℕ) (On : ℕ → Type 0) (d d′ : List (List ℕ)) (m m′ : ℕ) : Type 0 where
   pub square : Square d′
-  pub long : length fresh′ ≡ 64
-  pub each : (a : ℕ) → Swept (E a) On (column d a) (column d′ a) (marks fresh a) (marks fresh′ a)
+  pub each : (k : ℕ) → k < width → Swept (E k) On (column d k) (column d′ k) (test-bit m) (test-bit m′)

@@ -9,18 +9,18 @@ use native.Mathlib.Nat.{suc-mul, zero-mul, mul-le-mul, le-refl}
 use native.Mathlib.Numerals.{add-one}
 use native.Mathlib.Decide.{decLt}
 use lib.Dec.{eqb}
-use lib.ListN.{length, getD, set, take, drop, length-append, length-set}
-use lib.Seq.{drop-drop, ext-getD, getD-set-same, getD-set-other}
+use lib.ListN.{length, getD, set, take, drop, length-append, length-drop, length-set}
+use lib.Seq.{drop-at, drop-drop, ext-getD, getD-drop, getD-set-same, getD-set-other, getD-take}
 use borrow.Author.Tests.{eq-eqb, ne-eqb}
 use borrow.Rule.Slice.PartMut.{putMid}
 use Rattle.definitions.specs.Basics.{tabulate, test-bit}
 use Rattle.definitions.specs.Links.{Edge}
-use Rattle.definitions.specs.Plan.{undecided, plan-entry, plan-row, plan-rows, plan-table}
+use Rattle.definitions.specs.Plan.{decides, offset, undecided, plan-entry, plan-row, plan-rows, plan-table}
 use Rattle.laws.proofs.Fronts.{laid, laid-at, laid-past, put-rest}
-use Rattle.laws.proofs.Bools.{cond-true, cond-false, same-or-not}
+use Rattle.laws.proofs.Bools.{bool-cases, cond-true, cond-false, same-or-not}
 use Rattle.laws.proofs.Tests.{tabulate-length, tabulate-same}
-use Rattle.irredundant.specs.Working.{Holds, weight, deciding}
-use Rattle.irredundant.proofs.Laws.{weight-offset, deciding-same}
+use Rattle.irredundant.specs.Working.{Holds, Orderly, weight, deciding}
+use Rattle.irredundant.proofs.Laws.{weight-offset, deciding-member, deciding-same}
 use Rattle.schedule.specs.Rows.{Planned, Put, cleared, entry-at, first-rows}
 
 -- ---- offsets put into a row, a member at a time
@@ -55,20 +55,20 @@ module _ {n : ℕ} {value : ℕ → ℕ} {map left : ℕ} {row₀ row : List ℕ
   all-put none P = record { long = P .long; front = λ a b. sym (cond-false _ _ (none a b)) ∙ P .front a b; rest = P .rest }
 
 -- A cleared row with the offsets of the deciding set is the row of the plan.
-pub row-filled : (d : List (List ℕ)) (sets : List ℕ) (n v map : ℕ) (l row row′ : List ℕ) → ((j : ℕ) → test-bit map j ≡ deciding d sets v j) → row ≡ laid cleared n l → Put n (test-bit map) (weight d v) row row′ → row′ ≡ laid (entry-at d sets v) n l
+pub row-filled : (d : List (List ℕ)) (sets : List ℕ) (n v map : ℕ) (row row′ : List ℕ) → ((j : ℕ) → test-bit map j ≡ deciding d sets v j) → n ≤ length row → ((a : ℕ) → a < n → getD row a 0 ≡ undecided) → Put n (test-bit map) (weight d v) row row′ → row′ ≡ laid (entry-at d sets v) n row
 unfolding entry-at
-row-filled d sets n v map l row row′ h e P =
-    ext-getD 0 row′ (laid f n l) (P .long ∙ ap length e ∙ same-size) (λ a b. by a (decLt a n))
+row-filled d sets n v map row row′ h fits clear P =
+    ext-getD 0 row′ (laid f n row) (P .long ∙ same-size) (λ a b. by a (decLt a n))
   where
     f : ℕ → ℕ
     f a = cond (deciding d sets v a) (weight d v a) undecided
 
-    same-size : length (laid cleared n l) ≡ length (laid f n l)
-    same-size = omega (arith, length-append (tabulate cleared n) (drop n l), length-append (tabulate f n) (drop n l), tabulate-length cleared n, tabulate-length f n)
+    same-size : length row ≡ length (laid f n row)
+    same-size = omega (arith, length-append (tabulate f n) (drop n row), tabulate-length f n, length-drop n row)
 
-    by : (a : ℕ) → Dec (a < n) → getD row′ a 0 ≡ getD (laid f n l) a 0
-    by a (yes b) = P .front a b ∙ ap₂ (λ (t : Bool) (x : ℕ). cond t (weight d v a) x) (h a) (ap (λ (r : List ℕ). getD r a 0) e ∙ laid-at cleared n l a 0 b) ∙ sym (laid-at f n l a 0 b)
-    by a (no b) = let c : n ≤ a = omega arith in P .rest a c ∙ ap (λ (r : List ℕ). getD r a 0) e ∙ laid-past cleared n l a 0 c ∙ sym (laid-past f n l a 0 c)
+    by : (a : ℕ) → Dec (a < n) → getD row′ a 0 ≡ getD (laid f n row) a 0
+    by a (yes b) = P .front a b ∙ ap₂ (λ (t : Bool) (x : ℕ). cond t (weight d v a) x) (h a) (clear a b) ∙ sym (laid-at f n row a 0 b)
+    by a (no b) = let c : n ≤ a = omega arith in P .rest a c ∙ sym (laid-past f n row a 0 c)
 
 -- ---- where rows stand
 
@@ -102,13 +102,34 @@ module _ (d : List (List ℕ)) (sets : List ℕ) (n : ℕ) where
       ∙ sym (append-assoc (first-rows d sets n v) (tabulate (entry-at d sets v) n) (drop n (drop (v * n) l)))
       ∙ rw (add-one v) (ap (λ (x : List ℕ). first-rows d sets n v ++ tabulate (entry-at d sets v) n ++ x) (drop-drop n (v * n) l ∙ ap (λ (x : ℕ). drop x l) (let g : v * n + n ≡ suc v * n = omega (arith, suc-mul v n) in g)))
 
+  -- The rows behind the first v are as they were cleared.
+  pub row-clear : (v : ℕ) (l c t : List ℕ) → v < n → n * n ≤ length t → c ≡ laid cleared (n * n) l → t ≡ first-rows d sets n v ++ drop (v * n) c → (a : ℕ) → a < n → getD (take (length t - v * n) (drop (v * n) t)) a 0 ≡ undecided
+  row-clear v l c t h long e f a b =
+      let inside : v * n + n ≤ n * n = row-place v n h in
+      getD-take (length t - v * n) (drop (v * n) t) a 0 (omega arith)
+      ∙ ap (λ (x : List ℕ). getD x a 0) (ap (drop (v * n)) f ∙ drop-at (first-rows d sets n v) (drop (v * n) c) (v * n) (first-rows-length v))
+      ∙ getD-drop (v * n) c a 0
+      ∙ ap (λ (x : List ℕ). getD x (v * n + a) 0) e
+      ∙ laid-at cleared (n * n) l (v * n + a) 0 (omega arith)
+
+pub clear-length : (k : ℕ) (l c : List ℕ) → k ≤ length l → c ≡ laid cleared k l → length c ≡ length l
+clear-length k l c h e = ap length e ∙ (let n : length (laid cleared k l) ≡ length l = omega (arith, length-append (tabulate cleared k) (drop k l), tabulate-length cleared k, length-drop k l) in n)
+
+-- Behind the cleared numbers stands what was lent.
+behind-clear : (k : ℕ) (l c : List ℕ) → c ≡ laid cleared k l → drop k c ≡ drop k l
+behind-clear k l c e = ap (drop k) e ∙ drop-at (tabulate cleared k) (drop k l) k (tabulate-length cleared k)
+
 -- ---- on the tables of an edge list
 
 module _ {n : ℕ} {es : List Edge} {d : List (List ℕ)} {sets : List ℕ} (h : Holds n es d sets) (few : n ≤ 64) where
   -- The same member decides, with the same offset.
   entry-plan : (a v : ℕ) → a < n → v < n → entry-at d sets v a ≡ plan-entry n es v a
   unfolding entry-at plan-entry
-  entry-plan a v p q = ap₂ (λ (t : Bool) (x : ℕ). cond t x undecided) (deciding-same h a v few p q) (weight-offset h a v p q)
+  entry-plan a v p q = go (bool-cases (deciding d sets v a))
+    where
+      go : (deciding d sets v a ≡ true) ⊎ (deciding d sets v a ≡ false) → cond (deciding d sets v a) (weight d v a) undecided ≡ cond (decides n es a v) (offset n es a v) undecided
+      go (inl t) = ap₂ (λ (t : Bool) (x : ℕ). cond t x undecided) (deciding-same h a v few p q) (weight-offset h a v p q (deciding-member d sets v a t))
+      go (inr t) = cond-false _ _ t ∙ sym (cond-false _ _ (sym (deciding-same h a v few p q) ∙ t))
 
   -- Induction on the rows.
   rows-plan : (k : ℕ) → k ≤ n → first-rows d sets n k ≡ plan-rows n es k
@@ -121,5 +142,8 @@ module _ {n : ℕ} {es : List Edge} {d : List (List ℕ)} {sets : List ℕ} (h :
   table-plan = rows-plan n (omega arith)
 
 -- So what is read off the tables is the definition's.
-pub planned : {n : ℕ} {d : List (List ℕ)} {sets lent after : List ℕ} → n ≤ 64 → after ≡ first-rows d sets n n ++ drop (n * n) lent → Planned n d sets lent after
-planned {n} {lent = lent} few e = record { read = e; plan = λ es h. e ∙ ap (λ (l : List ℕ). l ++ drop (n * n) lent) (table-plan h few) }
+pub planned : {n : ℕ} {d : List (List ℕ)} {sets lent after : List ℕ} (c : List ℕ) → n ≤ 64 → c ≡ laid cleared (n * n) lent → (((v : ℕ) → v < n → Orderly d sets v) → after ≡ first-rows d sets n n ++ drop (n * n) c) → Planned n d sets lent after
+planned {n} {d} {sets} {lent} {after} c few clear e = record { read = read; plan = λ es h T. read T ∙ ap (λ (l : List ℕ). l ++ drop (n * n) lent) (table-plan h few) }
+  where
+    read : ((v : ℕ) → v < n → Orderly d sets v) → after ≡ first-rows d sets n n ++ drop (n * n) lent
+    read T = e T ∙ ap (λ (l : List ℕ). first-rows d sets n n ++ l) (behind-clear (n * n) lent c clear)

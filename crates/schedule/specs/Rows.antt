@@ -7,7 +7,7 @@ use lib.ListN.{length, getD, drop}
 use Rattle.definitions.specs.Basics.{tabulate}
 use Rattle.definitions.specs.Links.{Edge}
 use Rattle.definitions.specs.Plan.{plan-table, undecided}
-use Rattle.irredundant.specs.Working.{Holds, weight, deciding}
+use Rattle.irredundant.specs.Working.{Holds, Orderly, deciding, weight}
 
 -- A row of members that do not decide.
 abbrev pub cleared : ℕ → ℕ
@@ -27,7 +27,7 @@ unfoldable pub first-rows : List (List ℕ) → List ℕ → ℕ → ℕ → Lis
 first-rows d sets n zero = []
 first-rows d sets n (suc v) = first-rows d sets n v ++ tabulate (entry-at d sets v) n
 
--- The lent numbers after a plan is written to their front: on any tables what is read off them, on those of an edge list the plan's table.
+-- The lent numbers after a plan is written to their front, where the tables are orderly: what is read off them, on those of an edge list the plan's table.
 pub record Planned (n : ℕ) (d : List (List ℕ)) (sets lent after : List ℕ) : Type 0 where
-  pub read : after ≡ first-rows d sets n n ++ drop (n * n) lent
-  pub plan : (es : List Edge) → Holds n es d sets → after ≡ plan-table n es ++ drop (n * n) lent
+  pub read : ((v : ℕ) → v < n → Orderly d sets v) → after ≡ first-rows d sets n n ++ drop (n * n) lent
+  pub plan : (es : List Edge) → Holds n es d sets → ((v : ℕ) → v < n → Orderly d sets v) → after ≡ plan-table n es ++ drop (n * n) lent

@@ -1,20 +1,21 @@
 // The plan's table (the relative schedule), from the working tables: see crate irredundant for what d and sets hold.
-// Every function is safe for any tables; on those of an edge list its answer is the definition's.
+// Every function is safe for any tables; on orderly ones, as those of an accepted sheet are, its answer is the definition's.
 ghost use mathlib.Core.Path.{_≡_};
 ghost use mathlib.Core.List.{_++_};
-ghost use Prim.Native.Nat.{_*_, _<_, _≤_};
-ghost use lib.ListN.{length, drop};
+ghost use Prim.Native.Nat.{ℕ, _*_, _<_, _≤_};
+ghost use lib.ListN.{length, drop, getD};
 ghost use Rattle.definitions.specs.Basics.{tabulate, test-bit};
-ghost use Rattle.irredundant.specs.Working.{weight};
+ghost use Rattle.definitions.specs.Plan.{undecided};
+ghost use Rattle.irredundant.specs.Working.{Orderly, weight};
 ghost use Rattle.schedule.specs.Rows.{Planned, Put, cleared, entry-at};
 
-// The first n entries of a row become those of members that do not decide.
-fn clear_row(n: usize, row: &mut [u32])
-    requires { ⌜ n ≤ length (now row) ⌝ }
-    ensures { λ r. ⌜ now (row .exit) ≡ tabulate cleared n ++ drop n (now (row .entry)) ⌝ }
+// The first numbers, as many as are to be cleared, become the entries of members that do not decide.
+fn clear(count: usize, row: &mut [u32])
+    requires { ⌜ count ≤ length (now row) ⌝ }
+    ensures { λ r. ⌜ now (row .exit) ≡ tabulate cleared count ++ drop count (now (row .entry)) ⌝ }
 {
     let mut a = 0;
-    while a < n {
+    while a < count {
         row[a] = 4294967295;
         a += 1;
     }
@@ -37,21 +38,21 @@ fn put_offsets(d: &[[u32; 64]; 64], map: u64, n: usize, v: usize, row: &mut [u32
     }
 }
 
-// Row v of the plan.
+// Row v of the plan, where it is cleared.
 fn fill_row(d: &[[u32; 64]; 64], sets: &[u64; 64], n: usize, v: usize, row: &mut [u32])
     requires { ⌜ (v < 64) × (n ≤ length (now row)) ⌝ }
-    ensures { λ r. ⌜ now (row .exit) ≡ tabulate (entry-at (now (d .entry)) (now (sets .entry)) v) n ++ drop n (now (row .entry)) ⌝ }
+    ensures { λ r. ⌜ (Orderly (now (d .entry)) (now (sets .entry)) v → ((a : ℕ) → a < n → getD (now (row .entry)) a 0 ≡ undecided) → now (row .exit) ≡ tabulate (entry-at (now (d .entry)) (now (sets .entry)) v) n ++ drop n (now (row .entry))) ⌝ }
 {
     let deciding = irredundant::deciding_set(d, sets, v);
-    clear_row(n, row);
     put_offsets(d, deciding, n, v, row);
 }
 
-// The plan's table, at the front of the lent numbers: a row at a time, each in the part of the table where it belongs.
+// The plan's table, at the front of the lent numbers: all of it is cleared, and then filled a row at a time, each in the part of the table where it belongs.
 pub fn fill_plan(d: &[[u32; 64]; 64], sets: &[u64; 64], n: usize, table: &mut [u32])
     requires { ⌜ (n ≤ 64) × (n * n ≤ length (now table)) ⌝ }
     ensures { λ r. ⌜ Planned n (now (d .entry)) (now (sets .entry)) (now (table .entry)) (now (table .exit)) ⌝ }
 {
+    clear(n * n, table);
     let mut v = 0;
     while v < n {
         let at = v * n;

@@ -1,34 +1,68 @@
--- What a column begins with: for an anchor other than 0 the weight of each counted edge out of it (theory's specs/Sweeps.antt, Leads).
+-- Numbers of columns, and what a column begins with: at the members of its anchor's column of sets the walk of weight 0, and the weight of each counted edge out of the anchor that gains.
 use mathlib.Core.Path.{_≡_}
-use mathlib.Core.Bool.{Bool, false}
+use mathlib.Core.Bool.{true}
+use mathlib.Core.Logic.{_⊎_, _≢_}
 use mathlib.Core.List.{List}
-use Prim.Native.Nat.{ℕ, suc, _-_, _≤_, _<_}
+use Prim.Native.Nat.{ℕ, suc, _-_, _%_, _≤_, _<_, max}
 use lib.ListN.{length, getD}
+use Rattle.definitions.specs.Basics.{test-bit}
 use Rattle.definitions.specs.Links.{Edge, Graph}
-use Rattle.relaxation.specs.Columns.{Square, WaitsFor, column, marks}
+use Rattle.relations.specs.Rows.{row-bit}
+use Rattle.relaxation.specs.Columns.{Numbers, Square, column, entry}
 use Rattle.theory.specs.Sweeps.{Leads}
 
--- The column of a has at least what the edges of a graph begin its walks with.
-abbrev pub Begun : Graph → ℕ → (ℕ → ℕ) → Type 0
-Begun E a r = (e : Edge) → E e → Leads a e → suc (e .gain - e .loss) ≤ r (e .to)
+-- No step has a number, and no cell a walk.
+pub record Blank (number : List ℕ) : Type 0 where
+  pub long : length number ≡ 64
+  pub none : (v : ℕ) → v < 64 → getD number v 0 ≡ 64
 
--- A cell that is not empty is marked.
-abbrev pub Marked : (ℕ → ℕ) → (ℕ → Bool) → Type 0
-Marked r f = (v : ℕ) → f v ≡ false → r v ≡ 0
+pub record Empty (d : List (List ℕ)) : Type 0 where
+  pub square : Square d
+  pub cells : (v k : ℕ) → entry d v k ≡ 0
 
--- The column of a with what the edges of a graph begin its walks with, and no more.
-pub record Seeded (E : Graph) (a : ℕ) (r s : ℕ → ℕ) (f g : ℕ → Bool) : Type 0 where
-  pub up : (v : ℕ) → r v ≤ s v
-  pub begun : Begun E a s
-  pub sound : (t : ℕ → ℕ) → Begun E a t → ((v : ℕ) → r v ≤ t v) → (v : ℕ) → s v ≤ t v
-  pub marked : Marked r f → Marked s g
+-- The members of a map have numbers below the width, none above itself, and no other step has.
+pub record Numbered (all width : ℕ) (number : List ℕ) : Type 0 where
+  pub anchor : ℕ → ℕ
+  pub numbers : Numbers width number anchor
+  pub few : width ≤ 64
+  pub listed : (a : ℕ) → test-bit all a ≡ true → getD number a 0 < width
+  pub low : (a : ℕ) → a < 64 → test-bit all a ≡ true → getD number a 0 ≤ a
 
-pub record SeededAll (E : ℕ → Graph) (d d′ : List (List ℕ)) (fresh fresh′ : List ℕ) : Type 0 where
+-- One cell of a table becomes c where that is more; the others stay.
+pub record Raised (v k c : ℕ) (d d′ : List (List ℕ)) : Type 0 where
   pub square : Square d′
-  pub long : length fresh′ ≡ 64
-  pub each : (a : ℕ) → Seeded (E a) a (column d a) (column d′ a) (marks fresh a) (marks fresh′ a)
+  pub here : entry d′ v k ≡ max (entry d v k) c
+  pub other : (w j : ℕ) → (w ≢ v) ⊎ (j ≢ k) → entry d′ w j ≡ entry d w j
 
--- The waits for steps below n, bit i of map a.
-pub record WaitsBelow (n : ℕ) (waiting : List ℕ) (e : Edge) : Type 0 where
-  pub below : e .from < n
-  pub waits : WaitsFor (e .from) (getD waiting (e .from) 0) e
+-- The walk of weight 0 comes into the cells of the pairs P of a step and an anchor, and nothing into another.
+pub record Seeded (number : List ℕ) (P : ℕ → ℕ → Type 0) (d d′ : List (List ℕ)) : Type 0 where
+  pub square : Square d′
+  pub here : (v a : ℕ) → P v a → entry d′ v (getD number a 0 % 64) ≡ 1073741824
+  pub other : (v k : ℕ) → ((a : ℕ) → P v a → getD number a 0 % 64 ≢ k) → entry d′ v k ≡ entry d v k
+  pub either : (v k : ℕ) → (entry d′ v k ≡ 1073741824) ⊎ (entry d′ v k ≡ entry d v k)
+
+-- The column of a has, where it has walks at all, what the edges of a graph begin its walks with, and no more.
+pub record Begun (E : Graph) (a : ℕ) (r s : ℕ → ℕ) : Type 0 where
+  pub up : (v : ℕ) → r v ≤ s v
+  pub begun : (e : Edge) → E e → Leads a e → 1 ≤ r (e .to) → suc (e .gain - e .loss) ≤ s (e .to)
+  pub sound : (t : ℕ → ℕ) → ((e : Edge) → E e → Leads a e → suc (e .gain - e .loss) ≤ t (e .to)) → ((v : ℕ) → r v ≤ t v) → (v : ℕ) → s v ≤ t v
+
+pub record BegunAll (E : Graph) (number : List ℕ) (d d′ : List (List ℕ)) : Type 0 where
+  pub square : Square d′
+  pub each : (width : ℕ) (anchor : ℕ → ℕ) → Numbers width number anchor → width ≤ 64 → (k : ℕ) → k < width → Begun E (anchor k) (column d k) (column d′ k)
+
+-- What the column s of anchor a begins with.
+pub record Begins (E : Graph) (sets : List ℕ) (n a : ℕ) (s : ℕ → ℕ) : Type 0 where
+  pub live : (v : ℕ) → v < n → row-bit sets v a ≡ true → 1 ≤ s v
+  pub begun : (e : Edge) → E e → Leads a e → e .to < n → row-bit sets (e .to) a ≡ true → suc (e .gain - e .loss) ≤ s (e .to)
+  pub sound : (t : ℕ → ℕ) → ((e : Edge) → E e → Leads a e → suc (e .gain - e .loss) ≤ t (e .to)) → ((v : ℕ) → v < n → row-bit sets v a ≡ true → 1 ≤ t v) → (v : ℕ) → s v ≤ t v
+
+-- A table whose columns are numbered and begun.
+pub record Prepared (E : Graph) (sets : List ℕ) (n width : ℕ) (number : List ℕ) (d : List (List ℕ)) : Type 0 where
+  pub anchor : ℕ → ℕ
+  pub numbers : Numbers width number anchor
+  pub few : width ≤ 64
+  pub listed : (v a : ℕ) → v < n → row-bit sets v a ≡ true → getD number a 0 < width
+  pub low : (v a : ℕ) → v < n → a < 64 → row-bit sets v a ≡ true → getD number a 0 ≤ a
+  pub square : Square d
+  pub columns : (k : ℕ) → k < width → Begins E sets n (anchor k) (column d k)

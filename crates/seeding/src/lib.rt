@@ -1,83 +1,161 @@
-// What the columns of a working table begin with: see specs/Seeds.antt.
+// What the columns of a working table begin with, and their numbers: see specs/Seeds.antt.
 use edges::edge_from;
 use edges::edge_gain;
 use edges::edge_loss;
 use edges::edge_to;
 use edges::is_counted;
-use edges::wait_word;
 ghost use mathlib.Core.Path.{_≡_};
-ghost use Prim.Native.Nat.{suc, _-_, _<_, _≤_};
-ghost use lib.ListN.{length};
+ghost use mathlib.Core.Bool.{true};
+ghost use Prim.Native.Nat.{ℕ, _+_, _-_, _%_, _<_, _≤_};
+ghost use Rattle.definitions.specs.Basics.{any-below, test-bit};
 ghost use Rattle.definitions.specs.Links.{members};
 ghost use Rattle.edges.specs.Words.{graph, unpack};
-ghost use Rattle.relaxation.specs.Columns.{Only, Square, WaitsFor};
-ghost use Rattle.seeding.specs.Seeds.{SeededAll, WaitsBelow};
+ghost use Rattle.relations.specs.Rows.{row-bit};
+ghost use Rattle.relaxation.specs.Columns.{Only, Square};
+ghost use Rattle.seeding.specs.Seeds.{Blank, BegunAll, Empty, Numbered, Prepared, Raised, Seeded};
+
+// The steps that stand in some row below n.
+fn all_members(sets: &[u64; 64], n: usize) -> u64
+    requires { ⌜ n ≤ 64 ⌝ }
+    ensures { λ r. ⌜ ((a : ℕ) → test-bit r a ≡ any-below (λ v. row-bit (now (sets .entry)) v a) n) ⌝ }
+{
+    let mut all = 0u64;
+    let mut v = 0;
+    while v < n {
+        all = bitmaps::union(all, sets[v]);
+        v += 1;
+    }
+    all
+}
+
+// Numbers for the members of a map, rising from 0. How many there are.
+fn number_members(all: u64, number: &mut [u8; 64]) -> usize
+    requires { ⌜ Blank (now number) ⌝ }
+    ensures { λ r. ⌜ Numbered all r (now (number .exit)) ⌝ }
+{
+    let mut width = 0u8;
+    let mut left = all;
+    while left != 0 {
+        let a = bitmaps::lowest(left);
+        number[a] = width;
+        width += 1;
+        left = bitmaps::without_lowest(left);
+    }
+    width as usize
+}
+
+// The column of a number.
+pub fn column_of(x: u8) -> usize
+    ensures { λ r. ⌜ (r ≡ x % 64) × (r < 64) ⌝ }
+{
+    (x % 64) as usize
+}
+
+// The walk of weight 0 at step v, in the columns of the members of a map.
+fn seed_row(d: &mut [[u32; 64]; 64], number: &[u8; 64], map: u64, v: usize)
+    requires { ⌜ (v < 64) × Square (now d) ⌝ }
+    ensures { λ r. ⌜ Seeded (now (number .entry)) (λ w a. (w ≡ v) × (a < 64) × (test-bit map a ≡ true)) (now (d .entry)) (now (d .exit)) ⌝ }
+{
+    let mut left = map;
+    while left != 0 {
+        let a = bitmaps::lowest(left);
+        let k = column_of(number[a]);
+        d[v][k] = 1073741824;
+        left = bitmaps::without_lowest(left);
+    }
+}
+
+// The same at every step below n, by its row of sets.
+fn seed_rows(d: &mut [[u32; 64]; 64], number: &[u8; 64], sets: &[u64; 64], n: usize)
+    requires { ⌜ (n ≤ 64) × Square (now d) ⌝ }
+    ensures { λ r. ⌜ Seeded (now (number .entry)) (λ w a. (w < n) × (a < 64) × (row-bit (now (sets .entry)) w a ≡ true)) (now (d .entry)) (now (d .exit)) ⌝ }
+{
+    let mut v = 0;
+    while v < n {
+        seed_row(d, number, sets[v], v);
+        v += 1;
+    }
+}
+
+// The cell of step v in column k becomes c, where that is more.
+fn raise(d: &mut [[u32; 64]; 64], v: usize, k: usize, c: u32)
+    requires { ⌜ (v < 64) × (k < 64) × Square (now d) ⌝ }
+    ensures { λ r. ⌜ Raised v k c (now (d .entry)) (now (d .exit)) ⌝ }
+{
+    if d[v][k] < c {
+        d[v][k] = c;
+    }
+}
 
 // The cell of a walk that is one edge.
 fn seeded(gain: u64, loss: u64) -> u32
     requires { ⌜ gain < 16777216 ⌝ }
-    ensures { λ r. ⌜ r ≡ suc (gain - loss) ⌝ }
+    ensures { λ r. ⌜ r ≡ 1073741824 + (gain - loss) ⌝ }
 {
     if loss < gain {
-        (gain - loss + 1) as u32
+        (1073741824 + gain - loss) as u32
     } else {
-        1
+        1073741824
     }
 }
 
-// The walk of one counted edge out of a step other than 0, in the column of that step.
-fn seed_word(d: &mut [[u32; 64]; 64], fresh: &mut [u64; 64], w: u64)
-    requires { ⌜ Square (now d) × (length (now fresh) ≡ 64) ⌝ }
-    ensures { λ r. ⌜ SeededAll (λ a. Only (unpack w)) (now (d .entry)) (now (d .exit)) (now (fresh .entry)) (now (fresh .exit)) ⌝ }
+// The walk of one counted edge out of a step other than 0, in the column of that step where it has one.
+fn seed_edge(d: &mut [[u32; 64]; 64], number: &[u8; 64], w: u64)
+    requires { ⌜ Square (now d) × (unpack w .counted ≡ true) ⌝ }
+    ensures { λ r. ⌜ BegunAll (Only (unpack w)) (now (number .entry)) (now (d .entry)) (now (d .exit)) ⌝ }
 {
     let from = edge_from(w);
     if from == 0 {
         return;
     }
+    let k = number[from];
+    if 64 <= k {
+        return;
+    }
+    let c = seeded(edge_gain(w), edge_loss(w));
+    raise(d, edge_to(w), column_of(k), c);
+}
+
+// The same for any edge. One that gains nothing begins no walk that is not there.
+fn seed_word(d: &mut [[u32; 64]; 64], number: &[u8; 64], w: u64)
+    requires { ⌜ Square (now d) ⌝ }
+    ensures { λ r. ⌜ BegunAll (Only (unpack w)) (now (number .entry)) (now (d .entry)) (now (d .exit)) ⌝ }
+{
     if !is_counted(w) {
         return;
     }
-    let to = edge_to(w);
-    let c = seeded(edge_gain(w), edge_loss(w));
-    relaxation::raise(d, to, from, c);
-    let map = bitmaps::insert(fresh[to], from);
-    fresh[to] = map;
+    if edge_gain(w) <= edge_loss(w) {
+        return;
+    }
+    seed_edge(d, number, w);
 }
 
 // The edges of a list.
-pub fn seed_words(d: &mut [[u32; 64]; 64], fresh: &mut [u64; 64], es: &[u64])
-    requires { ⌜ Square (now d) × (length (now fresh) ≡ 64) ⌝ }
-    ensures { λ r. ⌜ SeededAll (λ a. members (graph (now (es .entry)))) (now (d .entry)) (now (d .exit)) (now (fresh .entry)) (now (fresh .exit)) ⌝ }
+fn seed_words(d: &mut [[u32; 64]; 64], number: &[u8; 64], es: &[u64])
+    requires { ⌜ Square (now d) ⌝ }
+    ensures { λ r. ⌜ BegunAll (members (graph (now (es .entry)))) (now (number .entry)) (now (d .entry)) (now (d .exit)) ⌝ }
 {
     let mut k = 0;
     while k < es.len() {
-        seed_word(d, fresh, es[k]);
+        seed_word(d, number, es[k]);
         k += 1;
     }
 }
 
-// The waits for u, by the map of what waits.
-fn seed_row(d: &mut [[u32; 64]; 64], fresh: &mut [u64; 64], waiting: u64, u: usize)
-    requires { ⌜ (u < 64) × Square (now d) × (length (now fresh) ≡ 64) ⌝ }
-    ensures { λ r. ⌜ SeededAll (λ a. WaitsFor u waiting) (now (d .entry)) (now (d .exit)) (now (fresh .entry)) (now (fresh .exit)) ⌝ }
+// Numbers for the members of the rows of sets below n, and what their columns begin with, in an empty table. How many columns there are.
+pub fn seed(
+    d: &mut [[u32; 64]; 64],
+    number: &mut [u8; 64],
+    es: &[u64],
+    sets: &[u64; 64],
+    n: usize,
+) -> usize
+    requires { ⌜ (n ≤ 64) × Empty (now d) × Blank (now number) ⌝ }
+    ensures { λ r. ⌜ Prepared (members (graph (now (es .entry)))) (now (sets .entry)) n r (now (number .exit)) (now (d .exit)) ⌝ }
 {
-    let mut left = waiting;
-    while left != 0 {
-        let i = bitmaps::lowest(left);
-        let w = wait_word(u, i);
-        seed_word(d, fresh, w);
-        left = bitmaps::without_lowest(left);
-    }
-}
-
-// The waits for the steps below n.
-pub fn seed_waits(d: &mut [[u32; 64]; 64], fresh: &mut [u64; 64], waiting: &[u64; 64], n: usize)
-    requires { ⌜ (n ≤ 64) × Square (now d) × (length (now fresh) ≡ 64) ⌝ }
-    ensures { λ r. ⌜ SeededAll (λ a. WaitsBelow n (now (waiting .entry))) (now (d .entry)) (now (d .exit)) (now (fresh .entry)) (now (fresh .exit)) ⌝ }
-{
-    let mut u = 0;
-    while u < n {
-        seed_row(d, fresh, waiting[u], u);
-        u += 1;
-    }
+    let all = all_members(sets, n);
+    let width = number_members(all, number);
+    seed_rows(d, number, sets, n);
+    seed_words(d, number, es);
+    width
 }

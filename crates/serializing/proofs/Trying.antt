@@ -6,10 +6,11 @@ use mathlib.Core.List.{List, _++_}
 use Prim.Native.Nat.{ℕ, _<_, _≤_}
 use native.Mathlib.Omega.{arith}
 use lib.Dec.{ltb}
+use lib.ListN.{replicate, getD-replicate}
 use borrow.Author.Tests.{le-leb, leb-true, lt-ltb, ltb-true, not-true}
 use Rattle.definitions.specs.Answers.{closes-circle, infeasible, unserializable}
 use Rattle.definitions.specs.Anchors.{WellPosed, is-source}
-use Rattle.definitions.specs.Basics.{all, all-below, any, tabulate}
+use Rattle.definitions.specs.Basics.{all, all-below, any, tabulate, test-bit}
 use Rattle.definitions.specs.Links.{Edge, members}
 use Rattle.definitions.specs.Plan.{offset-row}
 use Rattle.definitions.specs.Rounds.{cell, extend}
@@ -17,12 +18,12 @@ use Rattle.definitions.specs.Waits.{serialized, wait-maps}
 use Rattle.demands.proofs.Sheets.{feasible-iff, not-8, serializable-iff, serialized-rooted}
 use Rattle.edges.specs.Serial.{wait-edges}
 use Rattle.edges.proofs.Serializing.{serialized-maps}
-use Rattle.heaviest.specs.Settling.{Within}
+use Rattle.heaviest.specs.Settling.{Supported, Within}
 use Rattle.laws.proofs.Bools.{bool-cases, both-ways, not-passing, or-left}
 use Rattle.laws.proofs.Tests.{all-below-by, all-below-each, all-by, all-each, any-none, tabulate-at}
 use Rattle.relations.specs.Rows.{row-bit}
-use Rattle.relaxation.specs.Columns.{column, cut-hand, entry}
-use Rattle.settled.specs.Settled.{handed-on}
+use Rattle.relaxation.specs.Columns.{entry}
+use Rattle.settled.specs.Settled.{cut-hand, handed-on, source-column}
 use Rattle.theory.specs.Graphs.{ForwardAcyclic, Gains, NonPositive, Rooted, Serializable, Shape, Well}
 use Rattle.theory.proofs.Feasibility.{stable-nonpositive}
 use Rattle.theory.proofs.Offsets.{offset-row-iff}
@@ -37,9 +38,9 @@ pub record Tried (n : ℕ) (es : List Edge) (d : List (List ℕ)) : Type 0 where
   pub uncut : all-below (λ v. ltb (entry d v 0) 4294967295) n ≡ true
   pub settled : all (handed-on d) es ≡ true
 
--- What the table holds of edges that can be scheduled and are well-posed.
-abbrev pub Offsets : ℕ → List Edge → List (List ℕ) → Type 0
-Offsets n es d = Well n (members es) → WellPosed (members es) → Gains (members es) 65535 → (a v : ℕ) → a < n → v < n → entry d v a ≡ cell (offset-row n es a) v
+-- What the table holds of edges that can be scheduled and are well-posed: the offsets for each anchor whose members in sets are the steps that have them.
+abbrev pub Offsets : ℕ → List Edge → List ℕ → List (List ℕ) → Type 0
+Offsets n es sets d = Well n (members es) → WellPosed (members es) → Gains (members es) 65535 → (a : ℕ) → a < n → Supported n es sets a → (v : ℕ) → v < n → row-bit sets v a ≡ true → entry d v a ≡ cell (offset-row n es a) v
 
 -- The maps of waits hold no step at n or above; and the edges with the waits that they hold are the sheet with its waits in. So this is what `heaviest::walks` promises.
 module _ {n : ℕ} {g : List Edge} {maps : List ℕ} (few : n ≤ 64) (shape : Shape n (members g)) (waits : maps ≡ wait-maps n g) where
@@ -49,34 +50,39 @@ module _ {n : ℕ} {g : List Edge} {maps : List ℕ} (few : n ≤ 64) (shape : S
   pub edges-waited : g ++ wait-edges n maps ≡ serialized n g
   edges-waited = ap (λ (m : List ℕ). g ++ wait-edges n m) waits ∙ serialized-maps n g few
 
-  pub walks-offsets : (d : List (List ℕ)) → (Within n maps → Offsets n (g ++ wait-edges n maps) d) → Offsets n (serialized n g) d
-  walks-offsets d cells = subst (λ (l : List Edge). Offsets n l d) edges-waited (cells maps-within)
+  pub walks-offsets : (sets : List ℕ) (d : List (List ℕ)) → (Within n maps → Offsets n (g ++ wait-edges n maps) sets d) → Offsets n (serialized n g) sets d
+  walks-offsets sets d cells = subst (λ (l : List Edge). Offsets n l sets d) edges-waited (cells maps-within)
+
+-- Rows that hold the source alone.
+pub sole-source : (v : ℕ) → v < 64 → row-bit (replicate 64 1) v 0 ≡ true
+unfolding test-bit
+sole-source v b = ap (λ (m : ℕ). test-bit m 0) (getD-replicate 64 v 1 0 b)
 
 -- A tried column shows that no closed walk is above 0.
 tried-nonpositive : {n : ℕ} {es : List Edge} {d : List (List ℕ)} → 0 < n → Shape n (members es) → Rooted n (members es) → Tried n es d → NonPositive (members es)
 tried-nonpositive {n} {es} {d} some shape rooted T =
-    stable-nonpositive some shape rooted (tabulate (column d 0) n) stable (omega (arith, T .source, tabulate-at (column d 0) n 0 0 some))
+    stable-nonpositive some shape rooted (tabulate (source-column d) n) stable (omega (arith, T .source, tabulate-at (source-column d) n 0 0 some))
   where
-    at : (v : ℕ) → v < n → cell (tabulate (column d 0) n) v ≡ column d 0 v
-    at v b = tabulate-at (column d 0) n v 0 b
+    at : (v : ℕ) → v < n → cell (tabulate (source-column d) n) v ≡ source-column d v
+    at v b = tabulate-at (source-column d) n v 0 b
 
-    stable : (e : Edge) → members es e → extend (cell (tabulate (column d 0) n) (e .from)) (e .gain) (e .loss) ≤ cell (tabulate (column d 0) n) (e .to)
+    stable : (e : Edge) → members es e → extend (cell (tabulate (source-column d) n) (e .from)) (e .gain) (e .loss) ≤ cell (tabulate (source-column d) n) (e .to)
     stable e m =
         omega (
           arith,
-          leb-true (cut-hand (column d 0) e) (column d 0 (e .to)) (all-each (handed-on d) es (T .settled) e m),
+          leb-true (cut-hand (source-column d) e) (source-column d (e .to)) (all-each (handed-on d) es (T .settled) e m),
           ltb-true (entry d (e .to) 0) 4294967295 (all-below-each (λ v. ltb (entry d v 0) 4294967295) n (T .uncut) (e .to) (shape .to-below e m)),
           at (e .to) (shape .to-below e m),
           ap (λ (x : ℕ). extend x (e .gain) (e .loss)) (at (e .from) (shape .from-below e m)),
         )
 
--- And where none is, the column is so.
-nonpositive-tried : {n : ℕ} {es : List Edge} {d : List (List ℕ)} → n ≤ 64 → Well n (members es) → WellPosed (members es) → Gains (members es) 65535 → Offsets n es d → Tried n es d
+-- And where none is, the column is so: the source has an offset at every step.
+nonpositive-tried : {n : ℕ} {es : List Edge} {d : List (List ℕ)} → n ≤ 64 → Well n (members es) → WellPosed (members es) → Gains (members es) 65535 → Offsets n es (replicate 64 1) d → Tried n es d
 nonpositive-tried {n} {es} {d} few well posed gains cells =
     record { source = omega (arith, at 0 (well .some), offset-row-iff well posed 0 0 (well .some) .1 (is-source refl)); uncut = all-below-by (λ v. ltb (entry d v 0) 4294967295) n uncut; settled = all-by (handed-on d) es settled }
   where
     at : (v : ℕ) → v < n → entry d v 0 ≡ cell (offset-row n es 0) v
-    at v b = cells well posed gains 0 v (well .some) b
+    at v b = cells well posed gains 0 (well .some) (λ w c. sole-source w (omega arith) ∙ sym (lt-ltb 0 (cell (offset-row n es 0) w) (offset-row-iff well posed 0 w c .1 (is-source refl)))) v b (sole-source v (omega arith))
 
     -- Offsets are small.
     uncut : (v : ℕ) → v < n → ltb (entry d v 0) 4294967295 ≡ true
@@ -85,7 +91,7 @@ nonpositive-tried {n} {es} {d} few well posed gains cells =
     -- And settled over every edge.
     settled : (e : Edge) → members es e → handed-on d e ≡ true
     settled e m =
-        le-leb (cut-hand (column d 0) e) (column d 0 (e .to))
+        le-leb (cut-hand (source-column d) e) (source-column d (e .to))
         (omega (
           arith,
           source-settles well posed e m,
@@ -98,7 +104,7 @@ module _ {n : ℕ} {g : List Edge} (few : n ≤ 64) (well : Well n (members g)) 
   feasible = feasible-iff (well .some) (serialized-shape (well .shape)) (serialized-rooted (well .some) (well .shape) (well .rooted))
 
   -- Start times are left with the waits in exactly if the column is tried.
-  module _ (gains : Gains (members g) 65535) (no-circle : closes-circle n (serialized n g) ≡ false) (d : List (List ℕ)) (cells : Offsets n (serialized n g) d) where
+  module _ (gains : Gains (members g) 65535) (no-circle : closes-circle n (serialized n g) ≡ false) (d : List (List ℕ)) (cells : Offsets n (serialized n g) (replicate 64 1) d) where
     tried : infeasible n (serialized n g) ≡ false → Tried n (serialized n g) d
     tried h =
         let serial : Serializable (members (serialized n g)) = record { acyclic = not-8 (well .some) (serialized-shape (well .shape)) no-circle; never = feasible .0 h } in

@@ -1,16 +1,24 @@
--- Whether an edge has handed on in the source's column of the working table. The terms are those of relaxation's specs/Columns.antt.
+-- Whether an edge has handed on in the source's column of a table of walks, whose cells are 0 where no walk comes, w + 1 for the weight w.
 use mathlib.Core.Bool.{Bool, not, _||_}
 use mathlib.Core.List.{List}
-use Prim.Native.Nat.{ℕ}
+use Prim.Native.Nat.{ℕ, min}
 use lib.Dec.{leb}
 use Rattle.definitions.specs.Basics.{all-below, test-bit}
 use Rattle.definitions.specs.Links.{Edge}
+use Rattle.definitions.specs.Rounds.{extend}
 use Rattle.definitions.specs.Waits.{wait-edge}
-use Rattle.relaxation.specs.Columns.{column, cut-hand}
+use Rattle.relaxation.specs.Columns.{entry}
 
--- An edge has handed on, in the source's column of the working table.
+abbrev pub source-column : List (List ℕ) → ℕ → ℕ
+source-column d v = entry d v 0
+
+-- What an edge hands on, cut at the largest number of a cell.
+abbrev pub cut-hand : (ℕ → ℕ) → Edge → ℕ
+cut-hand r e = min (extend (r (e .from)) (e .gain) (e .loss)) 4294967295
+
+-- An edge has handed on, in the source's column.
 abbrev pub handed-on : List (List ℕ) → Edge → Bool
-handed-on d e = leb (cut-hand (column d 0) e) (column d 0 (e .to))
+handed-on d e = leb (cut-hand (source-column d) e) (source-column d (e .to))
 
 -- Every wait of step i has, where bit a of its map stands for a wait for a.
 abbrev pub waits-handed-on : List (List ℕ) → ℕ → ℕ → Bool

@@ -135,7 +135,7 @@ module _ {n : ℕ} {es : List Edge} {d : List (List ℕ)} {sets : List ℕ} (h :
   start-at-from list row other s (suc v) b =
       ap (λ (x : ℕ). min x undecided) (largest-same-test (member sets (suc v)) (λ a. in-anchor-set n es a (suc v)) (term d list row (suc v)) n (λ a c. member-anchor h a (suc v) c b))
       ∙ largest-cut (λ a. in-anchor-set n es a (suc v)) (term d list row (suc v)) (λ a. cell other a + delays list a + offset n es a (suc v)) n undecided
-      (λ a c m. omega (arith, s a c, weight-offset h a (suc v) c b))
+      (λ a c m. omega (arith, s a c, weight-offset h a (suc v) c b (member-anchor h a (suc v) c b ∙ m)))
 
   -- Induction on the turns: the cuts on the way do not matter.
   row-after-turns : (list : List ℕ) (k v : ℕ) → v < n → cell (row-after d sets n list k) v ≡ min (cell (start-turns n es (delays list) k) v) undecided

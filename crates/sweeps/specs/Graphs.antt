@@ -5,7 +5,12 @@ use Prim.Native.Nat.{ℕ}
 use lib.ListN.{getD}
 use Rattle.definitions.specs.Links.{Graph, UsableFrom, members}
 use Rattle.edges.specs.Words.{graph}
-use Rattle.relaxation.specs.Columns.{WaitsFor}
+use Rattle.relaxation.specs.Columns.{Numbers, Square, SweptAll, WaitsFor}
 
 abbrev pub Both : List ℕ → List ℕ → ℕ → Graph
 Both es waiting a e = UsableFrom (members (graph es)) a e ⊎ WaitsFor (e .from) (getD waiting (e .from) 0) e
+
+-- Steps hand on in every numbered column, each in the graph of its anchor.
+pub record SweptBy (es waiting number : List ℕ) (width : ℕ) (On : ℕ → Type 0) (d d′ : List (List ℕ)) (m m′ : ℕ) : Type 0 where
+  pub square : Square d′
+  pub each : (anchor : ℕ → ℕ) → Numbers width number anchor → SweptAll (λ k. Both es waiting (anchor k)) width On d d′ m m′

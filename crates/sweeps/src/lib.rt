@@ -1,14 +1,18 @@
-// Sweeps over a sheet's steps: each hands on, along its edges and to what waits for it, the cells that were raised since it last did. See relaxation's specs/Columns.antt.
-use edges::wait_word;
+// Steps that hand on, along their edges and to what waits for them, the rows that were raised since they last did. See relaxation's specs/Columns.antt and specs/Graphs.antt.
+use relaxation::extent;
 use relaxation::push_word;
+use relaxation::raise_row;
+use relaxation::take;
 ghost use mathlib.Core.Path.{_≡_};
-ghost use Prim.Native.Nat.{_<_, _≤_};
-ghost use lib.ListN.{length};
+ghost use mathlib.Core.List.{List};
+ghost use Prim.Native.Nat.{ℕ, _-_, _<_, _≤_};
+ghost use lib.ListN.{length, getD};
 ghost use Rattle.adjacency.specs.Lists.{Lists};
 ghost use Rattle.definitions.specs.Links.{UsableFrom, members};
 ghost use Rattle.edges.specs.Words.{graph};
-ghost use Rattle.relaxation.specs.Columns.{Square, HandedAll, SweptAll, WaitsFor};
-ghost use Rattle.sweeps.specs.Graphs.{Both};
+ghost use Rattle.relaxation.specs.Columns.{Square, HandedAll, WaitsFor};
+ghost use Rattle.relaxation.specs.Lifts.{Clear, Ready, lent};
+ghost use Rattle.sweeps.specs.Graphs.{SweptBy};
 
 // A place in an adjacency list.
 fn index(x: u16) -> usize
@@ -17,120 +21,148 @@ fn index(x: u16) -> usize
     x as usize
 }
 
-// The edges out of u, for the anchors in m that may use them.
+// The edges out of u hand on a row.
 fn push_edges(
     d: &mut [[u32; 64]; 64],
-    fresh: &mut [u64; 64],
+    row: &[u32; 64],
+    marks: u64,
     es: &[u64],
     lists: &[u16],
     u: usize,
-    m: u64,
-)
-    requires { ⌜ (u < 64) × (length (now es) ≤ 2048) × Lists (now es) (now lists) × Square (now d) × (length (now fresh) ≡ 64) ⌝ }
-    ensures { λ r. ⌜ HandedAll (λ a. UsableFrom (members (graph (now (es .entry)))) a) u m (now (d .entry)) (now (d .exit)) (now (fresh .entry)) (now (fresh .exit)) ⌝ }
+    top: u32,
+    number: &[u8; 64],
+    width: usize,
+) -> u64
+    requires { ⌜ (u < 64) × (width ≤ 64) × (length (now es) ≤ 2048) × Lists (now es) (now lists) × Square (now d) × Ready (now row) width top ⌝ }
+    ensures { λ r. ⌜ HandedAll (λ a. UsableFrom (members (graph (now (es .entry)))) a) (now (number .entry)) u (lent (now (row .entry)) width) (now (d .entry)) (now (d .exit)) marks r ⌝ }
 {
+    let mut left = marks;
     let mut k = index(lists[u]);
     while k != 0 {
-        push_word(d, fresh, es[k - 1], m);
+        left = push_word(d, row, left, es[k - 1], top, number, width);
         k = index(lists[63 + k]);
     }
+    left
 }
 
-// The waits for u, by the map of what waits, for the anchors in m.
-fn push_waits(d: &mut [[u32; 64]; 64], fresh: &mut [u64; 64], waiting: u64, u: usize, m: u64)
-    requires { ⌜ (u < 64) × Square (now d) × (length (now fresh) ≡ 64) ⌝ }
-    ensures { λ r. ⌜ HandedAll (λ a. WaitsFor u waiting) u m (now (d .entry)) (now (d .exit)) (now (fresh .entry)) (now (fresh .exit)) ⌝ }
+// What waits for u, by a map, is handed the row as it is.
+fn push_waits(
+    d: &mut [[u32; 64]; 64],
+    row: &[u32; 64],
+    marks: u64,
+    waiting: u64,
+    width: usize,
+) -> u64
+    requires { ⌜ (width ≤ 64) × Square (now d) × ((k : ℕ) → k < width → Clear (getD (now row) k 0)) ⌝ }
+    ensures { λ r. ⌜ ((u : ℕ) (number : List ℕ) → HandedAll (λ a. WaitsFor u waiting) number u (lent (now (row .entry)) width) (now (d .entry)) (now (d .exit)) marks r) ⌝ }
 {
-    let mut left = waiting;
-    while left != 0 {
-        let i = bitmaps::lowest(left);
-        let w = wait_word(u, i);
-        push_word(d, fresh, w, m);
-        left = bitmaps::without_lowest(left);
+    let mut left = marks;
+    let mut todo = waiting;
+    while todo != 0 {
+        let i = bitmaps::lowest(todo);
+        left = raise_row(d, row, i, 0, width, left);
+        todo = bitmaps::without_lowest(todo);
     }
+    left
 }
 
-// Step u hands on what it has not handed on yet.
+// Step u hands on, where it has a mark. The row is lent to it as a place to work in.
 fn visit(
     d: &mut [[u32; 64]; 64],
-    fresh: &mut [u64; 64],
+    row: &mut [u32; 64],
+    marks: u64,
     es: &[u64],
     lists: &[u16],
     waiting: &[u64; 64],
     u: usize,
-)
-    requires { ⌜ (u < 64) × (length (now es) ≤ 2048) × Lists (now es) (now lists) × Square (now d) × (length (now fresh) ≡ 64) ⌝ }
-    ensures { λ r. ⌜ SweptAll (Both (now (es .entry)) (now (waiting .entry))) (λ v. v ≡ u) (now (d .entry)) (now (d .exit)) (now (fresh .entry)) (now (fresh .exit)) ⌝ }
+    number: &[u8; 64],
+    width: usize,
+) -> u64
+    requires { ⌜ (u < 64) × (width ≤ 64) × (length (now es) ≤ 2048) × Lists (now es) (now lists) × Square (now d) × (length (now row) ≡ 64) ⌝ }
+    ensures { λ r. ⌜ SweptBy (now (es .entry)) (now (waiting .entry)) (now (number .entry)) width (λ v. v ≡ u) (now (d .entry)) (now (d .exit)) marks r × (length (now (row .exit)) ≡ 64) ⌝ }
 {
-    let m = fresh[u];
-    if m == 0 {
-        return;
+    if !bitmaps::has(marks, u) {
+        return marks;
     }
-    fresh[u] = 0;
-    push_edges(d, fresh, es, lists, u, m);
-    push_waits(d, fresh, waiting[u], u, m);
+    let rest = bitmaps::remove(marks, u);
+    let own = extent(&d[u], width);
+    let top = take(d, u, row, own);
+    let left = push_edges(d, row, rest, es, lists, u, top, number, own);
+    push_waits(d, row, left, waiting[u], own)
 }
 
 // A number below 64.
-fn place(x: u8) -> usize
+fn place_of(x: u8) -> usize
     ensures { λ r. ⌜ r < 64 ⌝ }
 {
     (x % 64) as usize
 }
 
-// The steps of an order, one after another. What the order is decides only how much is left to do.
-fn sweep_order(
-    d: &mut [[u32; 64]; 64],
-    fresh: &mut [u64; 64],
-    es: &[u64],
-    lists: &[u16],
-    waiting: &[u64; 64],
-    order: &[u8; 64],
-    n: usize,
-)
-    requires { ⌜ (n ≤ 64) × (length (now es) ≤ 2048) × Lists (now es) (now lists) × Square (now d) × (length (now fresh) ≡ 64) ⌝ }
-    ensures { λ r. ⌜ SweptAll (Both (now (es .entry)) (now (waiting .entry))) (λ v. ⊥) (now (d .entry)) (now (d .exit)) (now (fresh .entry)) (now (fresh .exit)) ⌝ }
+// The places of steps, put to a map of places.
+fn noted(hint: u64, fresh: u64, place: &[u8; 64]) -> u64 {
+    let mut all = hint;
+    let mut left = fresh;
+    while left != 0 {
+        let v = bitmaps::lowest(left);
+        all = bitmaps::insert(all, place_of(place[v]));
+        left = bitmaps::without_lowest(left);
+    }
+    all
+}
+
+// The step to visit next, where k visits are left: of those in the hint the one with the lowest place in the order; at the end every step below n, from the last to the first.
+fn next_step(k: usize, n: usize, hint: u64, left: u64, order: &[u8; 64]) -> usize
+    requires { ⌜ (n ≤ 64) × (0 < k) × (0 < left) ⌝ }
+    ensures { λ r. ⌜ (r < 64) × (k ≤ n → r ≡ k - 1) ⌝ }
 {
-    let mut k = 0;
-    while k < n {
-        let u = place(order[k]);
-        visit(d, fresh, es, lists, waiting, u);
-        k += 1;
+    if k <= n {
+        return k - 1;
+    }
+    if hint == 0 {
+        return bitmaps::lowest(left);
+    }
+    place_of(order[bitmaps::lowest(hint)])
+}
+
+// A map without its smallest member, if it has one.
+fn rest_of(m: u64) -> u64 {
+    if m == 0 {
+        0
+    } else {
+        bitmaps::without_lowest(m)
     }
 }
 
-// Every step below n, from the last to the first: returns mostly lead to lower steps.
-fn sweep_down(
-    d: &mut [[u32; 64]; 64],
-    fresh: &mut [u64; 64],
-    es: &[u64],
-    lists: &[u16],
-    waiting: &[u64; 64],
-    n: usize,
-)
-    requires { ⌜ (n ≤ 64) × (length (now es) ≤ 2048) × Lists (now es) (now lists) × Square (now d) × (length (now fresh) ≡ 64) ⌝ }
-    ensures { λ r. ⌜ SweptAll (Both (now (es .entry)) (now (waiting .entry))) (λ v. v < n) (now (d .entry)) (now (d .exit)) (now (fresh .entry)) (now (fresh .exit)) ⌝ }
-{
-    let mut k = n;
-    while k != 0 {
-        k -= 1;
-        visit(d, fresh, es, lists, waiting, k);
-    }
-}
-
-// One sweep: the order settles the forward edges, the way back the returns.
+// Steps hand on until no mark is left, or for long enough that each step below n has done so. A step that gets a mark comes into the hint by its place. What hint, order and places are decides only how
+// many visits there are. At first every step has a mark, so the marks are the hint.
 pub fn sweep(
     d: &mut [[u32; 64]; 64],
-    fresh: &mut [u64; 64],
+    marks: u64,
     es: &[u64],
     lists: &[u16],
     waiting: &[u64; 64],
     order: &[u8; 64],
+    place: &[u8; 64],
+    number: &[u8; 64],
+    width: usize,
     n: usize,
-)
-    requires { ⌜ (n ≤ 64) × (length (now es) ≤ 2048) × Lists (now es) (now lists) × Square (now d) × (length (now fresh) ≡ 64) ⌝ }
-    ensures { λ r. ⌜ SweptAll (Both (now (es .entry)) (now (waiting .entry))) (λ v. v < n) (now (d .entry)) (now (d .exit)) (now (fresh .entry)) (now (fresh .exit)) ⌝ }
+) -> u64
+    requires { ⌜ (n ≤ 64) × (width ≤ 64) × (length (now es) ≤ 2048) × Lists (now es) (now lists) × Square (now d) ⌝ }
+    ensures { λ r. ⌜ SweptBy (now (es .entry)) (now (waiting .entry)) (now (number .entry)) width (λ v. v < n) (now (d .entry)) (now (d .exit)) marks r ⌝ }
 {
-    sweep_order(d, fresh, es, lists, waiting, order, n);
-    sweep_down(d, fresh, es, lists, waiting, n);
+    let mut row = [0u32; 64];
+    let mut left = marks;
+    let mut hint = marks;
+    let mut k = n + 2048;
+    while k != 0 {
+        if left == 0 {
+            return left;
+        }
+        let u = next_step(k, n, hint, left, order);
+        let before = left;
+        left = visit(d, &mut row, before, es, lists, waiting, u, number, width);
+        hint = noted(rest_of(hint), bitmaps::minus(left, before), place);
+        k -= 1;
+    }
+    left
 }

@@ -13,11 +13,11 @@ use Rattle.definitions.specs.Plan.{Span, after, source}
 use Rattle.definitions.specs.Rounds.{after-reaches, cell, extend, reaches, rounds, source-row, stable}
 use Rattle.laws.proofs.Bools.{both-ways, not-passing}
 use Rattle.laws.proofs.Tests.{all-below-by, all-below-each, any-none, none-any}
-use Rattle.theory.specs.Graphs.{ForwardAcyclic, Gains, KeepsEdge, Losses, NonPositive, Rooted, Schedule, Shape, Well, sole-delay}
+use Rattle.theory.specs.Graphs.{ForwardAcyclic, KeepsEdge, Losses, NonPositive, Rooted, Schedule, Shape, Well, sole-delay}
 use Rattle.theory.proofs.FirstRows.{source-start}
-use Rattle.theory.proofs.Pigeonhole.{brief, shorten, walk-gain, walk-loss}
+use Rattle.theory.proofs.Pigeonhole.{brief, walk-loss}
 use Rattle.theory.proofs.Reachability.{forwards-mem, forwards-shape, joined-reaches, mem-forwards, reaches-joined}
-use Rattle.theory.proofs.Relaxation.{Covers, Grounded, Stable, Start, covers-up, fixpoint-stable, grounded, rounds-fixed, rounds-length, rounds-offset, rounds-rise, rounds-under, stable-iff, stable-walk}
+use Rattle.theory.proofs.Relaxation.{Covers, Grounded, Stable, Start, covers-up, fixpoint-stable, grounded, rounds-fixed, rounds-length, rounds-offset, rounds-rise, stable-iff, stable-walk}
 use Rattle.theory.proofs.Slack.{after-slack, schedule-nonpositive, slack-same, slack-zero}
 use Rattle.theory.proofs.SoleDelays.{sole-delay-other, sole-delay-own}
 use Rattle.theory.proofs.Usables.{usable-shape, usable-sub}
@@ -93,20 +93,6 @@ module _ {n : ℕ} {es : List Edge} (some : 0 < n) (shape : Shape n (members es)
 
   pub stable-nonpositive : (row : List ℕ) → Stable es row → 1 ≤ cell row 0 → NonPositive (members es)
   stable-nonpositive row st h = record { closed = λ w. closed-in row st (record { some = h; enough = omega arith }) w refl }
-
-  -- The cells of the settled row are small: a walk of fewer than n edges is as heavy.
-  pub settled-small : NonPositive (members es) → (g : ℕ) → Gains (members es) g → (v : ℕ) → cell (rounds es n (source-row n 0)) v ≤ suc (n * g)
-  settled-small never g gains v = go (cell settled v) refl
-    where
-      by-span : {o p q : ℕ} → o + q ≤ p → Span (members es) 0 v p q → o ≤ n * g
-      by-span h (source z w) =
-          let t = shorten shape never some w in
-          omega (arith, t .heavy, walk-gain gains (t .walk), mul-le-mul-right {m = t .k₂} {n = n} g (omega (arith, t .few)))
-      by-span h (after w) = absurd (w .not-source refl)
-
-      go : (r : ℕ) → cell settled v ≡ r → cell settled v ≤ suc (n * g)
-      go zero h = omega arith
-      go (suc o) h = let R = rounds-under shape ground start n v o h in omega (arith, by-span (R .under) (R .span))
 
   -- Refusal 10, and what it says.
   pub stable-nonpositive-iff : (stable es (rounds es n (source-row n 0)) ≡ true) ↔ NonPositive (members es)

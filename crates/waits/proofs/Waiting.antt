@@ -1,11 +1,11 @@
 -- What the rows of waits are: the maps of the definition, and their count.
 use mathlib.Core.Path.{_≡_, sym, ap, _∙_}
-use mathlib.Core.Bool.{Bool, true, cond, not, _&&_}
-use mathlib.Core.List.{List}
+use mathlib.Core.Bool.{Bool, true, false, cond, not, _&&_, _||_}
+use mathlib.Core.List.{List, map}
 use Prim.Native.Nat.{ℕ, _+_, _-_, _<_, _≤_}
 use native.Mathlib.Omega.{arith}
 use lib.Dec.{eqb, ltb}
-use lib.ListN.{length, getD, length-map}
+use lib.ListN.{length, getD, length-map, length-set, set, take}
 use lib.Seq.{ext-getD}
 use borrow.Author.Tests.{eq-eqb, eqb-true, le-ltb, lt-ltb, ltb-true, not-true}
 use Rattle.definitions.specs.Anchors.{in-anchor-set}
@@ -14,21 +14,49 @@ use Rattle.definitions.specs.Basics.{any, any-below, select-below, test-bit}
 use Rattle.definitions.specs.Links.{Edge, late-into, usable}
 use Rattle.definitions.specs.Rounds.{after-reaches}
 use Rattle.definitions.specs.Waits.{WaitPair, wait-count, wait-list, wait-map, wait-maps, waits-for, waits-of}
+use Rattle.edges.specs.Words.{graph, unpack}
 use Rattle.laws.proofs.Bools.{and-join, and-split, both-ways, not-passing, same-test}
 use Rattle.laws.proofs.Counts.{sum-below, sum-below-same, sum-below-cut, sum-below-swap, select-length, flatMap-length}
 use Rattle.laws.proofs.Maps.{same-map}
-use Rattle.laws.proofs.Searches.{any-below-same}
+use Rattle.laws.proofs.Searches.{any-below-same, any-snoc, map-take-more, or-none}
 use Rattle.laws.proofs.Tests.{any-by, any-has, tabulate-length}
 use Rattle.relations.specs.Rows.{row-bit, Gathered}
+use Rattle.relations.proofs.Gathering.{store-bit}
 use Rattle.theory.proofs.Usables.{late-into-iff, members-usable, usable-members, usable-shape}
 use Rattle.theory.proofs.WaitLists.{usable-reaches-iff, wait-map-bit, wait-maps-at}
 use Rattle.theory.proofs.Walks.{after-start-below}
-use Rattle.waits.specs.Reaching.{Reaches, Known, holds-up}
+use Rattle.waits.specs.Reaching.{Held, Reaches, Known, holds-up}
 
 -- Refusal 11 is a loop of the rows.
 pub loop-is-inconsistent : {n : ℕ} {g : List Edge} {rows : List ℕ} → Reaches n g rows → any-below (λ (v : ℕ). row-bit rows v v) n ≡ inconsistent n g
 unfolding inconsistent
 loop-is-inconsistent {n} {g} {rows} h = any-below-same (λ (v : ℕ). row-bit rows v v) (λ (a : ℕ). after-reaches n (usable g a) a a) n (λ v b. h .bits v v b)
+
+-- One edge: a backward one stores what it makes wait, a forward one says nothing.
+module _ (reach sets maps : List ℕ) (e : Edge) (long : length maps ≡ 64) where
+  pub held-none : e .back ≡ false → Held (holds-up reach sets) e maps maps
+  held-none f = record { long = long; bits = λ i a. sym (ap (λ (t : Bool). row-bit maps i a || t) (none i a) ∙ or-none (row-bit maps i a)) }
+    where
+      none : (i a : ℕ) → holds-up reach sets i a e ≡ false
+      none i a =
+          not-passing
+          (holds-up reach sets i a e)
+          (λ t.
+          let p = and-split (eqb i (e .to)) (e .back && (row-bit reach (e .from) a && not (late-into a e) && not (row-bit sets (e .to) a))) t in
+          both-ways (and-split (e .back) (row-bit reach (e .from) a && not (late-into a e) && not (row-bit sets (e .to) a)) (p .1) .0) f)
+
+  pub held-store : (i j users held m : ℕ) → i ≡ e .to → i < 64 → j ≡ e .from → e .back ≡ true → ((a : ℕ) → test-bit users a ≡ (row-bit reach j a && not (late-into a e))) → ((a : ℕ) → test-bit held a ≡ (test-bit users a && not (row-bit sets i a))) → ((a : ℕ) → test-bit m a ≡ (row-bit maps i a || test-bit held a)) → Held (holds-up reach sets) e maps (set maps i m)
+  held-store i j users held m to low from back may left joins =
+      record { long = length-set maps i m ∙ long; bits = λ w a. store-bit maps i m (test-bit held) (omega arith) joins w a ∙ ap (λ (t : Bool). row-bit maps w a || (eqb w i && t)) (left a ∙ ap (λ (t : Bool). t && not (row-bit sets i a)) (may a)) ∙ ap (λ (t : Bool). row-bit maps w a || t) (same w a) }
+    where
+      same : (w a : ℕ) → (eqb w i && (row-bit reach j a && not (late-into a e) && not (row-bit sets i a))) ≡ holds-up reach sets w a e
+      same w a = rw (to, from, back)
+
+-- The words passed over, and one more.
+pub held-more : (reach sets es maps maps′ : List ℕ) (k : ℕ) → k < length es → Gathered (holds-up reach sets) (graph (take k es)) maps → Held (holds-up reach sets) (unpack (getD es k 0)) maps maps′ → Gathered (holds-up reach sets) (graph (take (k + 1) es)) maps′
+unfolding graph
+held-more reach sets es maps maps′ k b G H =
+    record { long = H .long; bits = λ i a. H .bits i a ∙ ap (λ (t : Bool). t || holds-up reach sets i a (unpack (getD es k 0))) (G .bits i a) ∙ sym (ap (any (holds-up reach sets i a)) (map-take-more unpack es k 0 b) ∙ any-snoc (holds-up reach sets i a) (map unpack (take k es)) (unpack (getD es k 0))) }
 
 module _ {n : ℕ} {g : List Edge} {reach sets : List ℕ} (known : Known n g reach sets) where
   -- An anchor that reaches something is below n.

@@ -1,16 +1,15 @@
 // Refusal 11 and the waits, from what reaches what and the anchor sets: see specs/Reaching.antt.
 ghost use mathlib.Core.Path.{_≡_};
-ghost use mathlib.Core.Bool.{not, _&&_, _||_};
 ghost use mathlib.Core.List.{List, flatMap};
 ghost use Prim.Native.Nat.{ℕ, _≤_};
-ghost use lib.ListN.{length, getD};
+ghost use lib.ListN.{length, getD, replicate};
 ghost use Rattle.definitions.specs.Answers.{inconsistent};
 ghost use Rattle.definitions.specs.Basics.{any-below, select-below, tabulate, test-bit};
-ghost use Rattle.definitions.specs.Links.{Edge, late-into};
+ghost use Rattle.definitions.specs.Links.{Edge};
 ghost use Rattle.definitions.specs.Waits.{wait-count, wait-maps};
 ghost use Rattle.edges.specs.Words.{unpack, graph};
 ghost use Rattle.relations.specs.Rows.{row-bit, Gathered};
-ghost use Rattle.waits.specs.Reaching.{Reaches, Known, holds-up};
+ghost use Rattle.waits.specs.Reaching.{Held, Reaches, Known, holds-up};
 
 // Refusal 11: an operation waits for its own end.
 pub fn is_inconsistent(reach: &[u64; 64], n: usize) -> bool
@@ -21,33 +20,33 @@ pub fn is_inconsistent(reach: &[u64; 64], n: usize) -> bool
     relations::has_loop(reach, n)
 }
 
-// The map of an edge's end, with what reaches its start, may use the edge and is not in its end's set, where the edge is backward.
-fn with_waits(map: u64, w: u64, reach: u64, set: u64) -> u64
-    ensures { λ r. ⌜ ((a : ℕ) → test-bit r a ≡ (test-bit map a || (unpack w .back && (test-bit reach a && not (late-into a (unpack w)) && not (test-bit set a))))) ⌝ }
+// One edge: where it is backward, what reaches its start, may use it and is not in its end's set comes into the map of its end.
+fn hold_up(maps: &mut [u64; 64], w: u64, reach: &[u64; 64], sets: &[u64; 64])
+    requires { ⌜ length (now maps) ≡ 64 ⌝ }
+    ensures { λ r. ⌜ Held (holds-up (now (reach .entry)) (now (sets .entry))) (unpack w) (now (maps .entry)) (now (maps .exit)) ⌝ }
 {
-    if edges::is_back(w) {
-        let users = edges::usable_by(reach, w);
-        return bitmaps::union(map, bitmaps::minus(users, set));
+    if !edges::is_back(w) {
+        return;
     }
-    map
+    let j = edges::edge_from(w);
+    let i = edges::edge_to(w);
+    let users = edges::usable_by(reach[j], w);
+    let held = bitmaps::minus(users, sets[i]);
+    let map = bitmaps::union(maps[i], held);
+    maps[i] = map;
 }
 
-// The waits of a sheet of n steps, bit a of map i: each backward edge from j to i makes i wait for what reaches j, but a late one not for i itself.
-pub fn wait_maps(es: &[u64], reach: &[u64; 64], sets: &[u64; 64]) -> [u64; 64]
-    ensures bits { λ r. ⌜ Gathered (holds-up (now (reach .entry)) (now (sets .entry))) (graph (now (es .entry))) r ⌝ }
-    ensures maps { λ r. ⌜ ((n : ℕ) → Known n (graph (now (es .entry))) (now (reach .entry)) (now (sets .entry)) → r ≡ wait-maps n (graph (now (es .entry)))) ⌝ }
+// The waits of a sheet of n steps, into maps that are blank, bit a of map i: each backward edge from j to i makes i wait for what reaches j, but a late one not for i itself.
+pub fn wait_maps(es: &[u64], reach: &[u64; 64], sets: &[u64; 64], maps: &mut [u64; 64])
+    requires { ⌜ now maps ≡ replicate 64 0 ⌝ }
+    ensures bits { λ r. ⌜ Gathered (holds-up (now (reach .entry)) (now (sets .entry))) (graph (now (es .entry))) (now (maps .exit)) ⌝ }
+    ensures definition { λ r. ⌜ ((n : ℕ) → Known n (graph (now (es .entry))) (now (reach .entry)) (now (sets .entry)) → now (maps .exit) ≡ wait-maps n (graph (now (es .entry)))) ⌝ }
 {
-    let mut maps = [0u64; 64];
     let mut k = 0;
     while k < es.len() {
-        let w = es[k];
-        let j = edges::edge_from(w);
-        let i = edges::edge_to(w);
-        let map = with_waits(maps[i], w, reach[j], sets[i]);
-        maps[i] = map;
+        hold_up(maps, es[k], reach, sets);
         k += 1;
     }
-    maps
 }
 
 // How many waits the maps hold.

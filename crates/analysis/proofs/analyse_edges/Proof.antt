@@ -13,14 +13,14 @@ slice-aggregate-list c = search needs
 list-requires : tie.Need-list-requires
 list-requires c κs = let few = c .before .before .pre .2 in (few, omega (arith, few, length-replicate {A = ℕ} 2112 0), zeros-empty 2112 (omega arith))
 
-slice-aggregate-analyse : tie.Need-slice-aggregate-analyse
-slice-aggregate-analyse c = search needs
+slice-aggregate-judge : tie.Need-slice-aggregate-judge
+slice-aggregate-judge c = search needs
 
-analyse-requires : tie.Need-analyse-requires
-analyse-requires c κs = search needs
+judge-requires : tie.Need-judge-requires
+judge-requires c κs = search needs
 
 returns : tie.Need-returns
 returns c = search needs
 
 pub analyse-edges-spec : {M : Type 1} → statement M
-analyse-edges-spec = tie.close (tie.spec slice-aggregate-list list-requires slice-aggregate-analyse analyse-requires returns)
+analyse-edges-spec = tie.close (tie.spec slice-aggregate-list list-requires slice-aggregate-judge judge-requires returns)

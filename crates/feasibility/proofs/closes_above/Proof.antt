@@ -14,6 +14,7 @@ use Rattle.edges.proofs.edge_from.Reads as edge-from-reads
 use Rattle.edges.proofs.edge_gain.Reads as edge-gain-reads
 use Rattle.edges.proofs.edge_loss.Reads as edge-loss-reads
 use Rattle.feasibility.proofs.enters.Reads as enters-reads
+use Rattle.feasibility.proofs.index.Reads as index-reads
 
 abbrev Inv-loop : tie.InvT-loop
 Inv-loop es via x n v₀ gains₀ losses₀ k₀ v gains losses k = Back es x n k v gains losses
@@ -24,11 +25,14 @@ abbrev μ-loop : tie.MeasureT-loop
 loop-holds : tie.Need-loop-holds Inv-loop μ-loop
 loop-holds c = back-start _ _ _ (c .before .pre .0)
 
-mul-i : tie.Need-mul-i Inv-loop μ-loop
-mul-i c = search needs
+mul-index : tie.Need-mul-index Inv-loop μ-loop
+mul-index c = search needs
 
-element-copy-out-i : tie.Need-element-copy-out-i Inv-loop μ-loop
-element-copy-out-i c = omega (arith, c .before .loop .inv .below)
+element-copy-out-index : tie.Need-element-copy-out-index Inv-loop μ-loop
+element-copy-out-index c = omega (arith, c .before .loop .inv .below)
+
+index-requires : tie.Need-index-requires Inv-loop μ-loop
+index-requires c κs = search needs
 
 enters-requires : tie.Need-enters-requires Inv-loop μ-loop
 enters-requires c κs = search needs
@@ -49,19 +53,19 @@ edge-gain-requires : tie.Need-edge-gain-requires Inv-loop μ-loop
 edge-gain-requires c κs = search needs
 
 add-gains : tie.Need-add-gains Inv-loop μ-loop
-add-gains c = omega (arith, c .before .before .before .before .before .before .loop .inv .light, c .before .before .before .before .before .before .loop .inv .inside, c .edge-gain .ensures .1, c .before .before .before .before .before .before .before .before .pre .1)
+add-gains c = omega (arith, c .before .before .before .before .before .before .before .loop .inv .light, c .before .before .before .before .before .before .before .loop .inv .inside, c .edge-gain .ensures .1, c .before .before .before .before .before .before .before .before .before .pre .1)
 
 edge-loss-requires : tie.Need-edge-loss-requires Inv-loop μ-loop
 edge-loss-requires c κs = search needs
 
 add-losses : tie.Need-add-losses Inv-loop μ-loop
-add-losses c = omega (arith, c .before .before .before .before .before .before .before .loop .inv .small, c .before .before .before .before .before .before .before .loop .inv .inside, c .edge-loss .ensures .1, c .before .before .before .before .before .before .before .before .before .pre .1)
+add-losses c = omega (arith, c .before .before .before .before .before .before .before .before .loop .inv .small, c .before .before .before .before .before .before .before .before .loop .inv .inside, c .edge-loss .ensures .1, c .before .before .before .before .before .before .before .before .before .before .pre .1)
 
 edge-from-requires : tie.Need-edge-from-requires Inv-loop μ-loop
 edge-from-requires c κs = search needs
 
 returns-2 : tie.Need-returns-2 Inv-loop μ-loop
-returns-2 c = λ t. let h = c .before .before .before .before .before .before .enters .ensures (not-false _ (c .before .before .before .before .before .if1 .left)) in back-closed _ _ _ _ _ _ _ _ (c .before .before .before .before .before .before .before .before .before .loop .inv) (h .0) (h .1) (h .2) (c .before .edge-from .ensures .0) (c .before .before .before .edge-gain .ensures .0) (c .before .before .edge-loss .ensures .0) (c .if2 .taken) (ltb-true _ _ t)
+returns-2 c = λ t. let h = c .before .before .before .before .before .before .enters .ensures (not-false _ (c .before .before .before .before .before .if1 .left)) in back-closed _ _ _ _ _ _ _ _ (c .before .before .before .before .before .before .before .before .before .before .loop .inv) (h .0) (h .1) (h .2) (c .before .edge-from .ensures .0) (c .before .before .before .edge-gain .ensures .0) (c .before .before .edge-loss .ensures .0) (c .if2 .taken) (ltb-true _ _ t)
 
 add-k : tie.Need-add-k Inv-loop μ-loop
 add-k c = search needs
@@ -70,7 +74,7 @@ loop-less : tie.Need-loop-less Inv-loop μ-loop
 loop-less c = search needs
 
 loop-again : tie.Need-loop-again Inv-loop μ-loop
-loop-again c = let h = c .before .before .before .before .before .before .enters .ensures (not-false _ (c .before .before .before .before .before .if1 .left)) in back-more _ _ _ _ _ _ _ _ (c .before .before .before .before .before .before .before .before .before .loop .inv) (h .0) (h .1) (h .2) (c .before .edge-from .ensures .0) (c .before .before .before .edge-gain .ensures .0) (c .before .before .edge-loss .ensures .0) (c .before .before .before .before .before .before .before .before .loop-test .taken) (c .before .edge-from .ensures .1) (c .before .before .before .edge-gain .ensures .1) (c .before .before .edge-loss .ensures .1)
+loop-again c = let h = c .before .before .before .before .before .before .enters .ensures (not-false _ (c .before .before .before .before .before .if1 .left)) in back-more _ _ _ _ _ _ _ _ (c .before .before .before .before .before .before .before .before .before .before .loop .inv) (h .0) (h .1) (h .2) (c .before .edge-from .ensures .0) (c .before .before .before .edge-gain .ensures .0) (c .before .before .edge-loss .ensures .0) (c .before .before .before .before .before .before .before .before .before .loop-test .taken) (c .before .edge-from .ensures .1) (c .before .before .before .edge-gain .ensures .1) (c .before .before .edge-loss .ensures .1)
 
 returns-3 : tie.Need-returns-3 Inv-loop μ-loop
 returns-3 c = λ h. absurd (true≢false (sym h))
@@ -82,8 +86,9 @@ closes-above-spec =
     Inv-loop
     μ-loop
     loop-holds
-    mul-i
-    element-copy-out-i
+    mul-index
+    element-copy-out-index
+    index-requires
     enters-requires
     returns
     sub-w

@@ -5,7 +5,8 @@ use Rattle.feasibility.proofs.far_back.Statement.{statement}
 use Rattle.feasibility.proofs.far_back.Tie as tie
 use Rattle.feasibility.proofs.far_back.Reads as reads
 use Rattle.feasibility.proofs.far_back.Lts as lts
-use Rattle.feasibility.proofs.previous.Reads as previous-reads
+use Rattle.edges.proofs.edge_from.Reads as edge-from-reads
+use Rattle.feasibility.proofs.index.Reads as index-reads
 
 abbrev Inv-loop : tie.InvT-loop
 Inv-loop es via x n v₀ k₀ v k = v < 64
@@ -14,10 +15,34 @@ abbrev μ-loop : tie.MeasureT-loop
 μ-loop es via x n v₀ k₀ v k = n - k
 
 loop-holds : tie.Need-loop-holds Inv-loop μ-loop
-loop-holds c = c .before .pre
+loop-holds c = search needs
 
-previous-requires : tie.Need-previous-requires Inv-loop μ-loop
-previous-requires c κs = c .before .loop .inv
+mul-index : tie.Need-mul-index Inv-loop μ-loop
+mul-index c = search needs
+
+element-copy-out-index : tie.Need-element-copy-out-index Inv-loop μ-loop
+element-copy-out-index c = search needs
+
+index-requires : tie.Need-index-requires Inv-loop μ-loop
+index-requires c κs = search needs
+
+returns : tie.Need-returns Inv-loop μ-loop
+returns c = search needs
+
+returns-2 : tie.Need-returns-2 Inv-loop μ-loop
+returns-2 c = search needs
+
+sub-edge-from : tie.Need-sub-edge-from Inv-loop μ-loop
+sub-edge-from c = search needs
+
+mul-edge-from : tie.Need-mul-edge-from Inv-loop μ-loop
+mul-edge-from c = search needs
+
+shared-slice-read-edge-from : tie.Need-shared-slice-read-edge-from Inv-loop μ-loop
+shared-slice-read-edge-from c = search needs
+
+edge-from-requires : tie.Need-edge-from-requires Inv-loop μ-loop
+edge-from-requires c κs = search needs
 
 add-k : tie.Need-add-k Inv-loop μ-loop
 add-k c = search needs
@@ -26,10 +51,10 @@ loop-less : tie.Need-loop-less Inv-loop μ-loop
 loop-less c = search needs
 
 loop-again : tie.Need-loop-again Inv-loop μ-loop
-loop-again c = c .previous .ensures
+loop-again c = search needs
 
-returns : tie.Need-returns Inv-loop μ-loop
-returns c = c .before .loop .inv
+returns-3 : tie.Need-returns-3 Inv-loop μ-loop
+returns-3 c = search needs
 
 pub far-back-spec : {M : Type 1} → statement M
 far-back-spec =
@@ -38,8 +63,16 @@ far-back-spec =
     Inv-loop
     μ-loop
     loop-holds
-    previous-requires
+    mul-index
+    element-copy-out-index
+    index-requires
+    returns
+    returns-2
+    sub-edge-from
+    mul-edge-from
+    shared-slice-read-edge-from
+    edge-from-requires
     add-k
     loop-less
     loop-again
-    returns)
+    returns-3)

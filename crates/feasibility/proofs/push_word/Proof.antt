@@ -1,5 +1,6 @@
 -- `feasibility::push_word` meets its contract.
 use borrow.Author.Needs.{needs}
+use native.Mathlib.Omega.{arith}
 use Rattle.edges.specs.Words.{unpack}
 use Rattle.feasibility.proofs.Pushing.{word-kept, word-stored}
 use Rattle.feasibility.proofs.push_word.Statement.{statement}
@@ -7,14 +8,9 @@ use Rattle.feasibility.proofs.push_word.Tie as tie
 use Rattle.feasibility.proofs.push_word.Reads as reads
 use Rattle.feasibility.proofs.push_word.Lts as lts
 use Rattle.bitmaps.proofs.insert.Reads as insert-reads
-use Rattle.edges.proofs.edge_from.Reads as edge-from-reads
 use Rattle.edges.proofs.edge_gain.Reads as edge-gain-reads
 use Rattle.edges.proofs.edge_loss.Reads as edge-loss-reads
 use Rattle.edges.proofs.edge_to.Reads as edge-to-reads
-use Rattle.relaxation.proofs.extended.Reads as extended-reads
-
-edge-from-requires : tie.Need-edge-from-requires
-edge-from-requires c κs = search needs
 
 edge-to-requires : tie.Need-edge-to-requires
 edge-to-requires c κs = search needs
@@ -22,17 +18,14 @@ edge-to-requires c κs = search needs
 edge-gain-requires : tie.Need-edge-gain-requires
 edge-gain-requires c κs = search needs
 
+add-c : tie.Need-add-c
+add-c c = search needs
+
 edge-loss-requires : tie.Need-edge-loss-requires
 edge-loss-requires c κs = search needs
 
-mul-extended : tie.Need-mul-extended
-mul-extended c = search needs
-
-element-copy-out-extended : tie.Need-element-copy-out-extended
-element-copy-out-extended c = search needs
-
-extended-requires : tie.Need-extended-requires
-extended-requires c κs = search needs
+sub-c : tie.Need-sub-c
+sub-c c = search needs
 
 mul-if1 : tie.Need-mul-if1
 mul-if1 c = search needs
@@ -56,22 +49,20 @@ insert-requires : tie.Need-insert-requires
 insert-requires c κs = search needs
 
 returns : tie.Need-returns
-returns c = let s = c .before .before .before .before .before .before .before .before .before in word-stored (unpack (s .args .w)) (s .args .row .now) (s .args .via .now) (s .args .marks) (s .pre .0) (s .pre .1) (c .before .before .before .before .before .before .before .before .edge-from .ensures .0) (c .before .before .before .before .before .before .before .edge-to .ensures .0) (c .before .before .before .before .before .before .edge-gain .ensures .0) (c .before .before .before .before .before .edge-loss .ensures .0) (c .before .before .before .extended .ensures) _ _ (c .before .before .before .before .before .before .before .edge-to .ensures .1) (c .before .if1 .taken) (c .insert .ensures)
+returns c = let s = c .before .before .before .before .before .before in word-stored (unpack (s .args .w)) (s .args .row .now) (s .args .via .now) (s .args .marks) (s .args .own) (s .pre .0) (s .pre .1) (c .before .before .before .before .before .edge-to .ensures .0) (c .before .before .before .before .edge-gain .ensures .0) (c .before .before .before .edge-loss .ensures .0) (omega (arith, c .before .before .before .edge-loss .ensures .1, s .pre .2)) _ _ (c .before .before .before .before .before .edge-to .ensures .1) (c .before .if1 .taken) (c .insert .ensures)
 
 returns-2 : tie.Need-returns-2
-returns-2 c = let s = c .before .before .before .before .before .before .before .before in word-kept (unpack (s .args .w)) (s .args .row .now) (s .args .via .now) (s .args .marks) (s .pre .0) (s .pre .1) (c .before .before .before .before .before .before .before .edge-from .ensures .0) (c .before .before .before .before .before .before .edge-to .ensures .0) (c .before .before .before .before .before .edge-gain .ensures .0) (c .before .before .before .before .edge-loss .ensures .0) (c .before .before .extended .ensures) (c .if1 .left)
+returns-2 c = let s = c .before .before .before .before .before in word-kept (unpack (s .args .w)) (s .args .row .now) (s .args .via .now) (s .args .marks) (s .args .own) (s .pre .0) (s .pre .1) (c .before .before .before .before .edge-to .ensures .0) (c .before .before .before .edge-gain .ensures .0) (c .before .before .edge-loss .ensures .0) (omega (arith, c .before .before .edge-loss .ensures .1, s .pre .2)) (c .if1 .left)
 
 pub push-word-spec : {M : Type 1} → statement M
 push-word-spec =
     tie.close
     (tie.spec
-    edge-from-requires
     edge-to-requires
     edge-gain-requires
+    add-c
     edge-loss-requires
-    mul-extended
-    element-copy-out-extended
-    extended-requires
+    sub-c
     mul-if1
     element-copy-out-if1
     mul-row

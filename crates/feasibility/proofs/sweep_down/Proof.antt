@@ -1,42 +1,47 @@
 -- `feasibility::sweep_down` meets its contract.
 use borrow.Author.Needs.{needs}
 use native.Mathlib.Omega.{arith}
-use mathlib.Core.Logic.{inl}
-use Prim.Native.Nat.{_≤_, _<_}
 use Rattle.definitions.specs.Links.{members}
 use Rattle.edges.specs.Words.{graph}
-use Rattle.adjacency.proofs.Following.{down-split}
-use Rattle.feasibility.specs.Search.{Passed}
-use Rattle.feasibility.proofs.Passing.{passed-none, passed-then}
+use Rattle.feasibility.proofs.Passing.{Falling, falling-end, falling-less, falling-room, falling-start, falling-turn}
 use Rattle.feasibility.proofs.sweep_down.Statement.{statement}
 use Rattle.feasibility.proofs.sweep_down.Tie as tie
 use Rattle.feasibility.proofs.sweep_down.Reads as reads
 use Rattle.feasibility.proofs.sweep_down.Lts as lts
+use Rattle.bitmaps.proofs.below.Reads as below-reads
+use Rattle.bitmaps.proofs.both.Reads as both-reads
+use Rattle.bitmaps.proofs.highest.Reads as highest-reads
 use Rattle.feasibility.proofs.visit.Reads as visit-reads
 
 abbrev Inv-loop : tie.InvT-loop
-Inv-loop row₀ via₀ marks es lists n m₀ k₀ row via m k = (k ≤ n) × Passed (members (graph es)) (λ v. (k ≤ v) × (v < n)) row₀ row via marks m
+Inv-loop row₀ via₀ marks es lists m₀ left₀ last₀ row via m left last = Falling (members (graph es)) row₀ row via marks m left last
 
 abbrev μ-loop : tie.MeasureT-loop
-μ-loop row₀ via₀ marks es lists n m₀ k₀ row via m k = k
+μ-loop row₀ via₀ marks es lists m₀ left₀ last₀ row via m left last = last
 
 loop-holds : tie.Need-loop-holds Inv-loop μ-loop
-loop-holds c = (omega arith, passed-none (c .before .before .pre .3) (c .before .before .pre .4) (λ v x. omega (arith, x .0, x .1)))
+loop-holds c = falling-start _ _ _ (search needs) (c .before .before .pre .2 .long) (c .before .before .pre .3)
 
-sub-k : tie.Need-sub-k Inv-loop μ-loop
-sub-k c = search needs
+highest-requires : tie.Need-highest-requires Inv-loop μ-loop
+highest-requires c κs = omega arith
 
 visit-requires : tie.Need-visit-requires Inv-loop μ-loop
-visit-requires c κs = let p = c .before .before .before .before .before .before .pre in let h = c .before .before .before .loop .inv in (omega (arith, h .0, p .0), p .1, p .2, h .1 .long, h .1 .noted)
+visit-requires c κs = let p = c .before .before .before .before .before .before .before .pre in let s = c .before .before .before .before .loop in let h = c .before .before .highest .ensures in (h .below, p .0, p .1, falling-room _ _ _ _ _ _ _ (s .inv) _ h (p .2), s .inv .passed .noted)
+
+below-requires : tie.Need-below-requires Inv-loop μ-loop
+below-requires c κs = let b = c .before .before .before .highest .ensures .below in omega arith
+
+both-requires : tie.Need-both-requires Inv-loop μ-loop
+both-requires c κs = search needs
 
 loop-less : tie.Need-loop-less Inv-loop μ-loop
-loop-less c = search needs
+loop-less c = falling-less _ _ _ _ _ _ _ (c .before .before .before .before .before .before .before .loop .inv) _ (c .before .before .before .before .before .highest .ensures)
 
 loop-again : tie.Need-loop-again Inv-loop μ-loop
-loop-again c = let s = c .before .before .before .before in (omega (arith, s .loop .inv .0), passed-then (down-split _ _) (s .loop .inv .1) (c .visit .ensures))
+loop-again c = falling-turn _ _ _ _ _ _ _ (c .before .before .before .before .before .before .before .loop .inv) _ (c .before .before .before .before .before .highest .ensures) _ _ _ _ _ (c .before .before .visit .ensures) (c .before .below .ensures) (c .both .ensures)
 
 returns : tie.Need-returns Inv-loop μ-loop
-returns c = let h = c .before .loop .inv .1 in passed-then (λ v x. inl (omega arith, x)) h (passed-none (h .long) (h .noted) (λ v x. x))
+returns c = falling-end _ _ _ _ _ _ _ (c .before .loop .inv) (omega arith)
 
 pub sweep-down-spec : {M : Type 1} → statement M
 sweep-down-spec =
@@ -45,8 +50,10 @@ sweep-down-spec =
     Inv-loop
     μ-loop
     loop-holds
-    sub-k
+    highest-requires
     visit-requires
+    below-requires
+    both-requires
     loop-less
     loop-again
     returns)

@@ -6,18 +6,15 @@ use lib.ListN.{getD}
 use denote.Ref.{now}
 use borrow.Author.Needs.{needs}
 use Rattle.fields.specs.Answers.{item-at}
-use Rattle.fields.proofs.Parts.{number-none, number-half, number-there}
+use Rattle.fields.proofs.Parts.{number-none, number-there}
 use Rattle.fields.proofs.read_number.Statement.{statement}
 use Rattle.fields.proofs.read_number.Tie as tie
-
-returns : tie.Need-returns
-returns c = record { same = sym (number-none _ _ (c .if1 .taken)); inside = omega arith }
 
 add-high : tie.Need-add-high
 add-high c = search needs
 
-returns-2 : tie.Need-returns-2
-returns-2 c = record { same = sym (number-half _ _ (omega arith) (c .if2 .taken)); inside = omega arith }
+returns : tie.Need-returns
+returns c = record { same = sym (number-none _ _ (c .if1 .taken)); inside = omega arith }
 
 shared-slice-read-wide : tie.Need-shared-slice-read-wide
 shared-slice-read-wide c = search needs
@@ -31,18 +28,18 @@ shared-slice-read-wide-2 c = search needs
 wide-requires-2 : tie.Need-wide-requires-2
 wide-requires-2 c κs = search needs
 
-mul-t14 : tie.Need-mul-t14
-mul-t14 c = search needs
+mul-t13 : tie.Need-mul-t13
+mul-t13 c = search needs
 
-add-t15 : tie.Need-add-t15
-add-t15 c = search needs
+add-t14 : tie.Need-add-t14
+add-t14 c = search needs
 
 add-t4 : tie.Need-add-t4
 add-t4 c = search needs
 
-returns-3 : tie.Need-returns-3
-returns-3 c =
-    let a = c .before .before .before .before .before .before .before .args in
+returns-2 : tie.Need-returns-2
+returns-2 c =
+    let a = c .before .before .before .before .before .before .args in
     let s = now (a .s) in
     let at = a .at in
     let low : c .before .before .wide .result ≡ getD s at 0 = c .before .before .wide .ensures .0 in
@@ -54,14 +51,13 @@ pub read-number-spec : {M : Type 1} → statement M
 read-number-spec =
     tie.close
     (tie.spec
-    returns
     add-high
-    returns-2
+    returns
     shared-slice-read-wide
     wide-requires
     shared-slice-read-wide-2
     wide-requires-2
-    mul-t14
-    add-t15
+    mul-t13
+    add-t14
     add-t4
-    returns-3)
+    returns-2)

@@ -1,55 +1,48 @@
 -- `heaviest::settle` meets its contract.
 use borrow.Author.Needs.{needs}
 use native.Mathlib.Omega.{arith}
-use mathlib.Core.Path.{sym, _∙_}
 use Prim.Native.Nat.{_-_, _≤_}
-use Rattle.sweeps.specs.Graphs.{Both}
-use Rattle.heaviest.specs.Settling.{SettlingAll}
-use Rattle.heaviest.proofs.Settled.{settling-start, settling-more, settling-rest, settling-end}
+use Rattle.heaviest.proofs.Settled.{SettlingBy, settling-end, settling-more, settling-rest, settling-start}
 use Rattle.heaviest.proofs.settle.Statement.{statement}
 use Rattle.heaviest.proofs.settle.Tie as tie
 use Rattle.heaviest.proofs.settle.Reads as reads
 use Rattle.heaviest.proofs.settle.Lts as lts
-use Rattle.heaviest.proofs.quiet.Reads as quiet-reads
+use Rattle.bitmaps.proofs.below.Reads as below-reads
+use Rattle.heaviest.proofs.places.Reads as places-reads
 use Rattle.sweeps.proofs.sweep.Reads as sweep-reads
 
 abbrev Inv-loop : tie.InvT-loop
-Inv-loop d₀ fresh₀ es lists waiting order n k₀ d fresh k = (k ≤ n) × SettlingAll (Both es waiting) n k d₀ d fresh₀ fresh
+Inv-loop d₀ es lists waiting order number width n place marks₀ k₀ d marks k = (k ≤ n) × SettlingBy es waiting number width n k d₀ d marks
 
 abbrev μ-loop : tie.MeasureT-loop
-μ-loop d₀ fresh₀ es lists waiting order n k₀ d fresh k = n - k
+μ-loop d₀ es lists waiting order number width n place marks₀ k₀ d marks k = n - k
 
--- src/lib.rt:71:5
+places-requires : tie.Need-places-requires Inv-loop μ-loop
+places-requires c κs = search needs
+
+below-requires : tie.Need-below-requires Inv-loop μ-loop
+below-requires c κs = search needs
+
 loop-holds : tie.Need-loop-holds Inv-loop μ-loop
-loop-holds c = (omega arith, settling-start (c .before .before .pre .3) (c .before .before .pre .4))
+loop-holds c = let s = c .before .before .before .before in let args = s .args in (omega arith, settling-start (args .es .now) (args .waiting .now) (args .number .now) (args .width) (args .n) (args .d .now) (c .below .result) (s .pre .4) (c .below .ensures))
 
--- src/lib.rt:72:12
-quiet-requires : tie.Need-quiet-requires Inv-loop μ-loop
-quiet-requires c κs = search needs
-
--- src/lib.rt:73:13
 returns : tie.Need-returns Inv-loop μ-loop
-returns c = let s = c .before .before .before .before in settling-rest (s .loop .inv .0) (sym (c .before .quiet .ensures) ∙ c .if1 .taken) (s .loop .inv .1)
+returns c = let s = c .before .before in let args = c .before .before .before .before .before .before .before .args in settling-rest (args .es .now) (args .waiting .now) (args .number .now) (args .width) (args .n) (args .d .now) (s .loop .inv .0) (c .if1 .taken) (s .loop .inv .1)
 
--- src/lib.rt:75:9
 sweep-requires : tie.Need-sweep-requires Inv-loop μ-loop
-sweep-requires c κs = let p = c .before .before .before .before .before .before .before .before .before .pre in let h = c .before .before .before .before .before .before .loop .inv .1 in (p .0, p .1, p .2, h .square, h .long)
+sweep-requires c κs = let p = c .before .before .before .before .before .before .before .before .before .pre in (p .0, p .1, p .2, p .3, c .before .before .before .before .loop .inv .1 .square)
 
--- src/lib.rt:76:9
 add-k : tie.Need-add-k Inv-loop μ-loop
 add-k c = search needs
 
--- src/lib.rt:71:5
 loop-less : tie.Need-loop-less Inv-loop μ-loop
 loop-less c = search needs
 
--- src/lib.rt:71:5
 loop-again : tie.Need-loop-again Inv-loop μ-loop
-loop-again c = let s = c .before .before .before .before .before .before .before in (omega arith, settling-more (s .loop .inv .1) (c .sweep .ensures))
+loop-again c = let s = c .before .before .before .before .before in let args = c .before .before .before .before .before .before .before .before .before .before .args in (omega arith, settling-more (args .es .now) (args .waiting .now) (args .number .now) (args .width) (args .n) (args .d .now) (s .loop .inv .1) (c .sweep .ensures))
 
--- src/lib.rt:58:1
 returns-2 : tie.Need-returns-2 Inv-loop μ-loop
-returns-2 c = settling-end (c .before .loop .inv .0) (omega arith) (c .before .loop .inv .1)
+returns-2 c = let s = c .before in let args = c .before .before .before .before .before .before .args in settling-end (args .es .now) (args .waiting .now) (args .number .now) (args .width) (args .n) (args .d .now) (s .loop .inv .0) (omega arith) (s .loop .inv .1)
 
 pub settle-spec : {M : Type 1} → statement M
 settle-spec =
@@ -57,8 +50,9 @@ settle-spec =
     (tie.spec
     Inv-loop
     μ-loop
+    places-requires
+    below-requires
     loop-holds
-    quiet-requires
     returns
     sweep-requires
     add-k

@@ -1,52 +1,58 @@
 -- `heaviest::walks` meets its contract.
 use borrow.Author.Needs.{needs}
-use Rattle.heaviest.proofs.Settled.{seeded-both, walks-found}
+use Rattle.heaviest.proofs.Settled.{walks-found}
 use Rattle.heaviest.proofs.walks.Statement.{statement}
 use Rattle.heaviest.proofs.walks.Tie as tie
 use Rattle.heaviest.proofs.walks.Reads as reads
 use Rattle.heaviest.proofs.walks.Lts as lts
-use Rattle.heaviest.proofs.first_marks.Reads as first-marks-reads
+use Rattle.heaviest.proofs.no_numbers.Reads as no-numbers-reads
 use Rattle.heaviest.proofs.settle.Reads as settle-reads
+use Rattle.heaviest.proofs.spread_rows.Reads as spread-rows-reads
 use Rattle.relations.proofs.transpose.Reads as transpose-reads
-use Rattle.seeding.proofs.seed_waits.Reads as seed-waits-reads
-use Rattle.seeding.proofs.seed_words.Reads as seed-words-reads
+use Rattle.seeding.proofs.seed.Reads as seed-reads
 
 transpose-requires : tie.Need-transpose-requires
 transpose-requires c κs = search needs
 
-first-marks-requires : tie.Need-first-marks-requires
-first-marks-requires c κs = search needs
+no-numbers-requires : tie.Need-no-numbers-requires
+no-numbers-requires c κs = search needs
 
-seed-words-requires : tie.Need-seed-words-requires
-seed-words-requires c κs = search needs
-
-seed-waits-requires : tie.Need-seed-waits-requires
-seed-waits-requires c κs = search needs
+seed-requires : tie.Need-seed-requires
+seed-requires c κs = search needs
 
 settle-requires : tie.Need-settle-requires
 settle-requires c κs = search needs
 
+spread-rows-requires : tie.Need-spread-rows-requires
+spread-rows-requires c κs = (c .before .before .before .before .before .before .before .before .before .before .before .before .before .before .pre .0, c .before .before .settle .ensures .square, c .before .before .before .before .before .before .seed .ensures .low)
+
 returns : tie.Need-returns
 returns c =
     let s = c .before .before .before .before .before .before .before .before .before .before .before .before .before .before .before in
-    let turned = c .before .before .before .before .before .before .before .before .before .before .before .before .transpose .ensures in (
-      c .settle .ensures .square,
-      λ within well posed gains a v inside below.
+    let args = s .args in (
+      c .spread-rows .ensures .square,
+      λ within well posed gains a inside support v b member.
           walks-found
-          (s .args .es .now) (s .args .maps .now) (c .before .before .before .before .before .before .before .before .before .before .before .before .transpose .result) (s .args .n)
+          (args .es .now)
+          (args .maps .now)
+          (c .before .before .before .before .before .before .before .before .before .before .before .transpose .last .1 .1 .0)
+          (args .sets .now)
+          (args .n)
           (s .pre .0)
           within
-          turned
+          (c .before .before .before .before .before .before .before .before .before .before .before .transpose .ensures)
           well
           posed
           gains
-          (s .pre .3)
-          (c .before .before .before .before .before .before .before .before .before .before .before .first-marks .ensures)
-          (seeded-both (s .args .es .now) (s .args .maps .now) (c .before .before .before .before .before .before .before .before .before .before .before .before .transpose .result) (s .args .n) within turned (c .before .before .before .before .before .before .before .before .seed-words .ensures) (c .before .before .before .before .seed-waits .ensures))
-          (c .settle .ensures)
+          (c .before .before .before .before .before .before .before .seed .ensures)
+          (c .before .before .before .settle .ensures)
           a
           inside
-          v,
+          support
+          v
+          b
+          member
+          (c .spread-rows .ensures),
     )
 
 pub walks-spec : {M : Type 1} → statement M
@@ -54,8 +60,8 @@ walks-spec =
     tie.close
     (tie.spec
     transpose-requires
-    first-marks-requires
-    seed-words-requires
-    seed-waits-requires
+    no-numbers-requires
+    seed-requires
     settle-requires
+    spread-rows-requires
     returns)

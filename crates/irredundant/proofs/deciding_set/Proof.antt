@@ -1,16 +1,14 @@
 -- The invariant: what is kept, less what the members left leave out, is the deciding set. The measure is the map of the members left. Assumes nothing.
-use mathlib.Core.Path.{_≡_, sym, _∙_}
-use Prim.Native.Nat.{ℕ}
-use Rattle.laws.proofs.Maps.{removed-lt}
-use Rattle.irredundant.specs.Working.{deciding}
-use Rattle.irredundant.proofs.Laws.{deciding-of, none-left-out, one-left-out, all-left-out}
+use mathlib.Core.Path.{sym, _∙_}
+use Rattle.irredundant.specs.Working.{Orderly}
+use Rattle.irredundant.proofs.Laws.{Sieving, all-left-out, sieving-less, sieving-start, sieving-turn}
 use borrow.Author.Needs.{needs}
 use native.Mathlib.Omega.{arith}
 use Rattle.irredundant.proofs.deciding_set.Statement.{statement}
 use Rattle.irredundant.proofs.deciding_set.Tie as tie
 
 abbrev Inv-loop : tie.InvT-loop
-Inv-loop d sets v kept₀ left₀ kept left = (a : ℕ) → deciding-of d sets v kept left a ≡ deciding d sets v a
+Inv-loop d sets v kept₀ left₀ kept left = Orderly d sets v → Sieving d sets v kept left
 
 abbrev μ-loop : tie.MeasureT-loop
 μ-loop d sets v kept₀ left₀ kept left = left
@@ -28,7 +26,7 @@ element-copy-out-left : tie.Need-element-copy-out-left Inv-loop μ-loop
 element-copy-out-left c = search needs
 
 loop-holds : tie.Need-loop-holds Inv-loop μ-loop
-loop-holds c a = none-left-out _ _ _ a
+loop-holds c T = sieving-start _ _ _
 
 highest-requires : tie.Need-highest-requires Inv-loop μ-loop
 highest-requires c κs = omega arith
@@ -39,16 +37,17 @@ without-covered-requires c κs = (omega arith, c .highest .ensures .below)
 remove-requires : tie.Need-remove-requires Inv-loop μ-loop
 remove-requires c κs = c .before .highest .ensures .below
 
+both-requires : tie.Need-both-requires Inv-loop μ-loop
+both-requires c κs = search needs
+
 loop-less : tie.Need-loop-less Inv-loop μ-loop
-loop-less c = removed-lt _ _ _ (c .before .before .highest .ensures .member) (c .remove .ensures)
+loop-less c = sieving-less _ _ _ _ _ (c .before .before .before .highest .ensures .member) (c .before .remove .ensures) (c .both .ensures)
 
 loop-again : tie.Need-loop-again Inv-loop μ-loop
-loop-again c a =
-    let top = c .before .before in
-    one-left-out _ _ _ _ _ _ _ _ (top .highest .ensures .below) (top .highest .ensures .member) (c .before .without-covered .ensures) (c .remove .ensures) a ∙ top .before .before .loop .inv a
+loop-again c T = let top = c .before .before .before in sieving-turn _ _ _ _ _ _ _ _ _ (top .highest .ensures .below) (top .highest .ensures .member) (c .before .remove .ensures) (c .both .ensures) (c .before .before .without-covered .ensures) T (top .before .before .loop .inv T)
 
 returns : tie.Need-returns Inv-loop μ-loop
-returns c a = sym (all-left-out _ _ _ _ (c .before .loop .left) _ (omega arith)) ∙ c .before .loop .inv a
+returns c T a = sym (all-left-out _ _ _ _ (c .before .loop .left) _ (omega arith)) ∙ c .before .loop .inv T .same a
 
 pub deciding-set-spec : {M : Type 1} → statement M
 deciding-set-spec =
@@ -64,6 +63,7 @@ deciding-set-spec =
     highest-requires
     without-covered-requires
     remove-requires
+    both-requires
     loop-less
     loop-again
     returns)

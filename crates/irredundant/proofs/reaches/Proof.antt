@@ -1,58 +1,69 @@
--- Two cells and an offset, compared. Assumes nothing.
-use Rattle.irredundant.proofs.Laws.{cells-compared}
+-- Three cells, compared. Assumes nothing.
 use borrow.Author.Needs.{needs}
+use Rattle.irredundant.proofs.Laws.{cells-compared}
 use Rattle.irredundant.proofs.reaches.Statement.{statement}
 use Rattle.irredundant.proofs.reaches.Tie as tie
+use Rattle.irredundant.proofs.reaches.Reads as reads
+use Rattle.irredundant.proofs.reaches.Lts as lts
+use Rattle.irredundant.proofs.sum_passes.Reads as sum-passes-reads
 
-mul-one-or-more : tie.Need-mul-one-or-more
-mul-one-or-more c = search needs
+mul-sum-passes : tie.Need-mul-sum-passes
+mul-sum-passes c = search needs
 
-mul-one-or-more-2 : tie.Need-mul-one-or-more-2
-mul-one-or-more-2 c = search needs
+mul-sum-passes-2 : tie.Need-mul-sum-passes-2
+mul-sum-passes-2 c = search needs
 
-index-1-one-or-more : tie.Need-index-1-one-or-more
-index-1-one-or-more c = search needs
+index-1-sum-passes : tie.Need-index-1-sum-passes
+index-1-sum-passes c = search needs
 
-index-2-one-or-more : tie.Need-index-2-one-or-more
-index-2-one-or-more c = search needs
+index-2-sum-passes : tie.Need-index-2-sum-passes
+index-2-sum-passes c = search needs
 
-one-or-more-requires : tie.Need-one-or-more-requires
-one-or-more-requires c κs = search needs
+mul-sum-passes-3 : tie.Need-mul-sum-passes-3
+mul-sum-passes-3 c = search needs
 
-offset-at-requires : tie.Need-offset-at-requires
-offset-at-requires c κs = search needs
+mul-sum-passes-4 : tie.Need-mul-sum-passes-4
+mul-sum-passes-4 c = search needs
 
-mul-sum-reaches : tie.Need-mul-sum-reaches
-mul-sum-reaches c = search needs
+index-1-sum-passes-2 : tie.Need-index-1-sum-passes-2
+index-1-sum-passes-2 c = search needs
 
-mul-sum-reaches-2 : tie.Need-mul-sum-reaches-2
-mul-sum-reaches-2 c = search needs
+index-2-sum-passes-2 : tie.Need-index-2-sum-passes-2
+index-2-sum-passes-2 c = search needs
 
-index-1-sum-reaches : tie.Need-index-1-sum-reaches
-index-1-sum-reaches c = search needs
+mul-sum-passes-5 : tie.Need-mul-sum-passes-5
+mul-sum-passes-5 c = search needs
 
-index-2-sum-reaches : tie.Need-index-2-sum-reaches
-index-2-sum-reaches c = search needs
+mul-sum-passes-6 : tie.Need-mul-sum-passes-6
+mul-sum-passes-6 c = search needs
 
-sum-reaches-requires : tie.Need-sum-reaches-requires
-sum-reaches-requires c κs = search needs
+index-1-sum-passes-3 : tie.Need-index-1-sum-passes-3
+index-1-sum-passes-3 c = search needs
+
+index-2-sum-passes-3 : tie.Need-index-2-sum-passes-3
+index-2-sum-passes-3 c = search needs
+
+sum-passes-requires : tie.Need-sum-passes-requires
+sum-passes-requires c κs = search needs
 
 returns : tie.Need-returns
-returns c = cells-compared _ _ _ _ _ _ _ (c .before .before .before .one-or-more .ensures) (c .before .before .offset-at .ensures) (c .sum-reaches .ensures)
+returns c p q s = cells-compared _ _ _ _ _ (c .sum-passes .ensures) p q s
 
 pub reaches-spec : {M : Type 1} → statement M
 reaches-spec =
     tie.close
     (tie.spec
-    mul-one-or-more
-    mul-one-or-more-2
-    index-1-one-or-more
-    index-2-one-or-more
-    one-or-more-requires
-    offset-at-requires
-    mul-sum-reaches
-    mul-sum-reaches-2
-    index-1-sum-reaches
-    index-2-sum-reaches
-    sum-reaches-requires
+    mul-sum-passes
+    mul-sum-passes-2
+    index-1-sum-passes
+    index-2-sum-passes
+    mul-sum-passes-3
+    mul-sum-passes-4
+    index-1-sum-passes-2
+    index-2-sum-passes-2
+    mul-sum-passes-5
+    mul-sum-passes-6
+    index-1-sum-passes-3
+    index-2-sum-passes-3
+    sum-passes-requires
     returns)

@@ -1,6 +1,6 @@
 -- The members of both maps other than b are those that are compared. Assumes nothing.
 use borrow.Author.Needs.{needs}
-use Rattle.irredundant.proofs.Laws.{covered}
+use Rattle.irredundant.proofs.Laws.{covered, given-of, left-of}
 use Rattle.irredundant.proofs.without_covered.Statement.{statement}
 use Rattle.irredundant.proofs.without_covered.Tie as tie
 
@@ -20,7 +20,10 @@ without-reached-requires : tie.Need-without-reached-requires
 without-reached-requires c κs = search needs
 
 returns : tie.Need-returns
-returns c a = covered _ _ _ a _ _ _ _ _ (c .before .before .remove .ensures a) (c .before .both .ensures a) (c .without-reached .ensures a)
+returns c p f g a =
+    let behind = c .before .before .remove .ensures in
+    let given = c .before .both .ensures in
+    covered _ _ _ a _ _ _ _ _ (behind a) (given a) (c .without-reached .ensures p (λ j h. f j (given-of _ _ _ j (given j) h .0)) (λ j h. g j (left-of _ _ _ j (behind j) (given-of _ _ _ j (given j) h .1))) a)
 
 pub without-covered-spec : {M : Type 1} → statement M
 without-covered-spec =

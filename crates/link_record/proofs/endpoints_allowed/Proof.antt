@@ -28,7 +28,7 @@ returns-3 : tie.Need-returns-3
 unfolding endpoints
 returns-3 c =
     let a = c .before .before .before .before in
-    rw (lt-ltb (a .args .i) (a .args .n) (omega arith), lt-ltb (a .args .j) (a .args .n) (omega arith), c .before .before .before .index .ensures, c .before .before .index2 .ensures)
+    rw (lt-ltb (a .args .i) (a .args .n) (omega arith), lt-ltb (a .args .j) (a .args .n) (omega arith), c .before .before .before .index .ensures .0, c .before .before .index2 .ensures .0)
 
 pub endpoints-allowed-spec : {M : Type 1} → statement M
 endpoints-allowed-spec =

@@ -1,62 +1,47 @@
 -- `links::finish_word` meets its contract.
+use mathlib.Core.Path.{refl, ap, _∙_}
+use Prim.Native.Nat.{ℕ, _%_, _/_}
 use native.Mathlib.Omega.{arith}
-use borrow.Author.Needs.{needs}
-use mathlib.Core.Path.{refl, ap₂, _∙_}
-use Prim.Native.Nat.{ℕ, _+_}
-use Rattle.definitions.specs.Links.{finish-edge}
+use lib.Dec.{eqb}
 use Rattle.edges.proofs.Digits.{same-edge}
+use Rattle.links.proofs.Words.{finish-same}
+use borrow.Author.Needs.{needs}
 use Rattle.links.proofs.finish_word.Statement.{statement}
 use Rattle.links.proofs.finish_word.Tie as tie
 
-enum-told : tie.Need-enum-told
-enum-told c = search needs
+digits-of-requires : tie.Need-digits-of-requires
+digits-of-requires c κs = search needs
+
+wide-requires : tie.Need-wide-requires
+wide-requires c κs = search needs
+
+wide-requires-2 : tie.Need-wide-requires-2
+wide-requires-2 c κs = search needs
 
 ticks-of-requires : tie.Need-ticks-of-requires
 ticks-of-requires c κs = search needs
 
-pack-requires : tie.Need-pack-requires
-pack-requires c κs = search needs
+add-word : tie.Need-add-word
+add-word c = search needs
 
-enum-known-delay : tie.Need-enum-known-delay
-enum-known-delay c = search needs
-
-ticks-of-requires-2 : tie.Need-ticks-of-requires-2
-ticks-of-requires-2 c κs = search needs
-
-ticks-of-requires-3 : tie.Need-ticks-of-requires-3
-ticks-of-requires-3 c κs = search needs
-
-add-pack : tie.Need-add-pack
-add-pack c = search needs
-
-pack-requires-2 : tie.Need-pack-requires-2
-pack-requires-2 c κs = search needs
+word-requires : tie.Need-word-requires
+word-requires c κs = search needs
 
 returns : tie.Need-returns
-unfolding finish-edge
-returns c h =
-    rw (c .before .before .enum-told .given .1)
-    (c .pack .ensures (h .1, h .0) (omega arith) (omega (arith, c .before .ticks-of .ensures .1))
-    ∙ same-edge refl refl refl (c .before .ticks-of .ensures .0) refl refl refl)
-
-returns-2 : tie.Need-returns-2
-unfolding finish-edge
-returns-2 c h =
-    rw (c .before .before .before .before .delay .given .1)
-    (c .pack2 .ensures (h .1, h .0) (omega arith) (omega (arith, c .before .before .ticks-of2 .ensures .1, c .before .ticks-of3 .ensures .1))
-    ∙ same-edge refl refl refl (ap₂ (λ (x y : ℕ). x + y) (c .before .before .ticks-of2 .ensures .0) (c .before .ticks-of3 .ensures .0)) refl refl refl)
+returns c d e =
+    let digits = c .before .before .before .before .digits-of .ensures .0 in
+    c .word .ensures
+    ∙ same-edge (c .before .before .before .wide .ensures) (c .before .before .wide2 .ensures) refl (omega (arith, digits, c .before .ticks-of .ensures .0)) refl refl (ap (λ (x : ℕ). eqb (x / 4096 % 2) 1) digits)
+    ∙ finish-same d _ _ _ _ e
 
 pub finish-word-spec : {M : Type 1} → statement M
 finish-word-spec =
     tie.close
     (tie.spec
-    enum-told
+    digits-of-requires
+    wide-requires
+    wide-requires-2
     ticks-of-requires
-    pack-requires
-    enum-known-delay
-    ticks-of-requires-2
-    ticks-of-requires-3
-    add-pack
-    pack-requires-2
-    returns
-    returns-2)
+    add-word
+    word-requires
+    returns)

@@ -1,12 +1,31 @@
--- `links::push_maximum` meets its contract.
-use borrow.Author.Needs.{needs}
+-- `links::push_maximum` meets its contract: the field is not there, or is a number, or is cut off.
+use mathlib.Core.Path.{_≡_, refl, sym, _∙_}
+use mathlib.Core.Bool.{true, false}
+use denote.Ref.{now}
+use borrow.Author.Tests.{not-true, not-false}
+use Rattle.definitions.specs.Basics.{test-bit}
+use Rattle.fields.specs.Answers.{NumberReads}
 use Rattle.links.specs.Pushes.{maximum-edges}
-use Rattle.links.proofs.Pushing.{push-none, push-one}
+use Rattle.links.proofs.Taking.{took-absent, took-present, field-refused}
+use borrow.Author.Needs.{needs}
 use Rattle.links.proofs.push_maximum.Statement.{statement}
 use Rattle.links.proofs.push_maximum.Tie as tie
 
-enum-known-bound : tie.Need-enum-known-bound
-enum-known-bound c = search needs
+has-requires : tie.Need-has-requires
+has-requires c κs = search needs
+
+returns : tie.Need-returns
+unfolding maximum-edges
+returns c =
+    let start = c .before .before .before .before in
+    let absent : test-bit (start .args .m) 2 ≡ false = sym (c .before .has .ensures) ∙ not-true _ (c .if1 .taken) in
+    took-absent _ _ _ _ _ _ _ absent refl (start .pre .0)
+
+read-number-requires : tie.Need-read-number-requires
+read-number-requires c κs = search needs
+
+enum-known-most : tie.Need-enum-known-most
+enum-known-most c = search needs
 
 maximum-word-requires : tie.Need-maximum-word-requires
 maximum-word-requires c κs = search needs
@@ -17,33 +36,45 @@ mul-words c = search needs
 slice-write-words : tie.Need-slice-write-words
 slice-write-words c = search needs
 
-add-result : tie.Need-add-result
-add-result c = search needs
+add-t16 : tie.Need-add-t16
+add-t16 c = search needs
 
-enum-told : tie.Need-enum-told
-enum-told c = search needs
+enum-known-k : tie.Need-enum-known-k
+enum-known-k c = search needs
 
 same-length : tie.Need-same-length
 same-length c = search needs
 
-returns : tie.Need-returns
-unfolding maximum-edges
-returns c = rw (c .before .before .bound .given .1) (push-one _ _ _ _ _ (c .before .before .before .before .before .pre) (c .maximum-word .ensures))
-
 returns-2 : tie.Need-returns-2
 unfolding maximum-edges
-returns-2 c = rw (c .enum-told .given .1) (push-none _ _ _)
+returns-2 c =
+    let start = c .before .before .before .before .before .before .before .before .before in
+    let there : test-bit (start .args .m) 2 ≡ true = sym (c .before .before .before .before .before .before .has .ensures) ∙ not-false _ (c .before .before .before .before .before .if1 .left) in
+    let found : NumberReads (now (start .args .s)) (start .args .at) (c .before .before .before .before .read-number .result) = c .before .before .before .before .read-number .ensures in
+    let item = rw (c .before .before .most .given .1) at found in
+    took-present _ _ _ _ _ _ _ _ _ _ _ there (sym (item .same)) (item .inside) refl (start .pre .1) (λ h. c .maximum-word .ensures)
+
+returns-3 : tie.Need-returns-3
+returns-3 c =
+    let start = c .before .before .before .before .before .before .before .before in
+    let there : test-bit (start .args .m) 2 ≡ true = sym (c .before .before .before .before .before .has .ensures) ∙ not-false _ (c .before .before .before .before .if1 .left) in
+    let found : NumberReads (now (start .args .s)) (start .args .at) (c .before .before .before .read-number .result) = c .before .before .before .read-number .ensures in
+    let item = rw (c .before .k .given .1) at found in
+    field-refused _ (now (start .args .s)) (start .args .at) there (sym (item .same))
 
 pub push-maximum-spec : {M : Type 1} → statement M
 push-maximum-spec =
     tie.close
     (tie.spec
-    enum-known-bound
+    has-requires
+    returns
+    read-number-requires
+    enum-known-most
     maximum-word-requires
     mul-words
     slice-write-words
-    add-result
-    enum-told
+    add-t16
+    enum-known-k
     same-length
-    returns
-    returns-2)
+    returns-2
+    returns-3)

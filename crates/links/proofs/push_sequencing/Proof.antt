@@ -1,9 +1,15 @@
 -- `links::push_sequencing` meets its contract.
-use borrow.Author.Needs.{needs}
+use mathlib.Core.Path.{_≡_, sym, _∙_}
+use mathlib.Core.Bool.{true, false}
+use Rattle.definitions.specs.Basics.{test-bit}
 use Rattle.links.specs.Pushes.{sequencing-edges}
 use Rattle.links.proofs.Pushing.{push-none, push-one}
+use borrow.Author.Needs.{needs}
 use Rattle.links.proofs.push_sequencing.Statement.{statement}
 use Rattle.links.proofs.push_sequencing.Tie as tie
+
+has-requires : tie.Need-has-requires
+has-requires c κs = search needs
 
 sequencing-word-requires : tie.Need-sequencing-word-requires
 sequencing-word-requires c κs = search needs
@@ -22,16 +28,21 @@ same-length c = search needs
 
 returns : tie.Need-returns
 unfolding sequencing-edges
-returns c = rw (c .before .if1 .taken) (push-one _ _ _ _ _ (c .before .before .before .pre) (c .sequencing-word .ensures))
+returns c d =
+    let there : test-bit (c .before .before .before .before .args .m) 0 ≡ true = sym (c .before .before .has .ensures) ∙ c .before .if1 .taken in
+    rw there (push-one _ _ _ _ _ (c .before .before .before .before .pre .0) (c .sequencing-word .ensures d))
 
 returns-2 : tie.Need-returns-2
 unfolding sequencing-edges
-returns-2 c = rw (c .if1 .left) (push-none _ _ _)
+returns-2 c d =
+    let absent : test-bit (c .before .before .before .args .m) 0 ≡ false = sym (c .before .has .ensures) ∙ c .if1 .left in
+    rw absent (push-none _ _ _)
 
 pub push-sequencing-spec : {M : Type 1} → statement M
 push-sequencing-spec =
     tie.close
     (tie.spec
+    has-requires
     sequencing-word-requires
     mul-words
     slice-write-words

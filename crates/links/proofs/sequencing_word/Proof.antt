@@ -1,46 +1,39 @@
 -- `links::sequencing_word` meets its contract.
 use native.Mathlib.Omega.{arith}
+use Rattle.links.proofs.Words.{sequencing-unpacked}
 use borrow.Author.Needs.{needs}
-use mathlib.Core.Path.{refl, _∙_}
-use Rattle.definitions.specs.Links.{sequencing-edge}
-use Rattle.edges.proofs.Digits.{same-edge}
 use Rattle.links.proofs.sequencing_word.Statement.{statement}
 use Rattle.links.proofs.sequencing_word.Tie as tie
 
-enum-told : tie.Need-enum-told
-enum-told c = search needs
+wide-requires : tie.Need-wide-requires
+wide-requires c κs = search needs
 
-pack-requires : tie.Need-pack-requires
-pack-requires c κs = search needs
+wide-requires-2 : tie.Need-wide-requires-2
+wide-requires-2 c κs = search needs
 
-enum-known-delay : tie.Need-enum-known-delay
-enum-known-delay c = search needs
+mul-result : tie.Need-mul-result
+mul-result c = search needs
 
-ticks-of-requires : tie.Need-ticks-of-requires
-ticks-of-requires c κs = search needs
+add-result : tie.Need-add-result
+add-result c = search needs
 
-pack-requires-2 : tie.Need-pack-requires-2
-pack-requires-2 c κs = search needs
+digits-of-requires : tie.Need-digits-of-requires
+digits-of-requires c κs = search needs
+
+add-result-2 : tie.Need-add-result-2
+add-result-2 c = search needs
 
 returns : tie.Need-returns
-unfolding sequencing-edge
-returns c h = rw (c .before .enum-told .given .1) (c .pack .ensures h (omega arith) (omega arith))
-
-returns-2 : tie.Need-returns-2
-unfolding sequencing-edge
-returns-2 c h =
-    rw (c .before .before .before .delay .given .1)
-    (c .pack2 .ensures h (omega (arith, c .before .ticks-of .ensures .1)) (omega arith)
-    ∙ same-edge refl refl (c .before .ticks-of .ensures .0) refl refl refl refl)
+returns c d e = sequencing-unpacked d _ _ _ _ (c .before .before .before .pre .0) (c .before .before .before .pre .1) (omega (arith, c .digits-of .ensures .0, c .digits-of .ensures .1)) e (omega (arith, c .digits-of .ensures .0, c .before .wide2 .ensures, c .before .before .wide .ensures))
 
 pub sequencing-word-spec : {M : Type 1} → statement M
 sequencing-word-spec =
     tie.close
     (tie.spec
-    enum-told
-    pack-requires
-    enum-known-delay
-    ticks-of-requires
-    pack-requires-2
-    returns
-    returns-2)
+    wide-requires
+    wide-requires-2
+    mul-result
+    add-result
+    digits-of-requires
+    add-result-2
+    returns)

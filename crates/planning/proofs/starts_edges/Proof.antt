@@ -1,88 +1,45 @@
--- `planning::starts_edges` meets its contract, path by path: a refusal of judging, 13, 14 for the list and for the numbers to be written, the starts.
+-- `planning::starts_edges` meets its contract: there is room for the lists of few edges, and for those of any.
 use borrow.Author.Needs.{needs}
 use native.Mathlib.Omega.{arith}
 use Prim.Native.Nat.{ℕ}
 use lib.ListN.{length-replicate}
 use Rattle.adjacency.proofs.Linking.{zeros-empty}
-use mathlib.Core.Path.{sym, _∙_}
-use borrow.Author.Tests.{not-true, not-false}
-use Rattle.planning.proofs.Writing.{list-short, out-short, plannable, starts-passed, starts-short, starts-written, starts-wrong}
 use Rattle.planning.proofs.starts_edges.Statement.{statement}
 use Rattle.planning.proofs.starts_edges.Tie as tie
-use Rattle.planning.proofs.starts_edges.Reads as reads
-use Rattle.planning.proofs.starts_edges.Lts as lts
-use Rattle.adjacency.proofs.list.Reads as list-reads
-use Rattle.analysis.proofs.analyse.Reads as analyse-reads
-use Rattle.delays.proofs.delays_bad.Reads as delays-bad-reads
-use Rattle.planning.proofs.accepted.Reads as accepted-reads
-use Rattle.planning.proofs.write_starts.Reads as write-starts-reads
 
-slice-aggregate-list : tie.Need-slice-aggregate-list
-slice-aggregate-list c = search needs
+slice-aggregate-starts-listed : tie.Need-slice-aggregate-starts-listed
+slice-aggregate-starts-listed c = search needs
 
-list-requires : tie.Need-list-requires
-list-requires c κs = let few = c .before .before .before .before .pre .2 in (few, omega (arith, few, length-replicate {A = ℕ} 2112 0), zeros-empty 2112 (omega arith))
-
-slice-aggregate-analyse : tie.Need-slice-aggregate-analyse
-slice-aggregate-analyse c = search needs
-
-analyse-requires : tie.Need-analyse-requires
-analyse-requires c κs = search needs
-
-accepted-requires : tie.Need-accepted-requires
-accepted-requires c κs = search needs
-
-returns : tie.Need-returns
-returns c shape gains os long map = starts-passed (c .before .before .analyse .ensures shape gains) os _ _ (sym (c .before .accepted .ensures) ∙ not-true _ (c .if1 .taken))
-
-delays-bad-requires : tie.Need-delays-bad-requires
-delays-bad-requires c κs = search needs
-
-returns-2 : tie.Need-returns-2
-returns-2 c shape gains os long map = starts-wrong (c .before .before .before .before .analyse .ensures shape gains) os _ _ (sym (c .before .before .before .accepted .ensures) ∙ not-false _ (c .before .before .if1 .left)) (sym (c .before .delays-bad .ensures .wrong os long map) ∙ c .if2 .taken)
-
-returns-3 : tie.Need-returns-3
-returns-3 c shape gains os long map =
-    let analysed = c .before .before .before .before .before .analyse .ensures shape gains in
-    starts-short analysed os _ _ (sym (c .before .before .before .before .accepted .ensures) ∙ not-false _ (c .before .before .before .if1 .left)) (sym (c .before .before .delays-bad .ensures .wrong os long map) ∙ c .before .if2 .left) (list-short analysed os _ _ (c .if3 .taken))
-
-returns-4 : tie.Need-returns-4
-returns-4 c shape gains os long map =
-    let analysed = c .before .before .before .before .before .before .analyse .ensures shape gains in
-    starts-short analysed os _ _ (sym (c .before .before .before .before .before .accepted .ensures) ∙ not-false _ (c .before .before .before .before .if1 .left)) (sym (c .before .before .before .delays-bad .ensures .wrong os long map) ∙ c .before .before .if2 .left) (out-short analysed os _ _ (c .if4 .taken))
-
-slice-aggregate-write-starts : tie.Need-slice-aggregate-write-starts
-slice-aggregate-write-starts c = search needs
-
-write-starts-requires : tie.Need-write-starts-requires
-write-starts-requires c κs = search needs
+starts-listed-requires : tie.Need-starts-listed-requires
+starts-listed-requires c κs = let p = c .before .before .before .before .before .before .pre in (p .0, p .1, p .2, omega (arith, length-replicate {A = ℕ} 320 0), zeros-empty 320 (omega arith))
 
 same-length : tie.Need-same-length
 same-length c = search needs
 
-returns-5 : tie.Need-returns-5
-returns-5 c shape gains os long map =
-    let analysed = c .before .before .before .before .before .before .before .before .before .before .before .before .before .before .before .before .before .analyse .ensures shape gains in
-    let accepted = sym (c .before .before .before .before .before .before .before .before .before .before .before .before .before .before .before .before .accepted .ensures) ∙ not-false _ (c .before .before .before .before .before .before .before .before .before .before .before .before .before .before .before .if1 .left) in
-    let right = sym (c .before .before .before .before .before .before .before .before .before .before .before .before .before .before .delays-bad .ensures .wrong os long map) ∙ c .before .before .before .before .before .before .before .before .before .before .before .before .before .if2 .left in
-    starts-written analysed os _ _ accepted right (c .before .before .before .before .before .before .before .before .before .before .before .before .if3 .left) (c .before .before .before .before .before .before .before .before .before .before .before .if4 .left)
-    (c .before .before .write-starts .ensures (plannable analysed (c .before .before .before .before .before .before .before .before .before .before .before .before .before .before .before .before .before .before .before .before .before .before .before .before .before .pre .0) shape gains accepted) os long right)
+returns : tie.Need-returns
+returns c = search needs
+
+slice-aggregate-starts-listed-2 : tie.Need-slice-aggregate-starts-listed-2
+slice-aggregate-starts-listed-2 c = search needs
+
+starts-listed-requires-2 : tie.Need-starts-listed-requires-2
+starts-listed-requires-2 c κs = let p = c .before .before .before .before .before .before .pre in (p .0, p .1, p .2, omega (arith, p .2, length-replicate {A = ℕ} 2112 0), zeros-empty 2112 (omega arith))
+
+same-length-2 : tie.Need-same-length-2
+same-length-2 c = search needs
+
+returns-2 : tie.Need-returns-2
+returns-2 c = search needs
 
 pub starts-edges-spec : {M : Type 1} → statement M
 starts-edges-spec =
     tie.close
     (tie.spec
-    slice-aggregate-list
-    list-requires
-    slice-aggregate-analyse
-    analyse-requires
-    accepted-requires
-    returns
-    delays-bad-requires
-    returns-2
-    returns-3
-    returns-4
-    slice-aggregate-write-starts
-    write-starts-requires
+    slice-aggregate-starts-listed
+    starts-listed-requires
     same-length
-    returns-5)
+    returns
+    slice-aggregate-starts-listed-2
+    starts-listed-requires-2
+    same-length-2
+    returns-2)

@@ -7,19 +7,19 @@ use Rattle.planning.proofs.write_starts.Statement.{statement}
 use Rattle.planning.proofs.write_starts.Tie as tie
 use Rattle.planning.proofs.write_starts.Reads as reads
 use Rattle.planning.proofs.write_starts.Lts as lts
-use Rattle.heaviest.proofs.first_table.Reads as first-table-reads
+use Rattle.heaviest.proofs.empty_table.Reads as empty-table-reads
 use Rattle.heaviest.proofs.walks.Reads as walks-reads
-use Rattle.planning.proofs.with_source.Reads as with-source-reads
+use Rattle.planning.proofs.add_source.Reads as add-source-reads
 use Rattle.starts.proofs.fill_starts.Reads as fill-starts-reads
 
-first-table-requires : tie.Need-first-table-requires
-first-table-requires c κs = search needs
+empty-table-requires : tie.Need-empty-table-requires
+empty-table-requires c κs = search needs
+
+add-source-requires : tie.Need-add-source-requires
+add-source-requires c κs = search needs
 
 walks-requires : tie.Need-walks-requires
 walks-requires c κs = search needs
-
-with-source-requires : tie.Need-with-source-requires
-with-source-requires c κs = search needs
 
 fill-starts-requires : tie.Need-fill-starts-requires
 fill-starts-requires c κs = search needs
@@ -29,18 +29,18 @@ same-length c = search needs
 
 returns : tie.Need-returns
 returns c p os long right =
-    let few : c .before .before .before .before .before .before .before .before .before .before .before .before .before .before .args .n ≤ 64 = search needs in
+    let few : c .before .before .before .before .before .before .before .before .before .before .before .before .before .before .before .before .args .n ≤ 64 = search needs in
     c .before .before .fill-starts .ensures .times _
-    (plannable-holds (c .before .before .before .before .before .before .before .walks .last .0) few p (c .before .before .before .before .before .before .before .walks .ensures .1) (c .before .before .before .before .before .before .with-source .ensures))
+    (plannable-holds (c .before .before .before .before .before .before .before .before .before .add-source .last .0) (c .before .before .before .before .before .before .walks .last .0) few p (c .before .before .before .before .before .before .walks .ensures .1) (c .before .before .before .before .before .before .before .before .before .add-source .ensures (p .long)))
     (plan-starts-fit (p .well) (p .serial) (p .gains) few os _ long (search needs) right)
 
 pub write-starts-spec : {M : Type 1} → statement M
 write-starts-spec =
     tie.close
     (tie.spec
-    first-table-requires
+    empty-table-requires
+    add-source-requires
     walks-requires
-    with-source-requires
     fill-starts-requires
     same-length
     returns)

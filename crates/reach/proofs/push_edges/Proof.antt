@@ -3,12 +3,12 @@ use borrow.Author.Needs.{needs}
 use native.Mathlib.Omega.{arith}
 use mathlib.Core.Path.{_∙_}
 use Prim.Native.Nat.{_≤_}
-use Rattle.reach.proofs.Pushing.{Listing, listing-begun, listing-end, listing-less, listing-next, listing-start, listing-turn}
+use Rattle.reach.proofs.Pushing.{Listing, May-use, listing-begun, listing-end, listing-less, listing-next, listing-start, listing-turn}
 use Rattle.reach.proofs.push_edges.Statement.{statement}
 use Rattle.reach.proofs.push_edges.Tie as tie
 
 abbrev Inv-loop : tie.InvT-loop
-Inv-loop rows₀ marks es lists u m all left₀ k₀ rows left k = Listing es u m rows₀ rows marks left k
+Inv-loop rows₀ marks es lists u m all left₀ k₀ rows left k = Listing May-use es u m rows₀ rows marks left k
 
 abbrev μ-loop : tie.MeasureT-loop
 μ-loop rows₀ marks es lists u m all left₀ k₀ rows left k = k
@@ -28,7 +28,7 @@ index-requires c κs = search needs
 loop-holds : tie.Need-loop-holds Inv-loop μ-loop
 loop-holds c =
     let p = c .before .before .before .before .before .pre in
-    listing-start _ _ _ _ _ _ (p .3) (c .index .ensures ∙ p .2 .heads _ (p .0))
+    listing-start _ _ _ _ _ _ _ (p .3) (c .index .ensures ∙ p .2 .heads _ (p .0))
 
 sub-push-word : tie.Need-sub-push-word Inv-loop μ-loop
 sub-push-word c = search needs
@@ -42,7 +42,7 @@ shared-slice-read-push-word c = omega (arith, c .before .before .before .loop .i
 push-word-requires : tie.Need-push-word-requires Inv-loop μ-loop
 push-word-requires c κs =
     let s = c .before .before .before in
-    (s .loop .inv .handed .long, listing-begun _ _ _ _ _ _ _ _ (omega arith) (s .loop .inv) _ (c .before .before .before .before .before .before .insert-if .ensures))
+    (s .loop .inv .handed .long, listing-begun _ _ _ _ _ _ _ _ _ (omega arith) (s .loop .inv) _ (c .before .before .before .before .before .before .insert-if .ensures))
 
 add-index : tie.Need-add-index Inv-loop μ-loop
 add-index c = omega (arith, c .before .before .before .before .loop .inv .few, c .before .before .before .before .before .before .before .before .before .before .pre .1)
@@ -60,16 +60,16 @@ loop-less : tie.Need-loop-less Inv-loop μ-loop
 loop-less c =
     let s = c .before .before .before .before .before .before in
     let some : 1 ≤ s .loop .k = omega arith in
-    listing-less _ _ _ _ _ _ _ _ some (s .loop .inv) _ _ _ (c .before .before .push-word .ensures) (listing-next _ _ _ _ _ _ _ _ some (s .loop .inv) _ _ (c .before .before .before .before .before .before .before .before .before .before .before .before .pre .2) (c .index2 .ensures))
+    listing-less _ _ _ _ _ _ _ _ _ some (s .loop .inv) _ _ _ (c .before .before .push-word .ensures) (listing-next _ _ _ _ _ _ _ _ _ some (s .loop .inv) _ _ (c .before .before .before .before .before .before .before .before .before .before .before .before .pre .2) (c .index2 .ensures))
 
 loop-again : tie.Need-loop-again Inv-loop μ-loop
 loop-again c =
     let s = c .before .before .before .before .before .before in
     let some : 1 ≤ s .loop .k = omega arith in
-    listing-turn _ _ _ _ _ _ _ _ some (s .loop .inv) _ _ _ (c .before .before .push-word .ensures) (listing-next _ _ _ _ _ _ _ _ some (s .loop .inv) _ _ (c .before .before .before .before .before .before .before .before .before .before .before .before .pre .2) (c .index2 .ensures))
+    listing-turn _ _ _ _ _ _ _ _ _ some (s .loop .inv) _ _ _ (c .before .before .push-word .ensures) (listing-next _ _ _ _ _ _ _ _ _ some (s .loop .inv) _ _ (c .before .before .before .before .before .before .before .before .before .before .before .before .pre .2) (c .index2 .ensures))
 
 returns : tie.Need-returns Inv-loop μ-loop
-returns c = listing-end _ _ _ _ _ _ _ _ (omega arith) (c .before .loop .inv)
+returns c = listing-end _ _ _ _ _ _ _ _ _ (omega arith) (c .before .loop .inv)
 
 pub push-edges-spec : {M : Type 1} → statement M
 push-edges-spec =

@@ -24,7 +24,7 @@ join-requires c κs = search needs
 returns : tie.Need-returns
 returns c =
     let s = c .before .before .before .before .before .before .before in
-    word-handed (unpack (s .args .w)) _ _ _ _ (s .pre .1) (c .before .before .before .before .before .begun .ensures) (c .before .before .usable-by .ensures) _ _ _ _ _ (c .before .before .before .before .before .before .edge-to .ensures .0) (c .join .ensures)
+    word-handed (unpack (s .args .w)) _ _ _ (s .pre .1) (c .before .before .before .before .before .begun .ensures) (c .before .before .usable-by .ensures) _ _ _ _ _ (c .before .before .before .before .before .before .edge-to .ensures .0) (c .join .ensures)
 
 join-requires-2 : tie.Need-join-requires-2
 join-requires-2 c κs = search needs
@@ -32,7 +32,7 @@ join-requires-2 c κs = search needs
 returns-2 : tie.Need-returns-2
 returns-2 c =
     let s = c .before .before .before .before .before .before in
-    word-handed (unpack (s .args .w)) _ _ _ _ (s .pre .1) (c .before .before .before .before .begun .ensures) (λ a. timely-may _ _ a (sym (c .before .before .before .is-late .ensures) ∙ c .before .before .if1 .left)) _ _ _ _ _ (c .before .before .before .before .before .edge-to .ensures .0) (c .join2 .ensures)
+    word-handed (unpack (s .args .w)) _ _ _ (s .pre .1) (c .before .before .before .before .begun .ensures) (λ a. timely-may _ _ a (sym (c .before .before .before .is-late .ensures) ∙ c .before .before .if1 .left)) _ _ _ _ _ (c .before .before .before .before .before .edge-to .ensures .0) (c .join2 .ensures)
 
 pub push-word-spec : {M : Type 1} → statement M
 push-word-spec =

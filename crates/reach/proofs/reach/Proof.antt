@@ -1,30 +1,40 @@
 -- `reach::reach` meets its contract.
 use borrow.Author.Needs.{needs}
-use native.Mathlib.Omega.{arith}
+use mathlib.Core.Path.{_≡_}
 use Prim.Native.Nat.{_-_}
+use lib.ListN.{length}
+use Rattle.anchors.specs.Sets.{AnchorSets}
+use Rattle.edges.specs.Words.{graph}
 use Rattle.reach.proofs.Searching.{Searched, searched-end, searched-more, searched-rest, searched-start}
 use Rattle.reach.proofs.reach.Statement.{statement}
 use Rattle.reach.proofs.reach.Tie as tie
 
 abbrev Inv-loop : tie.InvT-loop
-Inv-loop es lists order n rows₀ marks₀ done₀ rows marks done = Searched es n done rows marks
+Inv-loop es lists order sets n rows₀ marks₀ done₀ rows marks done = (length rows ≡ 64) × (AnchorSets n (graph es) sets → Searched es n done rows marks)
 
 abbrev μ-loop : tie.MeasureT-loop
-μ-loop es lists order n rows₀ marks₀ done₀ rows marks done = n - done
+μ-loop es lists order sets n rows₀ marks₀ done₀ rows marks done = n - done
 
-all-marks-requires : tie.Need-all-marks-requires Inv-loop μ-loop
-all-marks-requires c κs = search needs
+strip-requires : tie.Need-strip-requires Inv-loop μ-loop
+strip-requires c κs = search needs
+
+push-returns-requires : tie.Need-push-returns-requires Inv-loop μ-loop
+push-returns-requires c κs = c .before .strip .ensures .long
 
 loop-holds : tie.Need-loop-holds Inv-loop μ-loop
-loop-holds c = searched-start _ _ _ (c .all-marks .ensures)
+loop-holds c =
+    let h = c .push-returns .ensures in
+    (h .long, λ sets. searched-start _ _ _ _ _ _ sets (c .before .before .strip .ensures) h)
+
+returns : tie.Need-returns Inv-loop μ-loop
+returns c =
+    let h = c .before .before .loop .inv in
+    λ sets. searched-rest _ _ _ _ _ (h .0) (c .if1 .taken) (h .1 sets)
 
 sweep-requires : tie.Need-sweep-requires Inv-loop μ-loop
 sweep-requires c κs =
-    let p = c .before .before .before .before .before .before .pre in
-    (p .0, p .1, p .2, c .before .before .loop .inv .long)
-
-returns : tie.Need-returns Inv-loop μ-loop
-returns c = searched-rest _ _ _ _ _ _ _ (c .before .before .before .before .loop .inv) (c .before .sweep .ensures) (omega arith)
+    let p = c .before .before .before .before .before .before .before .before .before .before .pre in
+    (p .0, p .1, p .2, c .before .before .before .loop .inv .0)
 
 add-done : tie.Need-add-done Inv-loop μ-loop
 add-done c = search needs
@@ -33,10 +43,12 @@ loop-less : tie.Need-loop-less Inv-loop μ-loop
 loop-less c = search needs
 
 loop-again : tie.Need-loop-again Inv-loop μ-loop
-loop-again c = searched-more _ _ _ _ _ _ _ (c .before .before .before .before .loop .inv) (c .before .sweep .ensures)
+loop-again c = (c .sweep .ensures .long, λ sets. searched-more _ _ _ _ _ _ _ (c .sweep .ensures) (c .before .before .before .before .loop .inv .1 sets))
 
 returns-2 : tie.Need-returns-2 Inv-loop μ-loop
-returns-2 c = searched-end _ _ _ _ _ (c .loop-test .left) (c .before .loop .inv)
+returns-2 c =
+    let h = c .before .loop .inv in
+    λ sets. searched-end _ _ _ _ _ (h .0) (c .loop-test .left) (h .1 sets)
 
 pub reach-spec : {M : Type 1} → statement M
 reach-spec =
@@ -44,10 +56,11 @@ reach-spec =
     (tie.spec
     Inv-loop
     μ-loop
-    all-marks-requires
+    strip-requires
+    push-returns-requires
     loop-holds
-    sweep-requires
     returns
+    sweep-requires
     add-done
     loop-less
     loop-again

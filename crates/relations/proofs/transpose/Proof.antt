@@ -14,10 +14,7 @@ abbrev μ-loop : tie.MeasureT-loop
 μ-loop rows n out₀ i₀ out i = n - i
 
 loop-holds : tie.Need-loop-holds Inv-loop μ-loop
-loop-holds c = (omega arith, turned-none _)
-
-slice-aggregate-spread : tie.Need-slice-aggregate-spread Inv-loop μ-loop
-slice-aggregate-spread c = search needs
+loop-holds c = (omega arith, rw (c .pre .1) (turned-none _))
 
 mul-spread : tie.Need-mul-spread Inv-loop μ-loop
 mul-spread c = search needs
@@ -35,7 +32,7 @@ loop-less : tie.Need-loop-less Inv-loop μ-loop
 loop-less c = search needs
 
 loop-again : tie.Need-loop-again Inv-loop μ-loop
-loop-again c = (omega arith, turned-more _ _ _ _ (c .before .before .before .before .before .loop .inv .1) (c .before .spread .ensures))
+loop-again c = (omega arith, turned-more _ _ _ _ (c .before .before .before .before .loop .inv .1) (c .spread .ensures))
 
 returns : tie.Need-returns Inv-loop μ-loop
 returns c =
@@ -49,7 +46,6 @@ transpose-spec =
     Inv-loop
     μ-loop
     loop-holds
-    slice-aggregate-spread
     mul-spread
     element-copy-out-spread
     spread-requires

@@ -1,21 +1,11 @@
 -- `relaxation::push_word` meets its contract.
+use mathlib.Core.Path.{sym, _∙_}
+use native.Mathlib.Omega.{arith}
 use borrow.Author.Needs.{needs}
-use mathlib.Core.Path.{sym}
 use Rattle.edges.specs.Words.{unpack}
-use Rattle.relaxation.proofs.Handing.{handed-word}
+use Rattle.relaxation.proofs.Handing.{handed-idle, handed-row, late-columns, timely-columns}
 use Rattle.relaxation.proofs.push_word.Statement.{statement}
 use Rattle.relaxation.proofs.push_word.Tie as tie
-use Rattle.relaxation.proofs.push_word.Reads as reads
-use Rattle.relaxation.proofs.push_word.Lts as lts
-use Rattle.bitmaps.proofs.union.Reads as union-reads
-use Rattle.edges.proofs.edge_from.Reads as edge-from-reads
-use Rattle.edges.proofs.edge_gain.Reads as edge-gain-reads
-use Rattle.edges.proofs.edge_loss.Reads as edge-loss-reads
-use Rattle.edges.proofs.edge_to.Reads as edge-to-reads
-use Rattle.relaxation.proofs.relax.Reads as relax-reads
-
-edge-from-requires : tie.Need-edge-from-requires
-edge-from-requires c κs = search needs
 
 edge-to-requires : tie.Need-edge-to-requires
 edge-to-requires c κs = search needs
@@ -26,53 +16,42 @@ edge-gain-requires c κs = search needs
 edge-loss-requires : tie.Need-edge-loss-requires
 edge-loss-requires c κs = search needs
 
-usable-by-requires : tie.Need-usable-by-requires
-usable-by-requires c κs = search needs
-
-relax-requires : tie.Need-relax-requires
-relax-requires c κs = search needs
-
-mul-union : tie.Need-mul-union
-mul-union c = search needs
-
-element-copy-out-union : tie.Need-element-copy-out-union
-element-copy-out-union c = search needs
-
-union-requires : tie.Need-union-requires
-union-requires c κs = search needs
-
-mul-fresh : tie.Need-mul-fresh
-mul-fresh c = search needs
-
-element-write-fresh : tie.Need-element-write-fresh
-element-write-fresh c = search needs
+add-if1 : tie.Need-add-if1
+add-if1 c = search needs
 
 returns : tie.Need-returns
-returns c =
-    let s = c .before .before .before .before .before .before .before .before .before in
-    let to = c .before .before .before .before .before .before .before .edge-to in
-    handed-word
-    (unpack (s .args .w)) _ _ _ _ _ _ _ _
-    (to .ensures .0)
-    (s .pre .1)
-    (to .ensures .1)
-    (c .before .before .before .before .usable-by .ensures)
-    (c .before .before .relax .ensures (unpack (s .args .w)) (sym (c .before .before .before .before .before .before .before .before .edge-from .ensures .0)) (sym (to .ensures .0)) (sym (c .before .before .before .before .before .before .edge-gain .ensures .0)) (sym (c .before .before .before .before .before .edge-loss .ensures .0)))
-    (c .union .ensures)
+returns c = let s = c .before .before .before .before in handed-idle (unpack (s .args .w)) _ (s .args .row .now) (s .args .width) (s .pre .2 .clear) _ (s .args .top) _ (s .pre .2 .tops) (s .pre .1) (omega (arith, c .before .edge-loss .ensures .0, c .before .before .edge-gain .ensures .0))
+
+difference-requires : tie.Need-difference-requires
+difference-requires c κs = search needs
+
+is-late-requires : tie.Need-is-late-requires
+is-late-requires c κs = search needs
+
+raise-late-requires : tie.Need-raise-late-requires
+raise-late-requires c κs = search needs
+
+returns-2 : tie.Need-returns-2
+returns-2 c = let s = c .before .before .before .before .before .before .before .before .before in let to = c .before .before .before .before .before .before .before .before .edge-to .ensures in let gain = c .before .before .before .before .before .before .before .edge-gain .ensures in let loss = c .before .before .before .before .before .before .edge-loss .ensures in let e = unpack (s .args .w) in handed-row e _ (s .args .row .now) (s .args .width) (s .pre .2 .clear) _ _ _ _ _ _ _ (omega (arith, gain .0)) (omega (arith, loss .0)) (to .0) (rw (← gain .0, ← loss .0) (c .before .before .before .before .difference .ensures)) (c .raise-late .ensures) (late-columns e _ _ _ (sym (c .before .before .before .is-late .ensures) ∙ c .before .before .if2 .taken) (to .0) (to .1))
+
+raise-row-requires : tie.Need-raise-row-requires
+raise-row-requires c κs = search needs
+
+returns-3 : tie.Need-returns-3
+returns-3 c = let s = c .before .before .before .before .before .before .before .before .before in let to = c .before .before .before .before .before .before .before .before .edge-to .ensures in let gain = c .before .before .before .before .before .before .before .edge-gain .ensures in let loss = c .before .before .before .before .before .before .edge-loss .ensures in let e = unpack (s .args .w) in handed-row e _ (s .args .row .now) (s .args .width) (s .pre .2 .clear) _ _ _ _ _ _ _ (omega (arith, gain .0)) (omega (arith, loss .0)) (to .0) (rw (← gain .0, ← loss .0) (c .before .before .before .before .difference .ensures)) (c .raise-row .ensures) (timely-columns e _ _ (sym (c .before .before .before .is-late .ensures) ∙ c .before .before .if2 .left))
 
 pub push-word-spec : {M : Type 1} → statement M
 push-word-spec =
     tie.close
     (tie.spec
-    edge-from-requires
     edge-to-requires
     edge-gain-requires
     edge-loss-requires
-    usable-by-requires
-    relax-requires
-    mul-union
-    element-copy-out-union
-    union-requires
-    mul-fresh
-    element-write-fresh
-    returns)
+    add-if1
+    returns
+    difference-requires
+    is-late-requires
+    raise-late-requires
+    returns-2
+    raise-row-requires
+    returns-3)

@@ -1,14 +1,15 @@
--- The row is cleared, and the offsets of the deciding set are put in. Assumes nothing.
-use Rattle.schedule.proofs.Laws.{row-filled}
+-- The offsets of the deciding set are put into a cleared row. Assumes nothing.
 use borrow.Author.Needs.{needs}
+use Rattle.schedule.proofs.Laws.{row-filled}
 use Rattle.schedule.proofs.fill_row.Statement.{statement}
 use Rattle.schedule.proofs.fill_row.Tie as tie
+use Rattle.schedule.proofs.fill_row.Reads as reads
+use Rattle.schedule.proofs.fill_row.Lts as lts
+use Rattle.irredundant.proofs.deciding_set.Reads as deciding-set-reads
+use Rattle.schedule.proofs.put_offsets.Reads as put-offsets-reads
 
 deciding-set-requires : tie.Need-deciding-set-requires
 deciding-set-requires c κs = search needs
-
-clear-row-requires : tie.Need-clear-row-requires
-clear-row-requires c κs = search needs
 
 put-offsets-requires : tie.Need-put-offsets-requires
 put-offsets-requires c κs = search needs
@@ -17,10 +18,7 @@ same-length : tie.Need-same-length
 same-length c = search needs
 
 returns : tie.Need-returns
-returns c =
-    let put = c .before .before in
-    let clear = put .before .before .before .before in
-    row-filled _ _ _ _ _ _ _ _ (clear .before .before .deciding-set .ensures) (clear .clear-row .ensures) (put .put-offsets .ensures)
+returns c T clear = row-filled _ _ _ _ _ _ _ (c .before .before .before .before .deciding-set .ensures T) (c .before .before .before .before .before .before .pre .1) clear (c .before .before .put-offsets .ensures)
 
 pub fill-row-spec : {M : Type 1} → statement M
-fill-row-spec = tie.close (tie.spec deciding-set-requires clear-row-requires put-offsets-requires same-length returns)
+fill-row-spec = tie.close (tie.spec deciding-set-requires put-offsets-requires same-length returns)

@@ -6,60 +6,65 @@ use mathlib.Core.Bool.{true}
 use Prim.Native.Nat.{ℕ}
 use Rattle.definitions.specs.Basics.{test-bit}
 use Rattle.laws.proofs.Maps.{removed-lt}
-use Rattle.sweeps.proofs.Handing.{Told, left-within}
-use Rattle.seeding.specs.Seeds.{SeededAll}
-use Rattle.seeding.proofs.Seeding.{told-none, told-more, told-all}
+use Rattle.seeding.specs.Seeds.{Seeded}
+use Rattle.seeding.proofs.Numbering.{still-left}
+use Rattle.seeding.proofs.Seeding.{Sown, sown-end, sown-more, sown-start, stored-cell}
 use Rattle.seeding.proofs.seed_row.Statement.{statement}
 use Rattle.seeding.proofs.seed_row.Tie as tie
 use Rattle.seeding.proofs.seed_row.Reads as reads
 use Rattle.seeding.proofs.seed_row.Lts as lts
 use Rattle.bitmaps.proofs.lowest.Reads as lowest-reads
 use Rattle.bitmaps.proofs.without_lowest.Reads as without-lowest-reads
-use Rattle.edges.proofs.wait_word.Reads as wait-word-reads
-use Rattle.seeding.proofs.seed_word.Reads as seed-word-reads
+use Rattle.seeding.proofs.column_of.Reads as column-of-reads
 
 abbrev Inv-loop : tie.InvT-loop
-Inv-loop d₀ fresh₀ waiting u left₀ d fresh left = ((j : ℕ) → test-bit left j ≡ true → test-bit waiting j ≡ true) × SeededAll (λ a. Told u waiting left) d₀ d fresh₀ fresh
+Inv-loop d₀ number map v left₀ d left = ((j : ℕ) → test-bit left j ≡ true → test-bit map j ≡ true) × Seeded number (Sown v map left) d₀ d
 
 abbrev μ-loop : tie.MeasureT-loop
-μ-loop d₀ fresh₀ waiting u left₀ d fresh left = left
+μ-loop d₀ number map v left₀ d left = left
 
--- src/lib.rt:61:5
 loop-holds : tie.Need-loop-holds Inv-loop μ-loop
-loop-holds c = (λ j h. h, told-none _ _ _ _ (c .pre .1) (c .pre .2))
+loop-holds c = (λ j h. h, sown-start _ _ _ _ (c .pre .1))
 
--- src/lib.rt:62:13
 lowest-requires : tie.Need-lowest-requires Inv-loop μ-loop
 lowest-requires c κs = omega arith
 
--- src/lib.rt:63:13
-wait-word-requires : tie.Need-wait-word-requires Inv-loop μ-loop
-wait-word-requires c κs = search needs
+element-copy-out-column-of : tie.Need-element-copy-out-column-of Inv-loop μ-loop
+element-copy-out-column-of c = search needs
 
--- src/lib.rt:64:9
-seed-word-requires : tie.Need-seed-word-requires Inv-loop μ-loop
-seed-word-requires c κs = let h = c .before .before .before .before .before .loop .inv .1 in (h .square, h .long)
+column-of-requires : tie.Need-column-of-requires Inv-loop μ-loop
+column-of-requires c κs = search needs
 
--- src/lib.rt:65:9
+mul-d : tie.Need-mul-d Inv-loop μ-loop
+mul-d c = search needs
+
+mul-d-2 : tie.Need-mul-d-2 Inv-loop μ-loop
+mul-d-2 c = search needs
+
+index-1-d : tie.Need-index-1-d Inv-loop μ-loop
+index-1-d c = search needs
+
+index-2-d : tie.Need-index-2-d Inv-loop μ-loop
+index-2-d c = search needs
+
 without-lowest-requires : tie.Need-without-lowest-requires Inv-loop μ-loop
 without-lowest-requires c κs = omega arith
 
--- src/lib.rt:61:5
 loop-less : tie.Need-loop-less Inv-loop μ-loop
-loop-less c = removed-lt _ _ _ (c .before .before .before .before .before .lowest .ensures .member) (c .without-lowest .ensures _ (c .before .before .before .before .before .lowest .ensures))
+loop-less c = let low = c .before .before .before .lowest .ensures in removed-lt _ _ _ (low .member) (c .without-lowest .ensures _ low)
 
--- src/lib.rt:61:5
 loop-again : tie.Need-loop-again Inv-loop μ-loop
 loop-again c =
-    let s = c .before .before .before .before .before .before .before in
-    let low = c .before .before .before .before .before .lowest .ensures in (
-      left-within _ _ _ _ (s .loop .inv .0) (c .without-lowest .ensures _ low),
-      told-more _ _ _ _ _ _ (c .before .before .before .before .wait-word .ensures) (s .loop .inv .0) (low .member) (c .without-lowest .ensures _ low) (s .loop .inv .1) (c .before .seed-word .ensures),
+    let s = c .before .before .before .before .before in
+    let low = c .before .before .before .lowest .ensures in
+    let leaves = c .without-lowest .ensures _ low in
+    let args = s .before .args in (
+      λ j h. s .loop .inv .0 j (still-left (s .loop .left) (c .without-lowest .result) (c .before .before .before .lowest .result) leaves j h .0),
+      sown-more (args .number .now) (args .v) (args .map) (s .loop .left) (c .without-lowest .result) (c .before .before .before .lowest .result) (c .before .column-of .result) (low .below) (s .loop .inv .0 _ (low .member)) (low .member) leaves (c .before .column-of .ensures .0) (s .loop .inv .1) (stored-cell (args .v) (c .before .column-of .result) 1073741824 (s .loop .d) (s .loop .inv .1 .square) (s .before .pre .0) (c .before .column-of .ensures .1)),
     )
 
--- src/lib.rt:56:1
 returns : tie.Need-returns Inv-loop μ-loop
-returns c = told-all _ _ _ (omega arith) (c .before .loop .inv .1)
+returns c = sown-end _ _ _ _ (omega arith) (c .before .loop .inv .1)
 
 pub seed-row-spec : {M : Type 1} → statement M
 seed-row-spec =
@@ -69,8 +74,12 @@ seed-row-spec =
     μ-loop
     loop-holds
     lowest-requires
-    wait-word-requires
-    seed-word-requires
+    element-copy-out-column-of
+    column-of-requires
+    mul-d
+    mul-d-2
+    index-1-d
+    index-2-d
     without-lowest-requires
     loop-less
     loop-again

@@ -3,6 +3,7 @@ use borrow.Author.Needs.{needs}
 use native.Mathlib.Omega.{arith}
 use mathlib.Core.Path.{ap, sym, _∙_}
 use mathlib.Core.List.{List}
+use lib.ListN.{replicate}
 use borrow.Author.Tests.{not-true, not-false}
 use Rattle.definitions.specs.Basics.{all}
 use Rattle.definitions.specs.Links.{Edge}
@@ -13,13 +14,13 @@ use Rattle.serializing.proofs.leaves_times.Statement.{statement}
 use Rattle.serializing.proofs.leaves_times.Tie as tie
 use Rattle.serializing.proofs.leaves_times.Reads as reads
 use Rattle.serializing.proofs.leaves_times.Lts as lts
-use Rattle.heaviest.proofs.first_table.Reads as first-table-reads
+use Rattle.heaviest.proofs.empty_table.Reads as empty-table-reads
 use Rattle.heaviest.proofs.walks.Reads as walks-reads
 use Rattle.serializing.proofs.uncut.Reads as uncut-reads
 use Rattle.settled.proofs.settled.Reads as settled-reads
 
-first-table-requires : tie.Need-first-table-requires
-first-table-requires c κs = search needs
+empty-table-requires : tie.Need-empty-table-requires
+empty-table-requires c κs = search needs
 
 walks-requires : tie.Need-walks-requires
 walks-requires c κs = search needs
@@ -33,9 +34,9 @@ index-2-if1 c = search needs
 returns : tie.Need-returns
 returns c =
     let s = c .before .before in
-    let few = s .before .before .before .before .before .pre .1 in
+    let few = s .before .before .before .before .before .before .pre .1 in
     λ well gains waits no-circle.
-    untried-infeasible few well gains no-circle (s .walks .last .0) (walks-offsets few (well .shape) waits (s .walks .last .0) (s .walks .ensures .1)) (λ T. omega (arith, T .source, c .if1 .taken))
+    untried-infeasible few well gains no-circle (s .walks .last .0) (walks-offsets few (well .shape) waits (replicate 64 1) (s .walks .last .0) (s .walks .ensures .1)) (λ T. omega (arith, T .source, c .if1 .taken))
 
 uncut-requires : tie.Need-uncut-requires
 uncut-requires c κs = search needs
@@ -43,9 +44,9 @@ uncut-requires c κs = search needs
 returns-2 : tie.Need-returns-2
 returns-2 c =
     let s = c .before .before .before .before .before in
-    let few = s .before .before .before .before .before .pre .1 in
+    let few = s .before .before .before .before .before .before .pre .1 in
     λ well gains waits no-circle.
-    untried-infeasible few well gains no-circle (s .walks .last .0) (walks-offsets few (well .shape) waits (s .walks .last .0) (s .walks .ensures .1)) (λ T. both-ways (T .uncut) (sym (c .before .uncut .ensures) ∙ not-true _ (c .if2 .taken)))
+    untried-infeasible few well gains no-circle (s .walks .last .0) (walks-offsets few (well .shape) waits (replicate 64 1) (s .walks .last .0) (s .walks .ensures .1)) (λ T. both-ways (T .uncut) (sym (c .before .uncut .ensures) ∙ not-true _ (c .if2 .taken)))
 
 settled-requires : tie.Need-settled-requires
 settled-requires c κs = search needs
@@ -53,17 +54,17 @@ settled-requires c κs = search needs
 returns-3 : tie.Need-returns-3
 returns-3 c =
     let s = c .before .before .before .before .before .before .before in
-    let few = s .before .before .before .before .before .pre .1 in
+    let few = s .before .before .before .before .before .before .pre .1 in
     λ well gains waits no-circle.
     c .settled .ensures (maps-within few (well .shape) waits)
     ∙ ap (λ (l : List Edge). all (handed-on (s .walks .last .0)) l) (edges-waited few (well .shape) waits)
-    ∙ settled-feasible few well gains no-circle (s .walks .last .0) (walks-offsets few (well .shape) waits (s .walks .last .0) (s .walks .ensures .1)) (omega (arith, c .before .before .before .before .before .if1 .left)) (sym (c .before .before .before .uncut .ensures) ∙ not-false _ (c .before .before .if2 .left))
+    ∙ settled-feasible few well gains no-circle (s .walks .last .0) (walks-offsets few (well .shape) waits (replicate 64 1) (s .walks .last .0) (s .walks .ensures .1)) (omega (arith, c .before .before .before .before .before .if1 .left)) (sym (c .before .before .before .uncut .ensures) ∙ not-false _ (c .before .before .if2 .left))
 
 pub leaves-times-spec : {M : Type 1} → statement M
 leaves-times-spec =
     tie.close
     (tie.spec
-    first-table-requires
+    empty-table-requires
     walks-requires
     index-1-if1
     index-2-if1

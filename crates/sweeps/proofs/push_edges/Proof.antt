@@ -1,21 +1,18 @@
 -- `sweeps::push_edges` meets its contract.
-use borrow.Author.Needs.{needs}
-use native.Mathlib.Omega.{arith}
 use mathlib.Core.Path.{_∙_}
 use Prim.Native.Nat.{_≤_}
+use native.Mathlib.Omega.{arith}
+use borrow.Author.Needs.{needs}
+use Rattle.relaxation.specs.Lifts.{lent}
 use Rattle.sweeps.proofs.Handing.{Listing, listing-start, listing-turn, listing-next, listing-less, listing-end}
 use Rattle.sweeps.proofs.push_edges.Statement.{statement}
 use Rattle.sweeps.proofs.push_edges.Tie as tie
-use Rattle.sweeps.proofs.push_edges.Reads as reads
-use Rattle.sweeps.proofs.push_edges.Lts as lts
-use Rattle.relaxation.proofs.push_word.Reads as push-word-reads
-use Rattle.sweeps.proofs.index.Reads as index-reads
 
 abbrev Inv-loop : tie.InvT-loop
-Inv-loop d₀ fresh₀ es lists u m k₀ d fresh k = Listing es u m d₀ d fresh₀ fresh k
+Inv-loop d₀ row marks es lists u top number width left₀ k₀ d left k = Listing es number u (lent row width) d₀ d marks left k
 
 abbrev μ-loop : tie.MeasureT-loop
-μ-loop d₀ fresh₀ es lists u m k₀ d fresh k = k
+μ-loop d₀ row marks es lists u top number width left₀ k₀ d left k = k
 
 mul-index : tie.Need-mul-index Inv-loop μ-loop
 mul-index c = search needs
@@ -27,7 +24,7 @@ index-requires : tie.Need-index-requires Inv-loop μ-loop
 index-requires c κs = search needs
 
 loop-holds : tie.Need-loop-holds Inv-loop μ-loop
-loop-holds c = let s = c .before .before .before in listing-start _ _ _ _ _ _ (s .before .pre .3) (s .before .pre .4) (c .index .ensures ∙ s .before .pre .2 .heads _ (s .before .pre .0))
+loop-holds c = let s = c .before .before .before .before in listing-start _ _ _ _ _ _ _ (s .pre .4) (c .index .ensures ∙ s .pre .3 .heads _ (s .pre .0))
 
 sub-push-word : tie.Need-sub-push-word Inv-loop μ-loop
 sub-push-word c = search needs
@@ -36,10 +33,10 @@ mul-push-word : tie.Need-mul-push-word Inv-loop μ-loop
 mul-push-word c = search needs
 
 shared-slice-read-push-word : tie.Need-shared-slice-read-push-word Inv-loop μ-loop
-shared-slice-read-push-word c = omega (arith, c .before .before .before .before .loop .inv .few)
+shared-slice-read-push-word c = omega (arith, c .before .before .before .loop .inv .few)
 
 push-word-requires : tie.Need-push-word-requires Inv-loop μ-loop
-push-word-requires c κs = let h = c .before .before .before .before .loop .inv .handed in (h .square, h .long)
+push-word-requires c κs = let s = c .before .before .before .before .before .before .before .before in (s .pre .1, c .before .before .before .loop .inv .handed .square, s .pre .5)
 
 add-index : tie.Need-add-index Inv-loop μ-loop
 add-index c = search needs
@@ -54,19 +51,13 @@ index-requires-2 : tie.Need-index-requires-2 Inv-loop μ-loop
 index-requires-2 c κs = search needs
 
 loop-less : tie.Need-loop-less Inv-loop μ-loop
-loop-less c =
-    let s = c .before .before .before .before .before .before .before in
-    let some : 1 ≤ s .loop .k = omega arith in
-    listing-less _ _ _ _ _ _ _ _ _ _ _ some (s .loop .inv) (c .before .before .push-word .ensures) (listing-next _ _ _ _ _ _ _ _ _ _ (c .before .before .before .before .before .before .before .before .before .before .before .before .pre .2) some (s .loop .inv) (c .index2 .ensures))
+loop-less c = let s = c .before .before .before .before .before .before in let some : 1 ≤ s .loop .k = omega arith in listing-less _ _ _ _ _ _ _ _ _ _ _ _ some (s .loop .inv) (c .before .before .push-word .ensures) (listing-next _ _ _ _ _ _ _ _ _ _ _ (c .before .before .before .before .before .before .before .before .before .before .before .pre .3) some (s .loop .inv) (c .index2 .ensures))
 
 loop-again : tie.Need-loop-again Inv-loop μ-loop
-loop-again c =
-    let s = c .before .before .before .before .before .before .before in
-    let some : 1 ≤ s .loop .k = omega arith in
-    listing-turn _ _ _ _ _ _ _ _ _ _ _ some (s .loop .inv) (c .before .before .push-word .ensures) (listing-next _ _ _ _ _ _ _ _ _ _ (c .before .before .before .before .before .before .before .before .before .before .before .before .pre .2) some (s .loop .inv) (c .index2 .ensures))
+loop-again c = let s = c .before .before .before .before .before .before in let some : 1 ≤ s .loop .k = omega arith in listing-turn _ _ _ _ _ _ _ _ _ _ _ _ some (s .loop .inv) (c .before .before .push-word .ensures) (listing-next _ _ _ _ _ _ _ _ _ _ _ (c .before .before .before .before .before .before .before .before .before .before .before .pre .3) some (s .loop .inv) (c .index2 .ensures))
 
 returns : tie.Need-returns Inv-loop μ-loop
-returns c = listing-end _ _ _ _ _ _ _ _ (omega arith) (c .before .loop .inv)
+returns c = listing-end _ _ _ _ _ _ _ _ _ (omega arith) (c .before .loop .inv)
 
 pub push-edges-spec : {M : Type 1} → statement M
 push-edges-spec =

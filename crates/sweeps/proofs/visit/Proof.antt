@@ -1,63 +1,59 @@
 -- `sweeps::visit` meets its contract.
+use mathlib.Core.Path.{sym, ap, _∙_}
+use borrow.Author.Tests.{not-true}
 use borrow.Author.Needs.{needs}
-use native.Mathlib.Omega.{arith}
-use Rattle.sweeps.proofs.Sweeping.{visited, visited-idle}
+use Rattle.definitions.specs.Basics.{test-bit}
+use Rattle.sweeps.proofs.Sweeping.{swept-none, visited}
 use Rattle.sweeps.proofs.visit.Statement.{statement}
 use Rattle.sweeps.proofs.visit.Tie as tie
-use Rattle.sweeps.proofs.visit.Reads as reads
-use Rattle.sweeps.proofs.visit.Lts as lts
-use Rattle.sweeps.proofs.push_edges.Reads as push-edges-reads
-use Rattle.sweeps.proofs.push_waits.Reads as push-waits-reads
 
--- src/lib.rt:51:13
-mul-m : tie.Need-mul-m
-mul-m c = search needs
+has-requires : tie.Need-has-requires
+has-requires c κs = search needs
 
--- src/lib.rt:51:13
-element-copy-out-m : tie.Need-element-copy-out-m
-element-copy-out-m c = search needs
-
--- src/lib.rt:53:9
 returns : tie.Need-returns
-returns c = let s = c .before .before .before in visited-idle _ _ _ (s .before .pre .3) (s .before .pre .4) (omega arith)
+returns c = let s = c .before .before .before .before in (swept-none (s .pre .4) (λ v o. ap (test-bit (s .args .marks)) o ∙ sym (c .before .has .ensures) ∙ not-true _ (c .if1 .taken)), s .pre .5)
 
--- src/lib.rt:55:5
-mul-fresh : tie.Need-mul-fresh
-mul-fresh c = search needs
+remove-requires : tie.Need-remove-requires
+remove-requires c κs = search needs
 
--- src/lib.rt:55:5
-element-write-fresh : tie.Need-element-write-fresh
-element-write-fresh c = search needs
+mul-extent : tie.Need-mul-extent
+mul-extent c = search needs
 
--- src/lib.rt:56:5
+index-1-extent : tie.Need-index-1-extent
+index-1-extent c = search needs
+
+extent-requires : tie.Need-extent-requires
+extent-requires c κs = search needs
+
+take-requires : tie.Need-take-requires
+take-requires c κs = search needs
+
 push-edges-requires : tie.Need-push-edges-requires
-push-edges-requires c κs = search needs
+push-edges-requires c κs = let p = c .before .before .before .before .before .before .before .before .before .before .before .before .pre in let t = c .before .before .take .ensures in (p .0, c .before .before .before .before .before .extent .ensures .fits, p .2, p .3, p .4, record { clear = t .clear; tops = t .bounds })
 
--- src/lib.rt:57:26
 mul-push-waits : tie.Need-mul-push-waits
 mul-push-waits c = search needs
 
--- src/lib.rt:57:26
 element-copy-out-push-waits : tie.Need-element-copy-out-push-waits
 element-copy-out-push-waits c = search needs
 
--- src/lib.rt:57:5
 push-waits-requires : tie.Need-push-waits-requires
-push-waits-requires c κs = search needs
+push-waits-requires c κs = (c .before .before .before .before .before .before .before .before .before .extent .ensures .fits, c .before .before .before .push-edges .ensures .square, c .before .before .before .before .before .before .take .ensures .clear)
 
--- src/lib.rt:47:1
 returns-2 : tie.Need-returns-2
-returns-2 c = let s = c .before .before .before .before .before .before .before .before .before .before in visited (s .before .args .es .now) (s .before .args .waiting .now) _ _ _ _ _ _ _ (c .before .before .before .before .push-edges .ensures) (c .push-waits .ensures)
+returns-2 c = let s = c .before .before .before .before .before .before .before .before .before .before .before .before .before .before .before .before .before in (visited _ (s .args .waiting .now) _ _ _ _ _ _ _ _ _ _ _ _ _ (c .before .before .before .before .before .before .before .before .before .before .extent .ensures) (c .before .before .before .before .before .before .before .take .ensures) (c .before .before .before .before .before .before .before .before .before .before .before .before .remove .ensures) (c .before .before .before .before .push-edges .ensures) (c .push-waits .ensures _ _), c .before .before .before .before .before .before .before .take .ensures .long)
 
 pub visit-spec : {M : Type 1} → statement M
 visit-spec =
     tie.close
     (tie.spec
-    mul-m
-    element-copy-out-m
+    has-requires
     returns
-    mul-fresh
-    element-write-fresh
+    remove-requires
+    mul-extent
+    index-1-extent
+    extent-requires
+    take-requires
     push-edges-requires
     mul-push-waits
     element-copy-out-push-waits

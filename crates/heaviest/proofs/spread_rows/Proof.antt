@@ -1,0 +1,62 @@
+-- `heaviest::spread_rows` meets its contract.
+use borrow.Author.Needs.{needs}
+use native.Mathlib.Omega.{arith}
+use mathlib.Core.Path.{_≡_, subst}
+use Prim.Native.Nat.{ℕ, _-_, _≤_, _<_}
+use Rattle.relations.specs.Rows.{row-bit}
+use Rattle.heaviest.specs.Settling.{Spread}
+use Rattle.heaviest.proofs.Spreading.{spread-more, spread-start}
+use Rattle.heaviest.proofs.spread_rows.Statement.{statement}
+use Rattle.heaviest.proofs.spread_rows.Tie as tie
+use Rattle.heaviest.proofs.spread_rows.Reads as reads
+use Rattle.heaviest.proofs.spread_rows.Lts as lts
+use Rattle.heaviest.proofs.spread_row.Reads as spread-row-reads
+
+abbrev Inv-loop : tie.InvT-loop
+Inv-loop d₀ number sets n v₀ d v = (v ≤ n) × Spread number (λ w. w < v) (row-bit sets) d₀ d
+
+abbrev μ-loop : tie.MeasureT-loop
+μ-loop d₀ number sets n v₀ d v = n - v
+
+loop-holds : tie.Need-loop-holds Inv-loop μ-loop
+loop-holds c = (omega arith, spread-start (c .args .number .now) (c .args .sets .now) (c .args .d .now) (c .pre .1))
+
+mul-spread-row : tie.Need-mul-spread-row Inv-loop μ-loop
+mul-spread-row c = search needs
+
+element-copy-out-spread-row : tie.Need-element-copy-out-spread-row Inv-loop μ-loop
+element-copy-out-spread-row c = search needs
+
+spread-row-requires : tie.Need-spread-row-requires Inv-loop μ-loop
+spread-row-requires c κs = (omega arith, c .before .before .before .loop .inv .1 .square, λ a b h. c .before .before .before .before .pre .2 (c .before .before .before .loop .v) a (omega arith) b h)
+
+add-v : tie.Need-add-v Inv-loop μ-loop
+add-v c = search needs
+
+loop-less : tie.Need-loop-less Inv-loop μ-loop
+loop-less c = search needs
+
+loop-again : tie.Need-loop-again Inv-loop μ-loop
+loop-again c = let s = c .before .before .before .before in (omega arith, spread-more (s .before .args .number .now) (s .before .args .sets .now) (s .loop .v) (s .loop .inv .1) (c .spread-row .ensures))
+
+returns : tie.Need-returns Inv-loop μ-loop
+returns c =
+    let s = c .before in
+    let args = s .before .args in
+    let e : s .loop .v ≡ args .n = omega arith in
+    subst (λ (x : ℕ). Spread (args .number .now) (λ w. w < x) (row-bit (args .sets .now)) (args .d .now) (s .loop .d)) e (s .loop .inv .1)
+
+pub spread-rows-spec : {M : Type 1} → statement M
+spread-rows-spec =
+    tie.close
+    (tie.spec
+    Inv-loop
+    μ-loop
+    loop-holds
+    mul-spread-row
+    element-copy-out-spread-row
+    spread-row-requires
+    add-v
+    loop-less
+    loop-again
+    returns)

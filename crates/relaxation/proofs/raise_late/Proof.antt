@@ -1,0 +1,68 @@
+-- `relaxation::raise_late` meets its contract.
+use mathlib.Core.Path.{refl}
+use native.Mathlib.Omega.{arith}
+use borrow.Author.Needs.{needs}
+use Rattle.relaxation.proofs.Lifting.{raised-back, raised-beyond}
+use Rattle.relaxation.proofs.raise_late.Statement.{statement}
+use Rattle.relaxation.proofs.raise_late.Tie as tie
+
+element-copy-out-column-of : tie.Need-element-copy-out-column-of
+element-copy-out-column-of c = search needs
+
+column-of-requires : tie.Need-column-of-requires
+column-of-requires c κs = search needs
+
+raise-row-requires : tie.Need-raise-row-requires
+raise-row-requires c κs = search needs
+
+returns : tie.Need-returns
+returns c = raised-beyond _ _ _ _ _ _ _ _ _ (c .raise-row .ensures) _ (c .before .before .before .column-of .ensures) (omega arith)
+
+mul-old : tie.Need-mul-old
+mul-old c = search needs
+
+mul-old-2 : tie.Need-mul-old-2
+mul-old-2 c = search needs
+
+index-1-old : tie.Need-index-1-old
+index-1-old c = search needs
+
+index-2-old : tie.Need-index-2-old
+index-2-old c = search needs
+
+raise-row-requires-2 : tie.Need-raise-row-requires-2
+raise-row-requires-2 c κs = search needs
+
+mul-d : tie.Need-mul-d
+mul-d c = search needs
+
+mul-d-2 : tie.Need-mul-d-2
+mul-d-2 c = search needs
+
+index-1-d : tie.Need-index-1-d
+index-1-d c = search needs
+
+index-2-d : tie.Need-index-2-d
+index-2-d c = search needs
+
+returns-2 : tie.Need-returns-2
+returns-2 c = let s = c .before .before .before .before in raised-back _ _ _ _ _ _ _ _ _ (c .raise-row2 .ensures) _ _ (s .column-of .ensures) refl (s .before .before .pre .0) (omega arith)
+
+pub raise-late-spec : {M : Type 1} → statement M
+raise-late-spec =
+    tie.close
+    (tie.spec
+    element-copy-out-column-of
+    column-of-requires
+    raise-row-requires
+    returns
+    mul-old
+    mul-old-2
+    index-1-old
+    index-2-old
+    raise-row-requires-2
+    mul-d
+    mul-d-2
+    index-1-d
+    index-2-d
+    returns-2)
