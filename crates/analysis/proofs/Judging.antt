@@ -4,6 +4,8 @@ use mathlib.Core.Bool.{Bool, true, false, cond, not, _&&_}
 use mathlib.Core.List.{List}
 use mathlib.Core.Logic.{_≢_}
 use Prim.Native.Nat.{ℕ, _<_, _≤_}
+use lib.Dec.{eqb, ltb}
+use lib.ListN.{replicate}
 use borrow.Author.Tests.{lt-ltb}
 use Rattle.anchors.specs.Sets.{AnchorSets}
 use Rattle.definitions.specs.Answers.{closes-circle, unreached, infeasible, inconsistent, unserializable, judge-edges}
@@ -16,13 +18,15 @@ use Rattle.definitions.specs.declared.Refusal.{Refusal}
 use Rattle.definitions.specs.declared.Refusal.the-variants.{ForwardCycle, Inconsistent, Unreachable, Unserializable}
 use Rattle.definitions.specs.declared.Status.the-variants as Statuses
 use Rattle.definitions.specs.declared.Verdict.the-variants as Verdicts
-use Rattle.demands.proofs.Sheets.{not-8, not-9, not-10-11}
-use Rattle.laws.proofs.Outcomes.{given-not-refused}
-use Rattle.reach.specs.Pushes.{Reached}
+use Rattle.demands.proofs.Sheets.{not-8, not-9, not-10-11, unneeded-serializable}
+use Rattle.laws.proofs.Bools.{and-split, both-ways}
+use Rattle.laws.proofs.Outcomes.{given-not-refused, refused-same}
+use Rattle.reach.specs.Pushes.{Reached, Stripped, column}
 use Rattle.theory.specs.Graphs.{ForwardAcyclic, Rooted, Shape, Well}
-use Rattle.waits.specs.Reaching.{Reaches}
+use Rattle.waits.specs.Reaching.{Known, Reaches}
+use Rattle.waits.proofs.Posed.{unwaited-consistent, unwaited-count, unwaited-maps}
 use Rattle.analysis.specs.declared.Analysis.{Analysis}
-use Rattle.analysis.specs.Analysis.{judge-order, judge-first, judge-waits, judge-rest, Sorting, Serial, Blank, Serialized, Analysed}
+use Rattle.analysis.specs.Analysis.{judge-order, judge-first, judge-waits, judge-rest, Sorting, Serial, Blank, Serialized, Analysed, Traced, Unweighed, Presumed}
 
 -- Refusals in a row are the first of them, and then the rest.
 split : {A : Type 0} (a b c : Bool) (i j k : ℕ) (rest : Outcome A) → refuse-if a i (refuse-if b j (refuse-if c k rest)) ≡ when-given {A = Unit {0}} (refuse-if a i (refuse-if b j (refuse-if c k (given tt)))) (λ u. rest)
@@ -35,6 +39,12 @@ split false false false i j k rest = refl
 -- What reaches what, as the kernel gives it.
 pub reached-reaches : {n : ℕ} {g : List Edge} {rows : List ℕ} → Shape n (members g) → Reached n g rows → Reaches n g rows
 reached-reaches shape reached = record { bits = λ a v below. reached .reaches shape a v }
+
+-- Rows that are the anchor sets without step 0 hold nothing else.
+stripped-within : {n : ℕ} {sets rows : List ℕ} → Stripped sets n rows → (a v : ℕ) → column rows a v ≡ true → column sets a v ≡ true
+stripped-within {n} {sets} S a v t =
+    let p = and-split (ltb v n) (column sets a v && not (eqb a 0)) (sym (S .bits a v) ∙ t) in
+    and-split (column sets a v) (not (eqb a 0)) (p .1) .0
 
 module _ (n : ℕ) (g : List Edge) where
   pub judge-split : (allow : Bool) → judge-edges n g allow ≡ when-given (judge-first n g) (λ u. judge-rest n g allow)
@@ -95,6 +105,14 @@ module _ (n : ℕ) (g : List Edge) where
   unfolding judge-first refuse-if infeasible
   first-done-by h k l = rw (h, k, l)
 
+  feasible-by : closes-circle n g ≡ false → unreached n g ≡ false → infeasible n g ≡ false → judge-first n g ≡ given tt
+  unfolding judge-first refuse-if
+  feasible-by h k l = rw (h, k, l)
+
+  infeasible-by : closes-circle n g ≡ false → unreached n g ≡ false → infeasible n g ≡ true → (allow : Bool) → judge-edges n g allow ≡ refused 10
+  unfolding judge-edges refuse-if
+  infeasible-by h k l allow = rw (h, k, l)
+
   module _ (passed : judge-order n g ≡ given tt) where
     pub all-rooted : 1 ≤ n → Shape n (members g) → Rooted n (members g)
     all-rooted some shape = not-9 some shape (order-passed passed .1)
@@ -104,6 +122,16 @@ module _ (n : ℕ) (g : List Edge) where
 
     pub first-done : stable g (rounds g n (source-row n 0)) ≡ true → judge-first n g ≡ given tt
     first-done l = let p = order-passed passed in first-done-by (p .0) (p .1) l
+
+    -- The same by the test of 10, for who finds out about it after the rest.
+    pub order-feasible : infeasible n g ≡ false → judge-first n g ≡ given tt
+    order-feasible l = let p = order-passed passed in feasible-by (p .0) (p .1) l
+
+    pub order-infeasible : infeasible n g ≡ true → (allow : Bool) → judge-edges n g allow ≡ refused 10
+    order-infeasible l allow = let p = order-passed passed in infeasible-by (p .0) (p .1) l allow
+
+    pub order-acyclic : 1 ≤ n → Shape n (members g) → ForwardAcyclic (members g)
+    order-acyclic some shape = not-8 some shape (order-passed passed .0)
 
   -- 12 and the verdicts, by the count of waits.
   pub waits-none : wait-count n g ≡ 0 → (allow : Bool) → judge-waits n g allow ≡ given 0
@@ -130,14 +158,8 @@ module _ (n : ℕ) (g : List Edge) where
   unfolding judge-first
   first-passed h = passed-by (closes-circle n g) (unreached n g) (infeasible n g) h
 
-  pub first-order : judge-first n g ≡ given tt → judge-order n g ≡ given tt
-  first-order h = let p = first-passed h in order-done (p .0) (p .1)
-
   pub passed-well : 1 ≤ n → Shape n (members g) → judge-first n g ≡ given tt → inconsistent n g ≡ false → Well n (members g)
   passed-well some shape h k = let r = first-passed h in not-10-11 some shape (not-9 some shape (r .1)) (r .2) k
-
-  pub passed-acyclic : 1 ≤ n → Shape n (members g) → judge-first n g ≡ given tt → ForwardAcyclic (members g)
-  passed-acyclic some shape h = not-8 some shape (first-passed h .0)
 
   -- From 11 on.
   pub rest-11 : inconsistent n g ≡ true → (allow : Bool) → judge-rest n g allow ≡ refused 11
@@ -161,21 +183,49 @@ module _ (n : ℕ) (g : List Edge) where
       go true h = absurd (given-not-refused h)
       go false h = absurd (given-not-refused h)
 
-  -- The analysis from 11 on.
+  -- The analysis from 11 on, of edges that pass 8 to 10.
   module _ (allow : Bool) (r : Analysis) where
     refused-by : (k : Refusal) → ((b : Bool) → judge-rest n g b ≡ refused (number k)) → r .verdict ≡ Verdicts.Refused k → Blank r → Serialized n g allow r
     refused-by k h e blank =
         record { judges = ap verdict-of e ∙ sym (h allow); found = λ v f. absurd (given-not-refused (sym f ∙ h true)); blank = λ l f. blank }
 
-    pub serialized-refused : inconsistent n g ≡ true → r .verdict ≡ Verdicts.Refused Inconsistent → Blank r → Serialized n g allow r
+    serialized-refused : inconsistent n g ≡ true → r .verdict ≡ Verdicts.Refused Inconsistent → Blank r → Serialized n g allow r
     serialized-refused h = refused-by Inconsistent (rest-11 h)
 
-    pub serialized-clash : inconsistent n g ≡ false → unserializable n g ≡ true → r .verdict ≡ Verdicts.Refused Unserializable → Blank r → Serialized n g allow r
+    serialized-clash : inconsistent n g ≡ false → unserializable n g ≡ true → r .verdict ≡ Verdicts.Refused Unserializable → Blank r → Serialized n g allow r
     serialized-clash h k = refused-by Unserializable (rest-28 h k)
 
-    pub serialized-found : inconsistent n g ≡ false → unserializable n g ≡ false → verdict-of (r .verdict) ≡ judge-waits n g allow → Serial n g r → Serialized n g allow r
+    serialized-found : inconsistent n g ≡ false → unserializable n g ≡ false → verdict-of (r .verdict) ≡ judge-waits n g allow → Serial n g r → Serialized n g allow r
     serialized-found h k e serial =
         record { judges = e ∙ sym (rest-waits h k allow); found = λ v f. serial; blank = λ l f. absurd (allowed l (sym (rest-waits h k true) ∙ f)) }
+
+    -- And of edges that pass 8 and 9: refused, what reaches what is known all the same.
+    traced-refused : (k : Refusal) → Shape n (members g) → Reached n g (r .reach) → r .verdict ≡ Verdicts.Refused k → Traced n g r
+    traced-refused k shape reached e =
+        record { long = reached .long; reaches = reached-reaches shape reached; consistent = λ v h. absurd (given-not-refused (sym h ∙ ap verdict-of e)); serial = λ v h. absurd (given-not-refused (sym h ∙ ap verdict-of e)) }
+
+    pub unweighed-11 : Shape n (members g) → Reached n g (r .reach) → inconsistent n g ≡ true → r .verdict ≡ Verdicts.Refused Inconsistent → Blank r → Unweighed n g allow r
+    unweighed-11 shape reached h e blank =
+        record { traced = traced-refused Inconsistent shape reached e; serialized = λ first. serialized-refused h e blank }
+
+    pub unweighed-28 : Shape n (members g) → Reached n g (r .reach) → inconsistent n g ≡ false → (judge-first n g ≡ given tt → unserializable n g ≡ true) → r .verdict ≡ Verdicts.Refused Unserializable → Blank r → Unweighed n g allow r
+    unweighed-28 shape reached h k e blank =
+        record { traced = traced-refused Unserializable shape reached e; serialized = λ first. serialized-clash h (k first) e blank }
+
+    pub unweighed-found : inconsistent n g ≡ false → (judge-first n g ≡ given tt → unserializable n g ≡ false) → verdict-of (r .verdict) ≡ judge-waits n g allow → Serial n g r → Unweighed n g allow r
+    unweighed-found h k e serial =
+        record { traced = record { long = serial .long; reaches = serial .reaches; consistent = λ v o. h; serial = λ v o. serial }; serialized = λ first. serialized-found h (k first) e serial }
+
+    -- Nothing reaches further than the anchor sets say.
+    pub unweighed-posed : {sets : List ℕ} → 1 ≤ n → n ≤ 64 → Shape n (members g) → AnchorSets n g sets → judge-order n g ≡ given tt → Reached n g (r .reach) → Stripped sets n (r .reach) → r .maps ≡ replicate 64 0 → r .verdict ≡ Verdicts.WellPosed → r .count ≡ 0 → Unweighed n g allow r
+    unfolding needs-waits
+    unweighed-posed {sets} some few shape anchors passed reached stripped maps verdict count =
+        let known : Known n g (r .reach) sets = record { shape = shape; reaches = reached-reaches shape reached; anchors = anchors } in
+        let within = stripped-within stripped in
+        let once = order-acyclic passed some shape in
+        let consistent = unwaited-consistent known within once in
+        let none = unwaited-count known within in
+        unweighed-found consistent (λ first. unneeded-serializable (passed-well some shape first consistent) once (ap (ltb 0) none)) (ap verdict-of verdict ∙ sym (waits-none none allow)) (record { long = reached .long; reaches = known .reaches; maps = maps ∙ sym (unwaited-maps known within few); count = count ∙ sym none })
 
   -- The analysis is refused by the first part, or goes on with the rest.
   module _ (allow : Bool) (r : Analysis) where
@@ -190,3 +240,25 @@ module _ (n : ℕ) (g : List Edge) where
     analysed-rest e s =
         let whole : (b : Bool) → judge-edges n g b ≡ judge-rest n g b = λ b. judge-split b ∙ ap (λ (o : Outcome (Unit {0})). when-given o (λ u. judge-rest n g b)) e in
         record { judges = s .judges ∙ sym (whole allow); found = λ v h. s .found v (sym (whole true) ∙ h); blank = λ k h. s .blank k (sym (whole true) ∙ h) }
+
+  -- The analysis with 10 left out, likewise.
+  module _ (allow sorted : Bool) (r : Analysis) where
+    pub presumed-refused : (k : Refusal) → judge-order n g ≡ refused (number k) → sorted ≡ false → r .verdict ≡ Verdicts.Refused k → Blank r → Presumed n g allow sorted r
+    presumed-refused k h s e blank =
+        record {
+          sorts = (λ t. absurd (both-ways t s), λ o. absurd (given-not-refused (sym o ∙ h)));
+          refuses = λ l o. ap verdict-of e ∙ ap (λ (x : ℕ). refused x) (refused-same (sym h ∙ o));
+          unsorted = λ f. analysed-refused allow r k (first-refused (number k) h) e blank;
+          traced = λ t. absurd (both-ways t s);
+          feasible = λ f. absurd (given-not-refused (sym f ∙ first-refused (number k) h));
+        }
+
+    pub presumed-rest : judge-order n g ≡ given tt → sorted ≡ true → Unweighed n g allow r → Presumed n g allow sorted r
+    presumed-rest o s u =
+        record {
+          sorts = (λ t. o, λ p. s);
+          refuses = λ l h. absurd (given-not-refused (sym o ∙ h));
+          unsorted = λ f. absurd (both-ways s f);
+          traced = λ t. u .traced;
+          feasible = λ f. analysed-rest allow r f (u .serialized f);
+        }

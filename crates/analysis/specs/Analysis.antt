@@ -1,6 +1,7 @@
 -- What the analysis of a sheet's edges finds: the verdict, what reaches what, and the waits.
 use mathlib.Core.Path.{_≡_}
-use mathlib.Core.Bool.{Bool, true, cond, not, _&&_}
+use mathlib.Core.Bool.{Bool, true, false, cond, not, _&&_}
+use mathlib.Core.Logic.{_↔_}
 use mathlib.Core.List.{List}
 use Prim.Native.Nat.{ℕ}
 use lib.ListN.{length, replicate}
@@ -44,9 +45,8 @@ pub record Serial (n : ℕ) (g : List Edge) (r : Analysis) : Type 0 where
   pub maps : r .maps ≡ wait-maps n g
   pub count : r .count ≡ wait-count n g
 
--- Nothing is listed. Of the order of the steps nothing is said in any case.
+-- Nothing is listed. Of what reaches what nothing is said then, and of the order of the steps in no case.
 pub record Blank (r : Analysis) : Type 0 where
-  pub reach : r .reach ≡ replicate 64 0
   pub maps : r .maps ≡ replicate 64 0
   pub count : r .count ≡ 0
 
@@ -60,3 +60,23 @@ pub record Analysed (n : ℕ) (g : List Edge) (allow : Bool) (r : Analysis) : Ty
   pub judges : verdict-of (r .verdict) ≡ judge-edges n g allow
   pub found : (v : ℕ) → judge-edges n g true ≡ given v → Serial n g r
   pub blank : (k : ℕ) → judge-edges n g true ≡ refused k → Blank r
+
+-- What holds where 8 and 9 do not apply, whether or not 10 does: what reaches what; and where the verdict is no refusal, that no step waits for its own end, the waits, and their count.
+pub record Traced (n : ℕ) (g : List Edge) (r : Analysis) : Type 0 where
+  pub long : length (r .reach) ≡ 64
+  pub reaches : Reaches n g (r .reach)
+  pub consistent : (v : ℕ) → verdict-of (r .verdict) ≡ given v → inconsistent n g ≡ false
+  pub serial : (v : ℕ) → verdict-of (r .verdict) ≡ given v → Serial n g r
+
+-- The analysis from 11 on, of edges that pass 8 and 9.
+pub record Unweighed (n : ℕ) (g : List Edge) (allow : Bool) (r : Analysis) : Type 0 where
+  pub traced : Traced n g r
+  pub serialized : judge-first n g ≡ given tt → Serialized n g allow r
+
+-- The whole with 10 left out. Edges that do not pass 8 and 9 are refused by it, and those that also pass 10 are analysed.
+pub record Presumed (n : ℕ) (g : List Edge) (allow sorted : Bool) (r : Analysis) : Type 0 where
+  pub sorts : (sorted ≡ true) ↔ (judge-order n g ≡ given tt)
+  pub refuses : (k : ℕ) → judge-order n g ≡ refused k → verdict-of (r .verdict) ≡ refused k
+  pub unsorted : sorted ≡ false → Analysed n g allow r
+  pub traced : sorted ≡ true → Traced n g r
+  pub feasible : judge-first n g ≡ given tt → Analysed n g allow r

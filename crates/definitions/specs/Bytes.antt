@@ -1,9 +1,8 @@
 -- "A sheet in bytes", and the refusals 1 to 7 of "From the input", with 26 of request L11.
 use mathlib.Core.Bool.{Bool, true, false, not, _&&_, _||_}
-use mathlib.Core.List.{List, [], _∷_, _++_}
-use Prim.Native.Nat.{ℕ, zero, suc, _+_, _-_, _*_}
+use mathlib.Core.List.{List, [], _∷_}
+use Prim.Native.Nat.{ℕ, zero, suc, _+_, _*_}
 use lib.Dec.{eqb, leb, ltb}
-use lib.ListN.{length, replicate}
 use Rattle.definitions.specs.Basics.{test-bit, Outcome, given, refused, when-given}
 use Rattle.definitions.specs.declared.Delay.{Delay}
 use Rattle.definitions.specs.declared.Delay.the-variants.{Open, Fixed}
@@ -147,9 +146,6 @@ sheet = do
 unfoldable pub read : List ℕ → Outcome Records
 read s = when-given (sheet s) (λ t. given (t .value))
 
--- Records as an array of fixed size holds them: blank ones behind them. What stands where no step does lasts 0 ticks.
+-- What stands where no step does lasts 0 ticks.
 abbrev pub blank-operation : Operation
 blank-operation = record { delay = Fixed 0 }
-
-unfoldable pub padded : {A : Type 0} → ℕ → A → List A → List A
-padded size x xs = xs ++ replicate (size - length xs) x

@@ -90,7 +90,7 @@ all-fit os n cs ends e m =
     subst (EdgeFits os n) (r .2) (edge-fits os n (r .0) (ends (r .0) (r .1)))
 
 pub edges-shape : (os : List Operation) (n : ℕ) (cs : List Constraint) → ((c : Constraint) → List·Memᴰ c cs → Ends n c) → Shape n (members (edges os cs))
-edges-shape os n cs ends = record { from-below = λ e m. all-fit os n cs ends e m .from-below; to-below = λ e m. all-fit os n cs ends e m .to-below; back-uncounted = λ e m. all-fit os n cs ends e m .back-uncounted; forward-lossless = λ e m. all-fit os n cs ends e m .forward-lossless; forward-timely = λ e m. all-fit os n cs ends e m .forward-timely }
+edges-shape os n cs ends = record { from-below = λ e m. all-fit os n cs ends e m .from-below; to-below = λ e m. all-fit os n cs ends e m .to-below; back-uncounted = λ e m. all-fit os n cs ends e m .back-uncounted; forward-lossless = λ e m. all-fit os n cs ends e m .forward-lossless; forward-timely = λ e m. all-fit os n cs ends e m .forward-timely; late-not-source = λ e m. all-fit os n cs ends e m .late-not-source }
 
 -- A link's edge is late where it counts from the finish of an open step other than 0, and nowhere else.
 finish-timely : (os : List Operation) (i j u : ℕ) (d : Delay) → delay-at os i ≡ d → ¬ Lasts os i → finish-edge d i j u .late ≡ false

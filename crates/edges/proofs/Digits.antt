@@ -33,6 +33,10 @@ pub from-small : (w : ℕ) → unpack w .from < 64
 unfolding unpack
 from-small w = omega arith
 
+pub to-small : (w : ℕ) → unpack w .to < 64
+unfolding unpack
+to-small w = omega arith
+
 pub gain-small : (w : ℕ) → unpack w .gain < 16777216
 unfolding unpack
 gain-small w = omega arith

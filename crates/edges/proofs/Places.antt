@@ -6,10 +6,11 @@ use Prim.Native.Nat.{ℕ, _<_}
 use lib.ListN.{length, getD}
 use Rattle.definitions.specs.Basics.{all, any}
 use Rattle.definitions.specs.Links.{Edge}
-use Rattle.edges.specs.Words.{graph, unpack}
+use Rattle.edges.specs.Words.{EndsBelow, graph, unpack}
 use Rattle.laws.proofs.Bools.{both-ways, not-passing}
 use Rattle.laws.proofs.Lists.{mem-at, mem-place}
 use Rattle.laws.proofs.Tests.{all-by, all-each, any-by, none-any}
+use Rattle.edges.proofs.Digits.{to-small}
 
 pub graph-at : (es : List ℕ) (k : ℕ) → k < length es → List·Memᴰ (unpack (getD es k 0)) (graph es)
 unfolding graph
@@ -21,6 +22,10 @@ graph-place es e m =
     let p = Memᴰ·of-map unpack es m in
     let q = mem-place es 0 (p .1) in
     (q .index, q .inside, ap unpack (q .here) ∙ p .2)
+
+-- An end has six bits.
+pub ends-below-64 : (es : List ℕ) → EndsBelow es 64
+ends-below-64 es k b = to-small (getD es k 0)
 
 -- Every edge passes a test where every word's does, and fails it where one does; some edge passes it likewise.
 module _ (test : Edge → Bool) (es : List ℕ) where

@@ -1,6 +1,8 @@
 -- Waits held as maps, bit a of map i, as the list of pairs and the edges that they stand for: by a, then by i.
+use mathlib.Core.Path.{_≡_}
+use mathlib.Core.Bool.{true}
 use mathlib.Core.List.{List, map, flatMap}
-use Prim.Native.Nat.{ℕ}
+use Prim.Native.Nat.{ℕ, _<_}
 use lib.ListN.{getD}
 use Rattle.definitions.specs.Basics.{tabulate, select-below, test-bit}
 use Rattle.definitions.specs.Links.{Edge}
@@ -15,3 +17,7 @@ pairs n maps = flatMap (λ a. pairs-of maps a n) (tabulate (λ a. a) n)
 
 unfoldable pub wait-edges : ℕ → List ℕ → List Edge
 wait-edges n maps = map wait-edge (pairs n maps)
+
+-- Maps of waits hold no step at n or above.
+abbrev pub Within : ℕ → List ℕ → Type 0
+Within n maps = (i a : ℕ) → test-bit (getD maps i 0) a ≡ true → a < n

@@ -3,6 +3,7 @@ use mathlib.Core.Bool.{Bool}
 use mathlib.Core.List.{List, map}
 use Prim.Native.Nat.{ℕ, _/_, _%_, _<_}
 use lib.Dec.{eqb}
+use lib.ListN.{length, getD}
 use Rattle.definitions.specs.Links.{Edge}
 
 abbrev pub edge : ℕ → ℕ → ℕ → ℕ → Bool → Bool → Bool → Edge
@@ -20,3 +21,7 @@ graph words = map unpack words
 -- Ends that fit their digits.
 abbrev pub Fit : ℕ → ℕ → Type 0
 Fit i j = (i < 64) × (j < 64)
+
+-- Every word of a list ends below a number of rows.
+abbrev pub EndsBelow : List ℕ → ℕ → Type 0
+EndsBelow es rows = (k : ℕ) → k < length es → unpack (getD es k 0) .to < rows

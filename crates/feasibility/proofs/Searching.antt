@@ -39,6 +39,11 @@ kept-walk : {E : Graph} (r : ℕ → ℕ) → ((e : Edge) → E e → r (e .from
 kept-walk r keeps (stop e hk hp hq) = omega (arith, ap r e)
 kept-walk r keeps (step w e m f o hk hp hq) = omega (arith, kept-walk r keeps w, keeps e m, ap r f, ap r o)
 
+-- So numbers for the steps that keep every edge show that rounds come to rest.
+pub kept-stable : (es : List ℕ) (n : ℕ) → 1 ≤ n → Shape n (members (graph es)) → Rooted n (members (graph es)) → (r : ℕ → ℕ) → ((e : Edge) → members (graph es) e → r (e .from) + e .gain ≤ r (e .to) + e .loss) → stable (graph es) (rounds (graph es) n (source-row n 0)) ≡ true
+kept-stable es n some shape rooted r keeps =
+    stable-nonpositive-iff some shape rooted .1 (record { closed = λ {x} w. omega (arith, kept-walk r keeps w) })
+
 -- A walk to a step below n comes from one.
 start-below : {n : ℕ} {E : Graph} → Shape n E → {x y k p q : ℕ} → y < n → Walk E x y k p q → x < n
 start-below shape b (stop e hk hp hq) = omega arith
@@ -92,7 +97,7 @@ module _ (es : List ℕ) (n : ℕ) (some : 1 ≤ n) (few : n ≤ 64) {k : ℕ} {
         record { long = P .long; noted = P .noted; least = λ v i. omega (arith, S .least v i, P .swept .up v); most = λ v. omega (arith, P .swept .small (ground + ground * (128 * k)) (S .most) v); attained = P .swept .attained (S .attained); covers = λ shape. P .swept .covers (S .covers shape); walks = walks-more; spent = λ l. spent-more x b h (omega arith) }
 
     pub searched-rest : m′ ≡ 0 → Shape n (members (graph es)) → Rooted n (members (graph es)) → true ≡ stable (graph es) (rounds (graph es) n (source-row n 0))
-    searched-rest z shape rooted = sym (stable-nonpositive-iff some shape rooted .1 (record { closed = λ {x} w. omega (arith, kept-walk (cell row′) keeps w) }))
+    searched-rest z shape rooted = sym (kept-stable es n some shape rooted (cell row′) keeps)
       where
         keeps : (e : Edge) → members (graph es) e → cell row′ (e .from) + e .gain ≤ cell row′ (e .to) + e .loss
         keeps e i = P .swept .covers (S .covers shape) e i (ap (λ (x : ℕ). test-bit x (e .from)) z ∙ test-zero (e .from))

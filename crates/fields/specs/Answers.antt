@@ -1,11 +1,11 @@
--- What the answers of functions that read at a place say: an item and the place after it, or a refusal by its number; and a row of records in an array.
+-- What the answers of functions that read at a place say: an item and the place after it, or a refusal by its number.
 use mathlib.Core.Path.{_≡_}
 use mathlib.Core.List.{List}
 use Prim.Native.Nat.{ℕ, _≤_}
-use lib.ListN.{length, take, drop}
+use lib.ListN.{length, drop}
 use Rattle.definitions.specs.Basics.{Outcome, given, refused}
 use Rattle.definitions.specs.Numbers.{number}
-use Rattle.definitions.specs.Bytes.{Taken, Parser, two-bytes, padded}
+use Rattle.definitions.specs.Bytes.{Taken, Parser, two-bytes}
 use Rattle.fields.specs.declared.NumberRead.{NumberRead}
 use Rattle.fields.specs.declared.NumberRead.the-variants as Numbers
 
@@ -29,8 +29,3 @@ pub record Reads {A : Type 0} (s : List ℕ) (at : ℕ) (p : Parser A) (answer :
 
 abbrev pub NumberReads : List ℕ → ℕ → NumberRead → Type 0
 NumberReads s at r = Reads s at two-bytes (number-read s r) (number-end r)
-
--- An array of `size` entries with k records at its front, and blank ones behind them.
-pub record Row {A : Type 0} (size : ℕ) (blank : A) (k : ℕ) (array : List A) : Type 0 where
-  pub count : length (take k array) ≡ k
-  pub blanks : array ≡ padded size blank (take k array)

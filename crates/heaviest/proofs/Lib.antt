@@ -1,2 +1,3 @@
+pub mod FirstSweep
 pub mod Settled
 pub mod Spreading

@@ -15,13 +15,15 @@ use Rattle.definitions.specs.Links.{Edge, Graph, LateInto, _⊑_, members, usab
 use Rattle.definitions.specs.Plan.{first-row, offset-row}
 use Rattle.definitions.specs.Rounds.{after-row, cell, source-row}
 use Rattle.definitions.specs.Waits.{wait-edge}
-use Rattle.edges.specs.Serial.{wait-edges}
+use Rattle.edges.specs.Serial.{Within, wait-edges}
 use Rattle.edges.specs.Words.{graph}
 use Rattle.edges.proofs.Waiting.{wait-edges-has, wait-edges-only}
 use Rattle.laws.proofs.Bools.{and-join, and-split, both-ways}
 use Rattle.laws.proofs.Maps.{test-zero}
 use Rattle.relations.specs.Rows.{row-bit}
-use Rattle.relaxation.specs.Columns.{Covered, Numbers, Square, Under, WaitsFor, column, entry}
+use Rattle.lifting.specs.Tables.{Square, entry}
+use Rattle.relaxation.specs.Columns.{Covered, Numbers, Sought, WaitsFor, column}
+use Rattle.lifting.proofs.Tables.{square-then}
 use Rattle.seeding.specs.Seeds.{Prepared}
 use Rattle.sweeps.specs.Graphs.{Both, SweptBy}
 use Rattle.theory.specs.Graphs.{Gains, Well}
@@ -31,7 +33,7 @@ use Rattle.theory.proofs.Relaxation.{raise-length, rounds-length}
 use Rattle.theory.proofs.Sweeping.{offsets-seeded, offsets-settle, offsets-small, offsets-swept, sweeps-rest}
 use Rattle.theory.proofs.Usables.{forward-usable, members-usable, usable-members}
 use Rattle.theory.proofs.Walks.{counted-forward}
-use Rattle.heaviest.specs.Settling.{Settled, SettledBy, Spread, Supported, Within}
+use Rattle.heaviest.specs.Settling.{Opened, Settled, SettledBy, SettlingBy, Spread, Supported}
 
 -- A row of offsets has no cell at n or above.
 first-length : (n : ℕ) (es : List Edge) (a : ℕ) → length (first-row n es a) ≡ n
@@ -45,26 +47,19 @@ offsets-past n es a v b =
     let short : length (offset-row n es a) ≤ v = omega (arith, rounds-length (usable es a) n (first-row n (usable es a) a), first-length n (usable es a) a) in
     List·getD-eq-default (offset-row n es a) 0 short
 
--- k sweeps over one column, where the edges leave the steps below n alone, and what its marks then say.
-pub record Settling (E : Graph) (n k : ℕ) (r s : ℕ → ℕ) (g : ℕ → Bool) : Type 0 where
-  pub under : (t : ℕ → ℕ) → Under E t r → Under E t s
-  pub covers : (t : ℕ → ℕ) → Under E t r → ((e : Edge) → E e → e .from < n) → Covered E s g
-  pub sweeps : (t : ℕ → ℕ) → Under E t r → ((e : Edge) → E e → e .from < n) → Sweeps E r k s
-
-pub record SettlingBy (es waiting number : List ℕ) (width n k : ℕ) (d d′ : List (List ℕ)) (m : ℕ) : Type 0 where
-  pub square : Square d′
-  pub each : (anchor : ℕ → ℕ) → Numbers width number anchor → (c : ℕ) → c < width → Settling (Both es waiting (anchor c)) n k (column d c) (column d′ c) (test-bit m)
-
 -- The loop over the sweeps.
 module _ (es waiting number : List ℕ) (width n : ℕ) (d₀ : List (List ℕ)) where
   -- Every step that has edges has a mark.
-  pub settling-start : (m : ℕ) → Square d₀ → ((v : ℕ) → test-bit m v ≡ ltb v n) → SettlingBy es waiting number width n 0 d₀ d₀ m
+  pub settling-start : (m : ℕ) → Square (length d₀) d₀ → ((v : ℕ) → test-bit m v ≡ ltb v n) → SettlingBy es waiting number width n 0 d₀ d₀ m
   settling-start m S all =
       record { square = S; each = λ anchor N c b. record { under = λ t U. U; covers = λ t U i e x q. absurd (both-ways (all (e .from) ∙ lt-ltb (e .from) n (i e x)) q); sweeps = λ t U i. none {s = column d₀ c} refl (λ v. omega arith) } }
 
-  pub settling-more : {k : ℕ} {d d′ : List (List ℕ)} {m m′ : ℕ} → SettlingBy es waiting number width n k d₀ d m → SweptBy es waiting number width (λ v. v < n) d d′ m m′ → SettlingBy es waiting number width n (k + 1) d₀ d′ m′
+  pub settling-more : {k c : ℕ} {d d′ : List (List ℕ)} {m m′ : ℕ} → SettlingBy es waiting number width n k d₀ d m → SweptBy es waiting number width (λ v. v < n) c d d′ m m′ → SettlingBy es waiting number width n (k + 1) d₀ d′ m′
   settling-more {k} {d} {d′} P Q =
-      record { square = Q .square; each = λ anchor N c b. let p = P .each anchor N c b in let q = Q .each anchor N .each c b in record { under = λ t U. q .under t (p .under t U); covers = λ t U i. q .covers t (p .under t U) (p .covers t U i); sweeps = λ t U i. more {k = k + 1} {j = k} (p .sweeps t U i) (record { up = q .up t (p .under t U); hands = λ e x. q .hands t (p .under t U) (p .covers t U i) e x (i e x) }) (omega arith) } }
+      record { square = square-then (P .square) (Q .square); each = λ anchor N c b. let p = P .each anchor N c b in let q = Q .each anchor N .each c b in record { under = λ t U. q .under t (p .under t U); covers = λ t U i. q .covers t (p .under t U) (p .covers t U i); sweeps = λ t U i. more {k = k + 1} {j = k} (p .sweeps t U i) (record { up = q .up t (p .under t U); hands = λ e x. q .hands t (p .under t U) (p .covers t U i) e x (i e x) }) (omega arith) } }
+
+  pub settling-opened : {d : List (List ℕ)} {m : ℕ} → Square (length d₀) d₀ → Opened es waiting number width n d₀ d m → SettlingBy es waiting number width n 1 d₀ d m
+  settling-opened S O = settling-more (settling-start (O .marks) S (O .all)) (O .swept)
 
   -- Without marks every edge has handed on, and further sweeps would change nothing.
   pub settling-rest : {k m : ℕ} {d : List (List ℕ)} → k ≤ n → m ≡ 0 → SettlingBy es waiting number width n k d₀ d m → SettledBy es waiting number width n d₀ d
@@ -78,6 +73,10 @@ module _ (es waiting number : List ℕ) (width n : ℕ) (d₀ : List (List ℕ))
   settling-end {k} {m} {d} b h P =
       let e : k ≡ n = omega arith in
       record { square = P .square; each = λ anchor N c l. let p = P .each anchor N c l in record { under = p .under; sweeps = λ t U i. subst (λ (j : ℕ). Sweeps (Both es waiting (anchor c)) (column d₀ c) j (column d c)) e (p .sweeps t U i) } }
+
+-- What waits stands below n, where the maps that say so are turned round.
+pub turned-within : (maps waiting : List ℕ) (n : ℕ) → ((v k : ℕ) → row-bit waiting k v ≡ (ltb v n && row-bit maps v k)) → Within n waiting
+turned-within maps waiting n turned k v h = ltb-true v n (and-split (ltb v n) (row-bit maps v k) (sym (turned v k) ∙ h) .0)
 
 -- The edges of the words and of the waits, as one list and as the sweeps go over them: for each anchor those that it may use.
 module _ (es maps waiting : List ℕ) (n : ℕ) (within : Within n maps) (turned : (v k : ℕ) → row-bit waiting k v ≡ (ltb v n && row-bit maps v k)) where
@@ -111,7 +110,7 @@ module _ (es maps waiting sets : List ℕ) (n : ℕ) (few : n ≤ 64) (within : 
   abbrev g : List Edge
   g = graph es ++ wait-edges n maps
 
-  module _ {number : List ℕ} {width : ℕ} {d d′ : List (List ℕ)} (begun : Prepared (members (graph es)) sets n width number d) (settled : SettledBy es waiting number width n d d′) (a : ℕ) (inside : a < n) (support : Supported n (graph es ++ wait-edges n maps) sets a) (v₀ : ℕ) (b₀ : v₀ < n) (member : row-bit sets v₀ a ≡ true) where
+  module _ {number : List ℕ} {width rows : ℕ} {d d′ : List (List ℕ)} (begun : Prepared (members (graph es)) sets n width number rows d) (settled : SettledBy es waiting number width n d d′) (a : ℕ) (inside : a < n) (support : Supported n (graph es ++ wait-edges n maps) sets a) (v₀ : ℕ) (b₀ : v₀ < n) (member : row-bit sets v₀ a ≡ true) where
     abbrev t : ℕ → ℕ
     t = cell (offset-row n g a)
 
@@ -166,8 +165,9 @@ module _ (es maps waiting sets : List ℕ) (n : ℕ) (few : n ≤ 64) (within : 
         begun .columns k there .sound t (λ e m l. seeds .after e (leading e (Memᴰ·append-left (wait-edges n maps) m) (leads e l)) (leads e l))
         (λ v b h. has v b (subst (λ (x : ℕ). row-bit sets v x ≡ true) own h))
 
-    under : Under (Both es waiting a) t r
-    under = record { settles = λ e m. offsets-settle well posed a inside e (both-list es maps waiting n within turned a e m); small = small; below = below; live = live }
+    sought : Sought (Both es waiting a) t r
+    sought =
+        record { settles = λ e m. offsets-settle well posed a inside e (both-list es maps waiting n within turned a e m); under = record { small = small; below = below; live = live } }
 
     -- The seeds: a wait gains nothing, and so it begins a walk of weight 0.
     after-by : (e : Edge) → Leads a e → 1 ≤ t (e .to) → List·Memᴰ e (graph es) ⊎ List·Memᴰ e (wait-edges n maps) → suc (e .gain - e .loss) ≤ r (e .to)
@@ -188,14 +188,14 @@ module _ (es maps waiting sets : List ℕ) (n : ℕ) (few : n ≤ 64) (within : 
     done = subst (λ (x : ℕ). Settled (Both es waiting x) n r (column d′ k)) own (settled .each (begun .anchor) (begun .numbers) k there)
 
     swept : Sweeps (members (usable g a)) r n (column d′ k)
-    swept = sweeps-as (list-both es maps waiting n within turned a) (done .sweeps t under low)
+    swept = sweeps-as (list-both es maps waiting n within turned a) (done .sweeps t sought low)
       where
         sweeps-as : {E F : Graph} {r s : ℕ → ℕ} {k : ℕ} → F ⊑ E → Sweeps E r k s → Sweeps F r k s
         sweeps-as i (none h up) = none h up
         sweeps-as i (more m w h) = more (sweeps-as i m) (record { up = w .up; hands = λ e x. w .hands e (i e x) }) h
 
     found : (v : ℕ) → column d′ k v ≡ t v
-    found v = offsets-swept well posed a inside sown swept (done .under t under .below) v
+    found v = offsets-swept well posed a inside sown swept (done .under t sought .under .below) v
 
     -- And so do the cells that are spread.
     pub walks-found : {d″ : List (List ℕ)} → Spread number (λ w. w < n) (row-bit sets) d′ d″ → entry d″ v₀ a ≡ cell (offset-row n (graph es ++ wait-edges n maps) a) v₀

@@ -1,33 +1,27 @@
 // Heaviest walks for every anchor at once: the columns of the anchors are numbered and begun, steps hand on until nothing is left to hand on, and the columns go back to the places of their anchors.
+use feasibility::feasible;
 use relations::transpose;
 use seeding::column_of;
 use seeding::seed;
 use sweeps::sweep;
 ghost use mathlib.Core.Path.{_≡_};
 ghost use mathlib.Core.Bool.{true};
-ghost use mathlib.Core.List.{_++_};
-ghost use Prim.Native.Nat.{ℕ, _<_, _≤_};
+ghost use mathlib.Core.List.{List, _++_};
+ghost use Prim.Native.Nat.{ℕ, _+_, _<_, _≤_};
 ghost use lib.ListN.{getD, length};
 ghost use Rattle.adjacency.specs.Lists.{Lists};
 ghost use Rattle.definitions.specs.Anchors.{WellPosed};
 ghost use Rattle.definitions.specs.Basics.{test-bit};
 ghost use Rattle.definitions.specs.Links.{members};
 ghost use Rattle.definitions.specs.Plan.{offset-row};
-ghost use Rattle.definitions.specs.Rounds.{cell};
-ghost use Rattle.edges.specs.Serial.{wait-edges};
-ghost use Rattle.edges.specs.Words.{graph};
+ghost use Rattle.definitions.specs.Rounds.{cell, rounds, source-row, stable};
+ghost use Rattle.edges.specs.Serial.{Within, wait-edges};
+ghost use Rattle.edges.specs.Words.{EndsBelow, graph, unpack};
 ghost use Rattle.relations.specs.Rows.{row-bit};
-ghost use Rattle.relaxation.specs.Columns.{Square, entry, value};
+ghost use Rattle.lifting.specs.Tables.{Square, entry, value};
 ghost use Rattle.seeding.specs.Seeds.{Blank, Empty};
-ghost use Rattle.theory.specs.Graphs.{Gains, Well};
-ghost use Rattle.heaviest.specs.Settling.{SettledBy, Spread, Supported, Within};
-
-// A table without walks.
-pub fn empty_table() -> [[u32; 64]; 64]
-    ensures { λ d. ⌜ Empty d ⌝ }
-{
-    [[0u32; 64]; 64]
-}
+ghost use Rattle.theory.specs.Graphs.{Gains, Rooted, Shape, Well};
+ghost use Rattle.heaviest.specs.Settling.{Opened, SettledBy, SettlingBy, Spread, Supported};
 
 // Numbers of which no step has one.
 fn no_numbers() -> [u8; 64]
@@ -57,9 +51,80 @@ fn places(order: &[u8; 64], n: usize) -> [u8; 64]
     place
 }
 
-// n sweeps, or fewer where nothing is left to hand on. At first every step has a mark.
+// The first sweep. At first every step has a mark. Where returns are many, it is soon better to go from the last step to the first, so visits by place are few.
+fn sweep_first(
+    d: &mut [[u32; 64]],
+    es: &[u64],
+    lists: &[u16],
+    waiting: &[u64; 64],
+    order: &[u8; 64],
+    place: &[u8; 64],
+    number: &[u8; 64],
+    width: usize,
+    n: usize,
+) -> u64
+    requires { ⌜ (1 ≤ n) × (n ≤ 64) × (n ≤ length (now d)) × (width ≤ 64) × (length (now es) ≤ 2048) × Lists (now es) (now lists) × EndsBelow (now es) (length (now d)) × Within (length (now d)) (now waiting) × Square (length (now d)) (now d) ⌝ }
+    ensures { λ r. ⌜ Opened (now (es .entry)) (now (waiting .entry)) (now (number .entry)) width n (now (d .entry)) (now (d .exit)) r ⌝ }
+{
+    let marks = bitmaps::below(n);
+    let most = n + 16;
+    sweep(
+        d,
+        marks,
+        es,
+        lists,
+        waiting,
+        order,
+        place,
+        number,
+        width,
+        n,
+        most,
+    )
+}
+
+// The sweeps after the first, until there have been n, or fewer where nothing is left to hand on.
+fn sweep_on(
+    d: &mut [[u32; 64]],
+    marks: u64,
+    es: &[u64],
+    lists: &[u16],
+    waiting: &[u64; 64],
+    order: &[u8; 64],
+    place: &[u8; 64],
+    number: &[u8; 64],
+    width: usize,
+    n: usize,
+)
+    requires { ⌜ (1 ≤ n) × (n ≤ 64) × (n ≤ length (now d)) × (width ≤ 64) × (length (now es) ≤ 2048) × Lists (now es) (now lists) × EndsBelow (now es) (length (now d)) × Within (length (now d)) (now waiting) × Square (length (now d)) (now d) ⌝ }
+    ensures { λ r. ⌜ ((d₀ : List (List ℕ)) → SettlingBy (now (es .entry)) (now (waiting .entry)) (now (number .entry)) width n 1 d₀ (now (d .entry)) marks → SettledBy (now (es .entry)) (now (waiting .entry)) (now (number .entry)) width n d₀ (now (d .exit))) ⌝ }
+{
+    let mut left = marks;
+    let mut k = 1;
+    while k < n {
+        if left == 0 {
+            return;
+        }
+        left = sweep(
+            d,
+            left,
+            es,
+            lists,
+            waiting,
+            order,
+            place,
+            number,
+            width,
+            n,
+            n + 16,
+        );
+        k += 1;
+    }
+}
+
+// All sweeps.
 fn settle(
-    d: &mut [[u32; 64]; 64],
+    d: &mut [[u32; 64]],
     es: &[u64],
     lists: &[u16],
     waiting: &[u64; 64],
@@ -68,30 +133,23 @@ fn settle(
     width: usize,
     n: usize,
 )
-    requires { ⌜ (n ≤ 64) × (width ≤ 64) × (length (now es) ≤ 2048) × Lists (now es) (now lists) × Square (now d) ⌝ }
+    requires { ⌜ (1 ≤ n) × (n ≤ 64) × (n ≤ length (now d)) × (width ≤ 64) × (length (now es) ≤ 2048) × Lists (now es) (now lists) × EndsBelow (now es) (length (now d)) × Within (length (now d)) (now waiting) × Square (length (now d)) (now d) ⌝ }
     ensures { λ r. ⌜ SettledBy (now (es .entry)) (now (waiting .entry)) (now (number .entry)) width n (now (d .entry)) (now (d .exit)) ⌝ }
 {
     let place = places(order, n);
-    let mut marks = bitmaps::below(n);
-    let mut k = 0;
-    while k < n {
-        if marks == 0 {
-            return;
-        }
-        marks = sweep(
-            d,
-            marks,
-            es,
-            lists,
-            waiting,
-            order,
-            &place,
-            number,
-            width,
-            n,
-        );
-        k += 1;
-    }
+    let marks = sweep_first(d, es, lists, waiting, order, &place, number, width, n);
+    sweep_on(
+        d,
+        marks,
+        es,
+        lists,
+        waiting,
+        order,
+        &place,
+        number,
+        width,
+        n,
+    );
 }
 
 // What a cell says.
@@ -102,8 +160,8 @@ fn weight_of(c: u32) -> u32
 }
 
 // Row v says at each member of a map what its column says. No number is above its step, so the highest member goes first and nothing is lost. Other cells are left over from columns.
-fn spread_row(d: &mut [[u32; 64]; 64], number: &[u8; 64], map: u64, v: usize)
-    requires { ⌜ (v < 64) × Square (now d) × ((a : ℕ) → a < 64 → test-bit map a ≡ true → getD (now number) a 0 ≤ a) ⌝ }
+fn spread_row(d: &mut [[u32; 64]], number: &[u8; 64], map: u64, v: usize)
+    requires { ⌜ (v < length (now d)) × Square (length (now d)) (now d) × ((a : ℕ) → a < 64 → test-bit map a ≡ true → getD (now number) a 0 ≤ a) ⌝ }
     ensures { λ r. ⌜ Spread (now (number .entry)) (λ w. w ≡ v) (λ w a. test-bit map a) (now (d .entry)) (now (d .exit)) ⌝ }
 {
     let mut left = map;
@@ -116,8 +174,8 @@ fn spread_row(d: &mut [[u32; 64]; 64], number: &[u8; 64], map: u64, v: usize)
 }
 
 // The same for every row below n.
-fn spread_rows(d: &mut [[u32; 64]; 64], number: &[u8; 64], sets: &[u64; 64], n: usize)
-    requires { ⌜ (n ≤ 64) × Square (now d) × ((v a : ℕ) → v < n → a < 64 → row-bit (now sets) v a ≡ true → getD (now number) a 0 ≤ a) ⌝ }
+fn spread_rows(d: &mut [[u32; 64]], number: &[u8; 64], sets: &[u64; 64], n: usize)
+    requires { ⌜ (n ≤ 64) × (n ≤ length (now d)) × Square (length (now d)) (now d) × ((v a : ℕ) → v < n → a < 64 → row-bit (now sets) v a ≡ true → getD (now number) a 0 ≤ a) ⌝ }
     ensures { λ r. ⌜ Spread (now (number .entry)) (λ w. w < n) (row-bit (now (sets .entry))) (now (d .entry)) (now (d .exit)) ⌝ }
 {
     let mut v = 0;
@@ -130,7 +188,7 @@ fn spread_rows(d: &mut [[u32; 64]; 64], number: &[u8; 64], sets: &[u64; 64], n: 
 // At [v][a] the cell of step v for anchor a, over the edges and the waits that maps hold, where a is a member of row v of sets: for an anchor whose members in sets are the steps that its walks reach.
 // The order decides speed alone.
 pub fn walks(
-    d: &mut [[u32; 64]; 64],
+    d: &mut [[u32; 64]],
     es: &[u64],
     lists: &[u16],
     maps: &[u64; 64],
@@ -138,8 +196,8 @@ pub fn walks(
     order: &[u8; 64],
     n: usize,
 )
-    requires { ⌜ (n ≤ 64) × (length (now es) ≤ 2048) × Lists (now es) (now lists) × Empty (now d) ⌝ }
-    ensures square { λ r. ⌜ Square (now (d .exit)) ⌝ }
+    requires { ⌜ (1 ≤ n) × (n ≤ 64) × (n ≤ length (now d)) × (length (now es) ≤ 2048) × Lists (now es) (now lists) × Empty (now d) × EndsBelow (now es) (length (now d)) ⌝ }
+    ensures square { λ r. ⌜ Square (length (now (d .entry))) (now (d .exit)) ⌝ }
     ensures cells { λ r. ⌜ (Within n (now (maps .entry)) → Well n (members (graph (now (es .entry)) ++ wait-edges n (now (maps .entry)))) → WellPosed (members (graph (now (es .entry)) ++ wait-edges n (now (maps .entry)))) → Gains (members (graph (now (es .entry)) ++ wait-edges n (now (maps .entry)))) 65535 → (a : ℕ) → a < n → Supported n (graph (now (es .entry)) ++ wait-edges n (now (maps .entry))) (now (sets .entry)) a → (v : ℕ) → v < n → row-bit (now (sets .entry)) v a ≡ true → entry (now (d .exit)) v a ≡ cell (offset-row n (graph (now (es .entry)) ++ wait-edges n (now (maps .entry))) a) v) ⌝ }
 {
     let mut waiting = [0u64; 64];
@@ -148,4 +206,55 @@ pub fn walks(
     let width = seed(d, &mut number, es, sets, n);
     settle(d, es, lists, &waiting, order, &number, width, n);
     spread_rows(d, &number, sets, n);
+}
+
+// Whether no closed walk weighs more than 0: refusal 10. A first sweep that left no mark says so; else a search of its own does.
+fn possible(marks: u64, es: &[u64], lists: &[u16], order: &[u8; 64], n: usize) -> bool
+    requires { ⌜ (1 ≤ n) × (n ≤ 64) × (length (now es) ≤ 2048) × Lists (now es) (now lists) ⌝ }
+    ensures { λ r. ⌜ (Shape n (members (graph (now (es .entry)))) → Rooted n (members (graph (now (es .entry)))) → (marks ≡ 0 → stable (graph (now (es .entry))) (rounds (graph (now (es .entry))) n (source-row n 0)) ≡ true) → r ≡ stable (graph (now (es .entry))) (rounds (graph (now (es .entry))) n (source-row n 0))) ⌝ }
+{
+    if marks == 0 {
+        return true;
+    }
+    feasible(es, lists, order, n)
+}
+
+// The same as `walks`, where no closed walk over the edges weighs more than 0; else false, refusal 10. The first sweep mostly tells.
+pub fn walks_if_possible(
+    d: &mut [[u32; 64]],
+    es: &[u64],
+    lists: &[u16],
+    maps: &[u64; 64],
+    sets: &[u64; 64],
+    order: &[u8; 64],
+    n: usize,
+) -> bool
+    requires { ⌜ (1 ≤ n) × (n ≤ 64) × (n ≤ length (now d)) × (length (now es) ≤ 2048) × Lists (now es) (now lists) × Empty (now d) × EndsBelow (now es) (length (now d)) ⌝ }
+    ensures square { λ r. ⌜ Square (length (now (d .entry))) (now (d .exit)) ⌝ }
+    ensures cells { λ r. ⌜ (r ≡ true → Within n (now (maps .entry)) → Well n (members (graph (now (es .entry)) ++ wait-edges n (now (maps .entry)))) → WellPosed (members (graph (now (es .entry)) ++ wait-edges n (now (maps .entry)))) → Gains (members (graph (now (es .entry)) ++ wait-edges n (now (maps .entry)))) 65535 → (a : ℕ) → a < n → Supported n (graph (now (es .entry)) ++ wait-edges n (now (maps .entry))) (now (sets .entry)) a → (v : ℕ) → v < n → row-bit (now (sets .entry)) v a ≡ true → entry (now (d .exit)) v a ≡ cell (offset-row n (graph (now (es .entry)) ++ wait-edges n (now (maps .entry))) a) v) ⌝ }
+    ensures told { λ r. ⌜ (Shape n (members (graph (now (es .entry)))) → Rooted n (members (graph (now (es .entry)))) → Gains (members (graph (now (es .entry)))) 65535 → ((v : ℕ) → v < n → row-bit (now (sets .entry)) v 0 ≡ true) → r ≡ stable (graph (now (es .entry))) (rounds (graph (now (es .entry))) n (source-row n 0))) ⌝ }
+{
+    let mut waiters = [0u64; 64];
+    transpose(maps, n, &mut waiters);
+    let mut number = no_numbers();
+    let width = seed(d, &mut number, es, sets, n);
+    let place = places(order, n);
+    let marks = sweep_first(d, es, lists, &waiters, order, &place, &number, width, n);
+    if !possible(marks, es, lists, order, n) {
+        return false;
+    }
+    sweep_on(
+        d,
+        marks,
+        es,
+        lists,
+        &waiters,
+        order,
+        &place,
+        &number,
+        width,
+        n,
+    );
+    spread_rows(d, &number, sets, n);
+    true
 }

@@ -75,7 +75,10 @@ left-of left rest x a e h = and-split (test-bit left a) (not (eqb a x)) (sym e �
 pub given-of : (map behind given a : ℕ) → test-bit given a ≡ (test-bit map a && test-bit behind a) → test-bit given a ≡ true → (test-bit map a ≡ true) × (test-bit behind a ≡ true)
 given-of map behind given a e h = and-split (test-bit map a) (test-bit behind a) (sym e ∙ h)
 
--- A part of what is left without x is smaller.
+-- A part of what is left without x is a part of what is left, and smaller.
+pub part-of : (left next less rest x a : ℕ) → test-bit less a ≡ (test-bit left a && not (eqb a x)) → test-bit rest a ≡ (test-bit less a && test-bit next a) → test-bit rest a ≡ true → test-bit left a ≡ true
+part-of left next less rest x a less-is rest-is h = left-of left less x a less-is (given-of less next rest a rest-is h .0)
+
 pub sieving-less : (left next less rest x : ℕ) → test-bit left x ≡ true → ((j : ℕ) → test-bit less j ≡ (test-bit left j && not (eqb j x))) → ((j : ℕ) → test-bit rest j ≡ (test-bit less j && test-bit next j)) → rest < left
 sieving-less left next less rest x stood less-is rest-is =
     let e : rest ≡ bitAnd less next = same-map rest (bitAnd less next) (λ j. rest-is j ∙ sym (test-and less next j)) in

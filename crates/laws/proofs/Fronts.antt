@@ -1,7 +1,7 @@
 -- A list whose front is written, an element at a time or as a part that is lent; the rest stays as it was. Assumes nothing.
 use mathlib.Core.Path.{_≡_, refl, sym, ap, ap₂, _∙_}
 use mathlib.Core.List.{List, [], _∷_, _++_, append-assoc, append-nil}
-use Prim.Native.Nat.{ℕ, zero, suc, _+_, _-_, _<_, _≤_}
+use Prim.Native.Nat.{ℕ, suc, _+_, _-_, _<_, _≤_}
 use native.Mathlib.Omega.{arith}
 use native.Mathlib.Numerals.{add-one}
 use borrow.Rule.Slice.PartMut.{putMid}
@@ -52,9 +52,3 @@ pub tabulate-list : {A : Type 0} (l : List A) (f : ℕ → A) (n : ℕ) (z : A) 
 tabulate-list l f n z e h =
     ext-getD z (tabulate f n) l (tabulate-length f n ∙ sym e)
     (λ i b. let c : i < n = omega (arith, tabulate-length f n) in tabulate-at f n i z c ∙ h i c)
-
--- An element that is there does not depend on what is given past the end.
-pub getD-there : {A : Type 0} (l : List A) (i : ℕ) (y z : A) → i < length l → getD l i y ≡ getD l i z
-getD-there [] i y z h = absurd (omega arith)
-getD-there (x ∷ l) zero y z h = refl
-getD-there (x ∷ l) (suc i) y z h = getD-there l i y z (omega arith)

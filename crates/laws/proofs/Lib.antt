@@ -1,4 +1,3 @@
-pub mod Arrays
 pub mod Bools
 pub mod Counts
 pub mod Fronts

@@ -1,15 +1,14 @@
--- Laws of parsers: of outcomes in a row, and of a row of records that a loop reads into an array.
+-- Laws of parsers: of outcomes in a row, and of a row of records that a loop reads.
 -- The loop's invariant is that what is read, put in front of what is left, gives the same answer as the whole.
 use mathlib.Core.Path.{_≡_, refl, sym, ap, _∙_}
 use mathlib.Core.List.{List, [], _∷_, _++_, append-assoc, append-nil}
 use Prim.Native.Nat.{ℕ, suc, _+_, _-_, _≤_, _<_}
 use native.Mathlib.Omega.{arith}
 use native.Mathlib.Numerals.{add-one}
-use lib.ListN.{length, take, drop, getD, set, replicate, drop-of-length-le, length-drop}
+use lib.ListN.{length, take, drop, getD, drop-of-length-le, length-drop}
 use lib.Seq.{drop-cons, take-all}
 use Rattle.definitions.specs.Basics.{Outcome, given, refused, when-given}
-use Rattle.definitions.specs.Bytes.{Taken, Parser, records, padded}
-use Rattle.laws.proofs.Arrays.{Filled, none-filled, one-more-filled, take-one-more, filled-later, filled-padded, length-filled}
+use Rattle.definitions.specs.Bytes.{Taken, Parser, records}
 
 -- What comes after an outcome may be said in one go or in two.
 pub when-given-twice : {A B C : Type 0} (p : Outcome A) (f : A → Outcome B) (g : B → Outcome C) → when-given (when-given p f) g ≡ when-given p (λ a. when-given (f a) g)
@@ -71,46 +70,3 @@ module _ {A S : Type 0} (item : S → Parser A) (next : A → S) where
   pub unread-none : (k : ℕ) (first : S) (bytes : List ℕ) (done : List A) (state : S) (rest : List ℕ) → Unread k first bytes done 0 state rest → records item next k first bytes ≡ given (record { value = done; rest = rest })
   unfolding prepend when-given records
   unread-none k first bytes done state rest u = u ∙ ap (λ (l : List A). given (record { value = l; rest = rest })) (append-nil done)
-
-  -- The invariant of a loop that reads k records into an array of `size` entries: i of them are read.
-  pub record ReadTo (size : ℕ) (blank : A) (k : ℕ) (first : S) (bytes : List ℕ) (i : ℕ) (state : S) (rest : List ℕ) (array : List A) : Type 0 where
-    pub within : i ≤ k
-    pub filled : Filled size blank i array
-    pub unread : Unread k first bytes (take i array) (k - i) state rest
-
-  module _ (size : ℕ) (blank : A) (k : ℕ) (fits : k ≤ size) (first : S) (bytes : List ℕ) where
-    -- None is read: the array is blank, and all is left.
-    pub read-none : ReadTo size blank k first bytes 0 first bytes (replicate size blank)
-    read-none =
-        let e : k - 0 ≡ k = omega arith in
-        record { within = omega arith; filled = none-filled size blank; unread = rw e (unread-start k first bytes) }
-
-    module _ (i : ℕ) (state : S) (rest : List ℕ) (array : List A) (so : ReadTo size blank k first bytes i state rest array) where
-      one-left : i < k → Unread k first bytes (take i array) (suc (k - (i + 1))) state rest
-      one-left h = let e : suc (k - (i + 1)) ≡ k - i = omega arith in rw e (so .unread)
-
-      -- One more is read: it goes from the front of what is left to the end of what is done.
-      pub read-one-more : i < k → (more : List ℕ) (x : A) → item state rest ≡ given (record { value = x; rest = more }) → ReadTo size blank k first bytes (i + 1) (next x) more (set array i x)
-      read-one-more h more x e = record {
-        within = omega arith;
-        filled = one-more-filled size blank i array (omega arith) (so .filled) x;
-        unread = rw (take-one-more size blank i array (omega arith) (so .filled) x) (unread-one k first bytes (take i array) (k - (i + 1)) state rest more x e (one-left h));
-      }
-
-      -- The next one is refused: so is the whole.
-      pub read-refused : i < k → (q : ℕ) → item state rest ≡ refused q → records item next k first bytes ≡ refused q
-      read-refused h q e = unread-refused k first bytes (take i array) (k - (i + 1)) state rest q e (one-left h)
-
-      -- All are read.
-      pub read-all : k ≤ i → records item next k first bytes ≡ given (record { value = take k array; rest = rest })
-      read-all h =
-          let e : k ≡ i = omega arith in
-          let none : k - i ≡ 0 = omega arith in
-          unread-none k first bytes (take i array) state rest (rw none at (so .unread)) ∙ ap (λ (m : ℕ). given (record { value = take m array; rest = rest })) (sym e)
-
-      -- The array's front has k entries, read or not, and blank ones stand behind them.
-      pub read-count : length (take k array) ≡ k
-      read-count = length-filled size blank k array fits (filled-later size blank i k array (so .within) (so .filled))
-
-      pub read-padded : array ≡ padded size blank (take k array)
-      read-padded = filled-padded size blank k array fits (filled-later size blank i k array (so .within) (so .filled))

@@ -23,7 +23,8 @@ use Rattle.laws.proofs.Parsers.{Unread, unread-start, unread-one, unread-refuse
 use Rattle.link_record.specs.Answers.{Ranked}
 use Rattle.link_record.specs.Parts.{link-fields}
 use Rattle.link_record.proofs.Ends.{fields-ends}
-use Rattle.links.specs.Pushes.{Took, Leaves, leaving, link-edges}
+use Rattle.operation_records.specs.Leaving.{Leaves, leaving}
+use Rattle.links.specs.Pushes.{Took, link-edges}
 use Rattle.links.proofs.Pushing.{link-few}
 use Rattle.links.proofs.Listing.{edges-more}
 use Rattle.link_records.specs.Answers.{LinksReads}
@@ -94,19 +95,19 @@ module _ (digits : List ℕ) (n r : ℕ) (bytes : List ℕ) where
         unread-none (link n) pair-of r Nothing bytes (so .done) (so .previous) rest (rw none at (so .unread))
 
     -- What is answered then: the edges of all records.
-    pub answers-whole : (os : List Operation) → Leaves os n digits → outcome (last-links n r) bytes ≡ given (so .done) → LinksReads bytes n r os words (record { reading = Whole; count = count })
+    pub answers-whole : outcome (last-links n r) bytes ≡ given (so .done) → LinksReads bytes n r digits words (record { reading = Whole; count = count })
     unfolding when-given
-    answers-whole os h e = record {
+    answers-whole e = record {
       reading = rw e;
       few = omega (arith, so .few, so .within);
-      same = λ ls g. so .same os h ∙ ap (λ (x : List Link). edges os (constraints x)) (given-same (sym e ∙ g));
+      same = λ os h ls g. so .same os h ∙ ap (λ (x : List Link). edges os (constraints x)) (given-same (sym e ∙ g));
     }
 
 -- A refusal.
-pub answers-refused : (os : List Operation) (n r : ℕ) (bytes words : List ℕ) (k : Refusal) → outcome (last-links n r) bytes ≡ refused (number k) → LinksReads bytes n r os words (record { reading = Refused k; count = 0 })
+pub answers-refused : (n r : ℕ) (bytes digits words : List ℕ) (k : Refusal) → outcome (last-links n r) bytes ≡ refused (number k) → LinksReads bytes n r digits words (record { reading = Refused k; count = 0 })
 unfolding when-given
-answers-refused os n r bytes words k e = record {
+answers-refused n r bytes digits words k e = record {
   reading = rw e;
   few = omega arith;
-  same = λ ls g. absurd (given-not-refused (sym g ∙ e));
+  same = λ os h ls g. absurd (given-not-refused (sym g ∙ e));
 }

@@ -10,11 +10,12 @@ use Rattle.definitions.specs.declared.Link.{Link}
 use Rattle.definitions.specs.declared.Operation.{Operation}
 use Rattle.edges.specs.Words.{graph}
 use Rattle.fields.specs.Parts.{outcome}
+use Rattle.operation_records.specs.Leaving.{Leaves}
 use Rattle.link_records.specs.Parts.{last-links}
 use Rattle.link_records.specs.declared.LinksRead.{LinksRead}
 
--- The reading is that of r link records which are the whole of the bytes s; the first words stand for their edges, where the operations are os. What the words hold beside a refusal is not said.
-pub record LinksReads (s : List ℕ) (n r : ℕ) (os : List Operation) (words : List ℕ) (q : LinksRead) : Type 0 where
+-- The reading is that of r link records which are the whole of the bytes s; the first words stand for their edges, for all n operations that add these digits. What the words hold beside a refusal is not said.
+pub record LinksReads (s : List ℕ) (n r : ℕ) (digits words : List ℕ) (q : LinksRead) : Type 0 where
   pub reading : reading-of {A = Unit {0}} (q .reading) tt ≡ when-given (outcome (last-links n r) s) (λ ls. given tt)
   pub few : q .count ≤ 4 * r
-  pub same : (ls : List Link) → outcome (last-links n r) s ≡ given ls → graph (take (q .count) words) ≡ edges os (constraints ls)
+  pub same : (os : List Operation) → Leaves os n digits → (ls : List Link) → outcome (last-links n r) s ≡ given ls → graph (take (q .count) words) ≡ edges os (constraints ls)

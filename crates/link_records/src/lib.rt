@@ -1,9 +1,8 @@
 // The link records of a sheet, read one by one; the edges of each are written as words.
 ghost use Prim.Native.Nat.{_*_, _≤_};
-ghost use lib.ListN.{length, take};
+ghost use lib.ListN.{length};
 ghost use mathlib.Core.Path.{_≡_};
 ghost use Rattle.link_records.specs.Answers.{LinksReads};
-use definitions::Operation;
 use definitions::Reading;
 use definitions::Refusal;
 use link_record::PairRead;
@@ -21,18 +20,17 @@ fn index(x: u8) -> usize
     x as usize
 }
 
-// The r link records, which are the whole of this part of the bytes, of a sheet with these n operations. Their edges are written from the front of the words on.
+// The r link records, which are the whole of this part of the bytes, of a sheet whose n steps add these digits. Their edges are written from the front of the words on.
 pub fn read_links(
     part: &[u8],
     n: usize,
     r: usize,
-    operations: [Operation; 64],
+    digits: &[u32; 64],
     words: &mut [u64],
 ) -> LinksRead
     requires { ⌜ (n ≤ 64) × (4 * r ≤ length (now words)) ⌝ }
-    ensures { λ q. ⌜ LinksReads (now (part .entry)) n r (take n operations) (now (words .exit)) q ⌝ }
+    ensures { λ q. ⌜ LinksReads (now (part .entry)) n r (now (digits .entry)) (now (words .exit)) q ⌝ }
 {
-    let digits = links::leaving_digits(operations, n);
     let mut last = 0;
     let mut next = 0;
     let mut count = 0;

@@ -2,11 +2,7 @@
 use mathlib.Core.Path.{_≡_, refl, sym, ap, _∙_}
 use mathlib.Core.Bool.{Bool, true, false}
 use mathlib.Core.List.{List, [], _∷_, _++_, append-assoc, append-nil, map-append, flatMap}
-use Prim.Native.Nat.{ℕ, zero, suc, _<_}
-use native.Mathlib.Omega.{arith}
-use lib.ListN.{length, take, getD}
-use lib.Seq.{getD-take}
-use Rattle.definitions.specs.Bytes.{blank-operation}
+use Prim.Native.Nat.{ℕ}
 use Rattle.definitions.specs.Links.{Edge, Constraint, sequencing-of, minimum-of, maximum-of, finish-maximum-of, link-constraints, constraints, delay-at, edge-of, edges}
 use Rattle.definitions.specs.declared.Operation.{Operation}
 use Rattle.definitions.specs.declared.Bound.{Bound}
@@ -63,13 +59,3 @@ constraints-more s l = flatMap-append link-constraints s (l ∷ []) ∙ ap (λ (
 
 pub edges-more : (os : List Operation) (s : List Link) (l : Link) → edges os (constraints (s ++ l ∷ [])) ≡ edges os (constraints s) ++ link-edges (delay-at os (l .from)) l
 edges-more os s l = ap (edges os) (constraints-more s l) ∙ edges-append os (constraints s) (link-constraints l) ∙ ap (λ (r : List Edge). edges os (constraints s) ++ r) (link-map os l)
-
--- The delay of an operation among the first n, read from the array that holds them.
-getD-any : (os : List Operation) (i : ℕ) (d e : Operation) → i < length os → getD os i d ≡ getD os i e
-getD-any [] i d e h = absurd (omega arith)
-getD-any (x ∷ os) zero d e h = refl
-getD-any (x ∷ os) (suc i) d e h = getD-any os i d e (omega arith)
-
-pub delay-found : (os : List Operation) (n i : ℕ) (e : Operation) → i < n → i < length os → delay-at (take n os) i ≡ getD os i e .delay
-unfolding delay-at
-delay-found os n i e b h = ap (λ (o : Operation). o .delay) (getD-take n os i blank-operation b ∙ getD-any os i blank-operation e h)

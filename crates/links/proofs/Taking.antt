@@ -1,42 +1,25 @@
 -- Fields that are read and pushed, one behind the other: what a record's fields make together.
 use mathlib.Core.Path.{_≡_, _∙_}
 use mathlib.Core.Bool.{Bool, true, false}
-use mathlib.Core.Logic.{inl, inr}
 use mathlib.Core.List.{List, [], _∷_}
 use Prim.Native.Nat.{ℕ, _+_, _≤_, _<_}
-use native.Mathlib.Omega.{arith}
 use lib.ListN.{length, drop, set}
-use lib.Seq.{getD-set-same, getD-set-other}
 use Rattle.definitions.specs.Basics.{test-bit, refused}
 use Rattle.definitions.specs.Bytes.{two-bytes}
-use Rattle.definitions.specs.Links.{Edge, delay-at}
+use Rattle.definitions.specs.Links.{Edge}
 use Rattle.definitions.specs.declared.Bound.{Bound}
 use Rattle.definitions.specs.declared.Bound.the-variants.{Absent, Ticks}
 use Rattle.definitions.specs.declared.Delay.{Delay}
-use Rattle.definitions.specs.declared.Operation.{Operation}
 use Rattle.edges.specs.Words.{unpack}
 use Rattle.fields.specs.Parts.{bound}
 use Rattle.fields.specs.Answers.{item-at}
 use Rattle.fields.proofs.Parts.{bound-there, bound-refused, bound-absent}
-use Rattle.laws.proofs.Bools.{same-or-not}
 use Rattle.link_record.specs.Parts.{link-fields}
 use Rattle.link_record.proofs.Parts.{latest-there, latest-refused, fields-there}
-use Rattle.links.specs.Pushes.{leaving, Leaves, sequencing-edges, minimum-edges, maximum-edges, finish-edges, link-edges, Pushed, Took, Pushes}
+use Rattle.links.specs.Pushes.{sequencing-edges, minimum-edges, maximum-edges, finish-edges, link-edges, Pushed, Took, Pushes}
 use Rattle.links.specs.declared.FieldsRead.{FieldsRead}
 use Rattle.links.specs.declared.FieldsRead.the-variants.{Item, Refused}
 use Rattle.links.proofs.Pushing.{push-none, push-one, push-both, push-under}
-
--- A step more whose digits are written.
-pub leaves-none : (os : List Operation) (digits : List ℕ) → Leaves os 0 digits
-leaves-none os digits = record { each = λ i h. absurd (omega arith) }
-
-pub leaves-more : (os : List Operation) (i d : ℕ) (digits : List ℕ) → Leaves os i digits → i < length digits → d ≡ leaving (delay-at os i) i → Leaves os (i + 1) (set digits i d)
-leaves-more os i d digits so h e = record {
-  each = λ k b. elim (same-or-not k i) [
-    | inl same ↦ rw same (getD-set-same digits i d 0 h ∙ e)
-    | inr other ↦ getD-set-other digits i k d 0 other ∙ so .each k (omega arith)
-  ];
-}
 
 -- A field that is not there has no edge; one that is there has one; or its number is cut off.
 module _ (H : Type 0) (es : Bound → List Edge) (present : Bool) (s : List ℕ) (at : ℕ) where

@@ -9,7 +9,7 @@ use Rattle.definitions.specs.declared.Delay.{Delay}
 use Rattle.definitions.specs.declared.Delay.the-variants.{Open, Fixed}
 use Rattle.edges.specs.Words.{edge, unpack}
 use Rattle.edges.proofs.Digits.{same-edge, unpack-word}
-use Rattle.links.specs.Pushes.{leaving}
+use Rattle.operation_records.specs.Leaving.{leaving}
 
 -- An after link: what is added are the digits of the mark and of the gain.
 pub sequencing-unpacked : (d : Delay) (i j digits w : ℕ) → i < 64 → j < 64 → digits < 4294967296 → digits ≡ leaving d i → w ≡ i + j * 64 + digits → unpack w ≡ sequencing-edge d i j

@@ -1,17 +1,14 @@
 -- What the functions that write edge words are said with: the edges of one link record, a list of words with more edges behind its first ones, and the fields that were read for them.
 use mathlib.Core.Path.{_≡_}
-use mathlib.Core.Bool.{Bool, true, false, cond}
+use mathlib.Core.Bool.{Bool, true, false}
 use mathlib.Core.List.{List, [], _∷_, _++_}
-use Prim.Native.Nat.{ℕ, _+_, _*_, _≤_, _<_}
-use lib.Dec.{eqb}
-use lib.ListN.{length, take, drop, getD}
+use Prim.Native.Nat.{ℕ, _+_, _≤_}
+use lib.ListN.{length, take, drop}
 use Rattle.definitions.specs.Basics.{refused}
 use Rattle.definitions.specs.Numbers.{number}
 use Rattle.definitions.specs.Bytes.{Parser}
-use Rattle.definitions.specs.Links.{Edge, delay-at, sequencing-edge, finish-edge}
+use Rattle.definitions.specs.Links.{Edge, sequencing-edge, finish-edge}
 use Rattle.definitions.specs.declared.Delay.{Delay}
-use Rattle.definitions.specs.declared.Delay.the-variants.{Open, Fixed}
-use Rattle.definitions.specs.declared.Operation.{Operation}
 use Rattle.definitions.specs.declared.Bound.{Bound}
 use Rattle.definitions.specs.declared.Bound.the-variants.{Absent, Ticks}
 use Rattle.definitions.specs.declared.Link.{Link}
@@ -45,15 +42,6 @@ pub record Pushed (H : Type 0) (es : List Edge) (words words′ : List ℕ) (c c
   pub long : length words′ ≡ length words
   pub counts : c′ ≡ c + length es
   pub same : H → graph (take c′ words′) ≡ graph (take c words) ++ es
-
--- What step i adds, where its delay is d, to the word of an after link that leaves it: the mark where it is open and not step 0, its ticks as gain where it is fixed.
-unfoldable pub leaving : Delay → ℕ → ℕ
-leaving (Fixed ticks) i = ticks * 16384
-leaving Open i = cond (eqb i 0) 0 4096
-
--- What each of n steps adds.
-pub record Leaves (os : List Operation) (n : ℕ) (digits : List ℕ) : Type 0 where
-  pub each : (i : ℕ) → i < n → getD digits i 0 ≡ leaving (delay-at os i) i
 
 -- The parser p takes a value from the place `at` of the bytes s up to the place `next`, and its edges are pushed.
 pub record Took {A : Type 0} (H : Type 0) (p : Parser A) (es : A → List Edge) (s : List ℕ) (at : ℕ) (words words′ : List ℕ) (c next c′ : ℕ) : Type 0 where

@@ -1,19 +1,18 @@
 // The fields of a link record, turned into its edges as they are read. The edges are held as words.
-use definitions::Delay;
-use definitions::Operation;
 use definitions::Refusal;
 use fields::NumberRead;
 ghost use mathlib.Core.Path.{_≡_};
 ghost use mathlib.Core.Bool.{true, false};
-ghost use Prim.Native.Nat.{_+_, _*_, _<_, _≤_};
-ghost use lib.ListN.{length, take};
+ghost use Prim.Native.Nat.{_+_, _<_, _≤_};
+ghost use lib.ListN.{length};
 ghost use Rattle.definitions.specs.Basics.{test-bit};
 ghost use Rattle.definitions.specs.Links.{sequencing-edge, finish-edge};
 ghost use Rattle.definitions.specs.declared.Delay.{Delay};
 ghost use Rattle.edges.specs.Words.{edge, unpack, Fit};
 ghost use Rattle.fields.specs.Parts.{bound};
 ghost use Rattle.link_record.specs.Parts.{link-fields};
-ghost use Rattle.links.specs.Pushes.{leaving, Leaves, sequencing-edges, minimum-edges, maximum-edges, finish-edges, link-edges, Pushed, Pushes};
+ghost use Rattle.operation_records.specs.Leaving.{leaving};
+ghost use Rattle.links.specs.Pushes.{sequencing-edges, minimum-edges, maximum-edges, finish-edges, link-edges, Pushed, Pushes};
 
 // The place after the fields that were read, and the count of words after their edges; or the fault met there.
 pub enum FieldsRead {
@@ -37,39 +36,6 @@ fn digits_of(x: u32) -> u64
     ensures { λ r. ⌜ (r ≡ x) × (r < 4294967296) ⌝ }
 {
     x as u64
-}
-
-fn fixed_digits(x: u16) -> u32
-    ensures { λ r. ⌜ r ≡ x * 16384 ⌝ }
-{
-    (x as u32) * 16384
-}
-
-// What step i, with this delay, adds to the words of the after links that leave it.
-fn leaving_of(delay: Delay, i: usize) -> u32
-    ensures { λ r. ⌜ r ≡ leaving delay i ⌝ }
-{
-    match delay {
-        Delay::Open => { if i == 0 { 0 } else { 4096 } }
-        Delay::Fixed(ticks) => fixed_digits(ticks),
-    }
-}
-
-// What each of the n steps adds to the words of the after links that leave it.
-pub fn leaving_digits(operations: [Operation; 64], n: usize) -> [u32; 64]
-    requires { ⌜ n ≤ 64 ⌝ }
-    ensures { λ r. ⌜ Leaves (take n operations) n r ⌝ }
-{
-    let mut found = [0u32; 64];
-    let mut i = 0;
-    while i < n {
-        let operation = operations[i];
-        let delay = operation.delay;
-        let digits = leaving_of(delay, i);
-        found[i] = digits;
-        i += 1;
-    }
-    found
 }
 
 // The words of an after, an at-least and an at-most link on (from, to), and of one at most from the finish; `digits` are what `from` adds.

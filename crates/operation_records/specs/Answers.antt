@@ -1,15 +1,15 @@
 -- What is answered about step records: one of them, or a row of them.
 use mathlib.Core.Path.{_≡_}
 use mathlib.Core.List.{List}
-use Prim.Native.Nat.{ℕ, _≤_}
-use lib.ListN.{length, take, drop}
-use Rattle.definitions.specs.Basics.{Outcome, refused}
+use Prim.Native.Nat.{ℕ, _≤_, _<_}
+use lib.ListN.{length, drop}
+use Rattle.definitions.specs.Basics.{Outcome, refused, test-bit}
 use Rattle.definitions.specs.Numbers.{number}
-use Rattle.definitions.specs.Bytes.{Taken, Parser, operations, blank-operation}
+use Rattle.definitions.specs.Bytes.{Taken, Parser, operations}
 use Rattle.definitions.specs.declared.Operation.{Operation}
-use Rattle.fields.specs.Answers.{item-at, Reads, Row}
+use Rattle.fields.specs.Answers.{item-at, Reads}
+use Rattle.operation_records.specs.Leaving.{Leaves, unbounded-at}
 use Rattle.operation_records.specs.declared.OperationRead.{OperationRead}
-use Rattle.operation_records.specs.declared.OperationsRead.{OperationsRead}
 use Rattle.operation_records.specs.declared.Place.{Place}
 use Rattle.operation_records.specs.declared.OperationRead.the-variants as Operations
 use Rattle.operation_records.specs.declared.Place.the-variants as Places
@@ -26,17 +26,21 @@ operation-end (Operations.Refused k) = 0
 abbrev pub OperationReads : List ℕ → ℕ → Parser Operation → OperationRead → Type 0
 OperationReads s at p r = Reads s at p (operation-read s r) (operation-end r)
 
--- What stands beside a place: a row of records that ends there.
-abbrev pub row-read : {A : Type 0} → List ℕ → List A → Place → Outcome (Taken (List A))
-row-read s xs (Places.At next) = item-at s xs next
-row-read s xs (Places.Refused k) = refused (number k)
-
+-- Where a row ends; 0 beside a refusal.
 abbrev pub place-end : Place → ℕ
 place-end (Places.At next) = next
 place-end (Places.Refused k) = 0
 
--- The n step records from the place `at` on, which end within the bytes; the array holds them, and blank ones behind them. Beside a refusal the first n entries are free.
-pub record OperationsReads (s : List ℕ) (at n : ℕ) (r : OperationsRead) : Type 0 where
-  pub same : row-read s (take n (r .operations)) (r .place) ≡ operations n (drop at s)
-  pub inside : place-end (r .place) ≤ length s
-  pub row : Row 64 blank-operation n (r .operations)
+-- The n step records from the place `at` on, which end within the bytes before the place `next`, what each of these steps adds, and the map of those that are open.
+pub record Stepped (s : List ℕ) (at n : ℕ) (digits : List ℕ) (unbounded next : ℕ) : Type 0 where
+  pub steps : List Operation
+  pub same : operations n (drop at s) ≡ item-at s steps next
+  pub inside : next ≤ length s
+  pub count : length steps ≡ n
+  pub leaves : Leaves steps n digits
+  pub opens : (i : ℕ) → i < n → test-bit unbounded i ≡ unbounded-at steps i
+
+-- The steps are read, or the first fault is met. What the digits and the map are beside a refusal is not said.
+abbrev pub OperationsReads : List ℕ → ℕ → ℕ → List ℕ → ℕ → Place → Type 0
+OperationsReads s at n digits unbounded (Places.At next) = Stepped s at n digits unbounded next
+OperationsReads s at n digits unbounded (Places.Refused k) = operations n (drop at s) ≡ refused (number k)

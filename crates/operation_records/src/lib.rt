@@ -1,9 +1,10 @@
-// The step records of a sheet, read into an array.
+// The step records of a sheet, read one by one; what each step adds to the words of the after links that leave it is written, and the open steps are gathered in a map.
 ghost use mathlib.Core.Path.{_≡_};
-ghost use Prim.Native.Nat.{_≤_};
+ghost use Prim.Native.Nat.{_*_, _≤_};
 ghost use lib.ListN.{length};
-ghost use Rattle.definitions.specs.Bytes.{blank-operation, operation};
+ghost use Rattle.definitions.specs.Bytes.{operation};
 ghost use Rattle.operation_records.specs.Parts.{fixed};
+ghost use Rattle.operation_records.specs.Leaving.{leaving};
 ghost use Rattle.operation_records.specs.Answers.{OperationReads, OperationsReads};
 use definitions::Delay;
 use definitions::Operation;
@@ -16,23 +17,16 @@ enum OperationRead {
     Refused(Refusal),
 }
 
-// Where a row of records ends; or the first fault in it. The records stand beside it, and blank ones behind them.
+// Where a row of records ends; or the first fault in it.
 pub enum Place {
     At(usize),
     Refused(Refusal),
 }
 
-pub struct OperationsRead {
+// Where the step records end, or the first fault in them; and the map of the open steps other than 0. What the map is beside a fault is not said.
+pub struct Steps {
     pub place: Place,
-    pub operations: [Operation; 64],
-}
-
-// What stands in the array where no step does.
-fn blank_operation() -> Operation
-    ensures { λ r. ⌜ r ≡ blank-operation ⌝ }
-{
-    let delay = Delay::Fixed(0);
-    Operation { delay: delay }
+    pub unbounded: u64,
 }
 
 // The duration of a step that lasts a fixed number of ticks.
@@ -85,34 +79,52 @@ fn read_operation(s: &[u8], at: usize, first: bool) -> OperationRead
     }
 }
 
-// The n step records from a place on.
-pub fn read_operations(s: &[u8], at: usize, n: usize) -> OperationsRead
-    requires { ⌜ (at ≤ length (now s)) × (n ≤ 64) ⌝ }
-    ensures { λ r. ⌜ OperationsReads (now (s .entry)) at n r ⌝ }
+fn fixed_digits(x: u16) -> u32
+    ensures { λ r. ⌜ r ≡ x * 16384 ⌝ }
 {
-    let blank = blank_operation();
-    let mut operations = [blank; 64];
+    (x as u32) * 16384
+}
+
+// What step i, with this delay, adds to the words of the after links that leave it.
+fn leaving_of(delay: Delay, i: usize) -> u32
+    ensures { λ r. ⌜ r ≡ leaving delay i ⌝ }
+{
+    match delay {
+        Delay::Open => { if i == 0 { 0 } else { 4096 } }
+        Delay::Fixed(ticks) => fixed_digits(ticks),
+    }
+}
+
+// The n step records from a place on, and what each of these steps adds to the words of the after links that leave it. Those that add the mark alone, which are the open steps other than 0, are put into the map.
+pub fn read_operations(s: &[u8], at: usize, n: usize, digits: &mut [u32; 64]) -> Steps
+    requires { ⌜ (at ≤ length (now s)) × (n ≤ 64) × (length (now digits) ≡ 64) ⌝ }
+    ensures { λ r. ⌜ OperationsReads (now (s .entry)) at n (now (digits .exit)) (r .unbounded) (r .place) ⌝ }
+{
+    let mut unbounded = 0;
     let mut first = true;
     let mut next = at;
     let mut i = 0;
     while i < n {
         match read_operation(s, next, first) {
             OperationRead::Item(o, after) => {
-                operations[i] = o;
+                let delay = o.delay;
+                let d = leaving_of(delay, i);
+                digits[i] = d;
+                unbounded = bitmaps::insert_if(unbounded, i, d == 4096);
                 first = false;
                 next = after;
                 i += 1;
             }
             OperationRead::Refused(k) => {
-                return OperationsRead {
+                return Steps {
                     place: Place::Refused(k),
-                    operations: operations,
+                    unbounded: unbounded,
                 };
             }
         }
     }
-    OperationsRead {
+    Steps {
         place: Place::At(next),
-        operations: operations,
+        unbounded: unbounded,
     }
 }

@@ -22,14 +22,14 @@ use Rattle.edges.specs.Words.{graph}
 use Rattle.reader.specs.Answers.{Holds, Reports}
 use Rattle.reader.specs.declared.Report.{Report}
 use Rattle.reader.proofs.Reports.{Found, report-given}
-use Rattle.delays.specs.Delays.{unbounded-at}
+use Rattle.operation_records.specs.Leaving.{unbounded-at}
 use Rattle.theory.specs.Graphs.{Gains, Shape}
 use Rattle.analysis.specs.declared.Analysis.{Analysis}
 use Rattle.planner.specs.declared.WaitMaps.{WaitMaps}
 use Rattle.analysis.specs.Analysis.{Analysed}
 use Rattle.planning.specs.Outcomes.{plan-outcome, starts-outcome}
 use Rattle.planner.specs.Answers.{Lists}
-use Rattle.planner.proofs.Held.{by-held, held-gains, held-shape, held-steps}
+use Rattle.planner.proofs.Held.{by-held, held-gains, held-shape}
 use Rattle.planning.proofs.Writing.{Answered}
 
 -- The elements of a list of bytes are below 256, from each place.
@@ -82,20 +82,20 @@ module _ {q : Records} {words : List ℕ} {report : Report} (fits : Fits q) (hol
     unfolding plan-outcome plan-verdict judge-records serialized-of
     plan-records table after a = a
 
-    pub sheet-planned : (table : List ℕ) {after : List ℕ} → (Shape (report .n) (members word-edges) → Gains (members word-edges) 65535 → Answered (plan-outcome (report .n) word-edges allow table) (plan-table (report .n) (serialized (report .n) word-edges)) table r after) → Answered (plan-verdict q allow table) (plan-table (count-of q) (serialized-of q)) table r after
+    pub sheet-planned : (table : List ℕ) {after : List ℕ} → (Gains (members word-edges) 65535 → Answered (plan-outcome (report .n) word-edges allow table) (plan-table (report .n) (serialized (report .n) word-edges)) table r after) → Answered (plan-verdict q allow table) (plan-table (count-of q) (serialized-of q)) table r after
     sheet-planned table {after} answer =
         plan-records table after
-        (by-held fits holds (λ n g. Answered (plan-outcome n g allow table) (plan-table n (serialized n g)) table r after) (answer (held-shape fits holds) (held-gains fits holds)))
+        (by-held fits holds (λ n g. Answered (plan-outcome n g allow table) (plan-table n (serialized n g)) table r after) (answer (held-gains fits holds)))
 
     starts-records : (list out after : List ℕ) → Answered (starts-outcome (count-of q) (edges-of q) allow (q .steps) list out) (start-times (count-of q) (serialized (count-of q) (edges-of q)) (delays list)) out r after → Answered (starts-verdict q allow list out) (start-times (count-of q) (serialized-of q) (delays list)) out r after
     unfolding starts-outcome starts-verdict judge-records serialized-of
     starts-records list out after a = a
 
-    pub sheet-started : (unbounded : ℕ) (list out : List ℕ) {after : List ℕ} → ((i : ℕ) → test-bit unbounded i ≡ unbounded-at (take (report .n) (report .operations)) i) → (Shape (report .n) (members word-edges) → Gains (members word-edges) 65535 → (os : List Operation) → length os ≡ report .n → ((i : ℕ) → i < report .n → test-bit unbounded i ≡ unbounded-at os i) → Answered (starts-outcome (report .n) word-edges allow os list out) (start-times (report .n) (serialized (report .n) word-edges) (delays list)) out r after) → Answered (starts-verdict q allow list out) (start-times (count-of q) (serialized-of q) (delays list)) out r after
-    sheet-started unbounded list out {after} map answer =
+    pub sheet-started : (list out : List ℕ) {after : List ℕ} → (Gains (members word-edges) 65535 → (os : List Operation) → length os ≡ report .n → ((i : ℕ) → i < report .n → test-bit (report .unbounded) i ≡ unbounded-at os i) → Answered (starts-outcome (report .n) word-edges allow os list out) (start-times (report .n) (serialized (report .n) word-edges) (delays list)) out r after) → Answered (starts-verdict q allow list out) (start-times (count-of q) (serialized-of q) (delays list)) out r after
+    sheet-started list out {after} answer =
         starts-records list out after
         (by-held fits holds (λ n g. Answered (starts-outcome n g allow (q .steps) list out) (start-times n (serialized n g) (delays list)) out r after)
-        (answer (held-shape fits holds) (held-gains fits holds) (q .steps) (sym (holds .n)) (λ i b. map i ∙ ap (λ (os : List Operation). unbounded-at os i) (held-steps fits holds))))
+        (answer (held-gains fits holds) (q .steps) (sym (holds .n)) (holds .opens)))
 
 -- The waits of the analysis, by whether it accepts.
 waits-when-lists : (q : Records) (found : Analysis) (o : Outcome ℕ) → judge-edges (count-of q) (edges-of q) true ≡ o → Analysed (count-of q) (edges-of q) true found → Lists (waits-when q o) (record { verdict = found .verdict; maps = found .maps; count = found .count })

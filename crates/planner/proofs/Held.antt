@@ -1,14 +1,12 @@
 -- A sheet as the reader holds it, and what its bytes are answered from.
-use mathlib.Core.Path.{_≡_, refl, sym, ap, subst, _∙_}
+use mathlib.Core.Path.{sym, subst}
 use mathlib.Core.List.{List}
 use Prim.Native.Nat.{ℕ, _≤_}
 use native.Mathlib.Omega.{arith}
 use lib.ListN.{length, take, length-take}
-use lib.Seq.{take-at}
 use Rattle.definitions.specs.Answers.{count-of, edges-of}
-use Rattle.definitions.specs.Bytes.{Records, padded}
+use Rattle.definitions.specs.Bytes.{Records}
 use Rattle.definitions.specs.Links.{Edge, members}
-use Rattle.definitions.specs.declared.Operation.{Operation}
 use Rattle.demands.proofs.Edges.{sheet-gains, sheet-shape}
 use Rattle.demands.proofs.Reading.{Fits}
 use Rattle.edges.specs.Words.{graph}
@@ -16,18 +14,10 @@ use Rattle.reader.specs.Answers.{Holds}
 use Rattle.reader.specs.declared.Report.{Report}
 use Rattle.theory.specs.Graphs.{Gains, Shape}
 
-take-padded : {A : Type 0} (size : ℕ) (x : A) (xs : List A) → take (length xs) (padded size x xs) ≡ xs
-unfolding padded
-take-padded size x xs = take-at xs _ (length xs) refl
-
 module _ {q : Records} {words : List ℕ} {report : Report} (fits : Fits q) (holds : Holds q words report) where
   -- Its number of steps and that of its words are within their limits.
   pub held-within : (1 ≤ report .n) × (report .n ≤ 64) × (length (take (report .count) words) ≤ 2048)
   held-within = (omega (arith, holds .n, fits .some), omega (arith, holds .n, fits .few), omega (arith, holds .few, length-take (report .count) words))
-
-  -- Its array begins with its steps.
-  pub held-steps : take (report .n) (report .operations) ≡ q .steps
-  held-steps = ap (λ (n : ℕ). take n (report .operations)) (holds .n) ∙ ap (λ (os : List Operation). take (count-of q) os) (holds .operations) ∙ take-padded 64 _ (q .steps)
 
   -- What holds of its steps and edges holds of the words, and the other way round.
   held-by : (P : ℕ → List Edge → Type 0) → P (count-of q) (edges-of q) → P (report .n) (graph (take (report .count) words))

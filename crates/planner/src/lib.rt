@@ -91,11 +91,9 @@ fn starts_with(s: &[u8], allow: bool, list: &[u32], out: &mut [u32], words: &mut
     match reading {
         Reading::Refused(k) => Verdict::Refused(k),
         Reading::Whole => {
-            let n = report.n;
             let count = report.count;
-            let operations = report.operations;
-            let unbounded = delays::unbounded_map(operations, n);
-            starts_edges(&words[..count], n, allow, unbounded, list, out)
+            let unbounded = report.unbounded;
+            starts_edges(&words[..count], report.n, allow, unbounded, list, out)
         }
     }
 }
@@ -106,8 +104,8 @@ fn starts_with(s: &[u8], allow: bool, list: &[u32], out: &mut [u32], words: &mut
 pub fn judge(s: &[u8], allow: bool) -> Verdict
     ensures { λ r. ⌜ verdict-of r ≡ judged (now (s .entry)) allow ⌝ }
 {
-    if reader::is_brief(s, 64) {
-        let mut words = [0u64; 256];
+    if reader::is_brief(s, 32) {
+        let mut words = [0u64; 128];
         return judge_with(s, allow, &mut words);
     }
     if reader::is_brief(s, 128) {
@@ -122,8 +120,8 @@ pub fn judge(s: &[u8], allow: bool) -> Verdict
 pub fn waits(s: &[u8]) -> WaitMaps
     ensures { λ r. ⌜ Lists (waits-answer (now (s .entry))) r ⌝ }
 {
-    if reader::is_brief(s, 64) {
-        let mut words = [0u64; 256];
+    if reader::is_brief(s, 32) {
+        let mut words = [0u64; 128];
         return waits_with(s, &mut words);
     }
     if reader::is_brief(s, 128) {
@@ -138,8 +136,8 @@ pub fn waits(s: &[u8]) -> WaitMaps
 pub fn plan(s: &[u8], allow: bool, table: &mut [u32]) -> Verdict
     ensures { λ r. ⌜ (verdict-of r ≡ planned (now (s .entry)) allow (now (table .entry)) .verdict) × (now (table .exit) ≡ planned (now (s .entry)) allow (now (table .entry)) .numbers) ⌝ }
 {
-    if reader::is_brief(s, 64) {
-        let mut words = [0u64; 256];
+    if reader::is_brief(s, 32) {
+        let mut words = [0u64; 128];
         return plan_with(s, allow, table, &mut words);
     }
     if reader::is_brief(s, 128) {
@@ -154,8 +152,8 @@ pub fn plan(s: &[u8], allow: bool, table: &mut [u32]) -> Verdict
 pub fn starts(s: &[u8], allow: bool, list: &[u32], out: &mut [u32]) -> Verdict
     ensures { λ r. ⌜ (verdict-of r ≡ starts-answer (now (s .entry)) allow (now (list .entry)) (now (out .entry)) .verdict) × (now (out .exit) ≡ starts-answer (now (s .entry)) allow (now (list .entry)) (now (out .entry)) .numbers) ⌝ }
 {
-    if reader::is_brief(s, 64) {
-        let mut words = [0u64; 256];
+    if reader::is_brief(s, 32) {
+        let mut words = [0u64; 128];
         return starts_with(s, allow, list, out, &mut words);
     }
     if reader::is_brief(s, 128) {

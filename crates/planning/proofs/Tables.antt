@@ -1,21 +1,24 @@
 -- From what the analysis found of accepted edges to the tables that plans and start times are made from.
-use mathlib.Core.Path.{_≡_, ap, _∙_}
-use mathlib.Core.Bool.{Bool, true, _&&_, _||_}
+use mathlib.Core.Path.{_≡_, refl, ap, _∙_}
+use mathlib.Core.Bool.{Bool, true, false, _&&_, _||_, and-true}
 use mathlib.Core.Logic.{_⊎_, inl, inr}
 use mathlib.Core.List.{List, _++_}
 use Prim.Native.Nat.{ℕ, _<_, _≤_}
 use native.Mathlib.Omega.{arith}
 use lib.Dec.{eqb, ltb}
+use lib.ListN.{getD}
 use borrow.Author.Tests.{eq-eqb, eqb-true, lt-ltb, ltb-true}
 use Rattle.definitions.specs.Anchors.{InAnchorSet, WellPosed, is-source, chain, in-anchor-set}
 use Rattle.definitions.specs.Links.{Edge, members, usable}
 use Rattle.definitions.specs.Plan.{offset-row}
 use Rattle.definitions.specs.Rounds.{after-reaches, cell}
 use Rattle.definitions.specs.Waits.{serialized}
-use Rattle.edges.specs.Serial.{wait-edges}
+use Rattle.edges.specs.Serial.{Within, wait-edges}
+use Rattle.edges.specs.Words.{EndsBelow, graph, unpack}
+use Rattle.edges.proofs.Places.{graph-at}
 use Rattle.laws.proofs.Bools.{and-join, and-split, or-left, or-right, or-split, same-test}
 use Rattle.relations.specs.Rows.{row-bit}
-use Rattle.heaviest.specs.Settling.{Supported, Within}
+use Rattle.heaviest.specs.Settling.{Supported}
 use Rattle.irredundant.specs.Working.{Holds}
 use Rattle.serializing.proofs.Trying.{Offsets, walks-offsets}
 use Rattle.theory.specs.Graphs.{Serializable, Shape, Well}
@@ -56,7 +59,7 @@ module _ {n : ℕ} {g : List Edge} (well : Well n (members g)) (serial : Seriali
 
 -- The tables hold the plan's walks and anchor sets: the edges with their waits are those of the sheet with its waits in, which can be scheduled and is well-posed. The members of an anchor are the steps
 -- that have an offset for it, so the table holds these.
-module _ {n : ℕ} {g : List Edge} {reach maps : List ℕ} (sets : List ℕ) (d : List (List ℕ)) (few : n ≤ 64) (p : Plannable n g reach maps) (cells : Within n maps → Offsets n (g ++ wait-edges n maps) sets d) (sets-are : (v a : ℕ) → v < n → row-bit sets v a ≡ (row-bit reach v a || eqb a 0)) where
+module _ {n : ℕ} {g : List Edge} {reach maps : List ℕ} (sets : List ℕ) (d : List (List ℕ)) (few : n ≤ 64) (p : Plannable n g reach maps) (cells : Within n maps → Offsets n (g ++ wait-edges n maps) sets d) (sets-are : (v a : ℕ) → v < n → row-bit sets v a ≡ ((row-bit reach v a || eqb a 0) && ltb a n)) where
   well : Well n (members (serialized n g))
   well = plan-well (p .well) (p .serial)
 
@@ -66,8 +69,13 @@ module _ {n : ℕ} {g : List Edge} {reach maps : List ℕ} (sets : List ℕ) (d 
   are-members : (a v : ℕ) → v < n → row-bit sets v a ≡ (ltb a n && in-anchor-set n (serialized n g) a v)
   are-members a v b =
       sets-are v a b
-      ∙ ap (λ (t : Bool). t || eqb a 0) (p .reaches .bits a v b)
-      ∙ member-reaches (p .well) (p .serial) a v
+      ∙ ap (λ (t : Bool). (t || eqb a 0) && ltb a n) (p .reaches .bits a v b)
+      ∙ ap (λ (t : Bool). t && ltb a n) (member-reaches (p .well) (p .serial) a v)
+      ∙ twice (ltb a n) (in-anchor-set n (serialized n g) a v)
+    where
+      twice : (s t : Bool) → ((s && t) && s) ≡ (s && t)
+      twice true t = and-true t
+      twice false t = refl
 
   supported : (a : ℕ) → a < n → Supported n (serialized n g) sets a
   supported a inside v b =
@@ -80,3 +88,7 @@ module _ {n : ℕ} {g : List Edge} {reach maps : List ℕ} (sets : List ℕ) (d 
   pub plannable-holds : Holds n (serialized n g) d sets
   plannable-holds =
       record { cells = λ a v inside b m. walks-offsets few (p .well .shape) (p .waits) sets d cells well posed (waited-gains (serialized-waited (p .well .shape)) (p .gains)) a inside (supported a inside) v b m; members = are-members }
+
+-- Edges within n steps end within as many rows.
+pub ends-within : {n : ℕ} (es : List ℕ) (rows : ℕ) → Shape n (members (graph es)) → n ≤ rows → EndsBelow es rows
+ends-within es rows shape few k b = omega (arith, shape .to-below (unpack (getD es k 0)) (graph-at es k b))

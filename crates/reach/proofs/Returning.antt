@@ -14,10 +14,11 @@ use Rattle.definitions.specs.Links.{Edge, Forward, UsableFrom, late-into, membe
 use Rattle.edges.specs.Words.{graph, unpack}
 use Rattle.edges.proofs.Places.{graph-at, graph-place}
 use Rattle.laws.proofs.Bools.{and-join, and-split, bool-cases, both-ways, not-passing}
+use Rattle.laws.proofs.Maps.{test-zero}
 use Rattle.relations.proofs.Gathering.{Made, made-no-row}
 use Rattle.theory.specs.Sweeps.{Leads}
 use Rattle.theory.proofs.Usables.{late-into-iff}
-use Rattle.reach.specs.Pushes.{Gives, Handed, HomeFrom, HomedAll, Joined, Returned, Settled, Stripped, Uncounted, Within, column}
+use Rattle.reach.specs.Pushes.{Gives, Handed, HomeFrom, HomedAll, Joined, Marked, Returned, Settled, Stripped, Uncounted, Within, column}
 use Rattle.reach.proofs.Passing.{gives-on}
 use Rattle.reach.proofs.Pushing.{edge-handed}
 
@@ -33,9 +34,14 @@ stripped-end sets rows k n b c M =
     let e : k ≡ n = omega arith in
     record { long = M .long; bits = λ a v. M .bits v a ∙ ap (λ (x : ℕ). ltb v x && stripped sets v a) e }
 
+-- Rows in which nothing is new are still so.
+pub stripped-still : (sets rows rows′ : List ℕ) (n k : ℕ) → length rows′ ≡ 64 → k ≡ 0 → Marked rows rows′ k → Stripped sets n rows → Stripped sets n rows′
+stripped-still sets rows rows′ n k long none marked S =
+    record { long = long; bits = λ a v. marked a v (ap (λ (x : ℕ). test-bit x v) none ∙ test-zero v) ∙ S .bits a v }
+
 -- One edge: a return hands on the anchors that may use it; another edge does nothing here.
 pub returned-by : (x : Edge) (rows rows′ : List ℕ) (k k′ h from to : ℕ) → from ≡ x .from → to ≡ x .to → x .back ≡ true → ((a : ℕ) → test-bit h a ≡ (test-bit (getD rows from 0) a && not (late-into a x))) → Joined to h rows rows′ k k′ → Returned x rows rows′ k k′
-returned-by x rows rows′ k k′ h from to starts ends back may J = record { long = J .long; hands = λ plain. record { long = J .long; each = λ a. each plain a } }
+returned-by x rows rows′ k k′ h from to starts ends back may J = record { long = J .long; marks = J .marks; marked = J .marked; hands = λ plain. record { long = J .long; each = λ a. each plain a } }
   where
     K : Joined (x .to) h rows rows′ k k′
     K = rw ends at J
@@ -57,7 +63,7 @@ returned-by x rows rows′ k k′ h from to starts ends back may J = record { lo
 
 pub returned-idle : (x : Edge) (rows : List ℕ) (k : ℕ) → length rows ≡ 64 → x .back ≡ false → Returned x rows rows k k
 returned-idle x rows k long ahead =
-    record { long = long; hands = λ plain. record { long = long; each = λ a. record { up = λ v q. q; hands = λ e f o t. absurd (both-ways (f .1 .0) (ap (λ (y : Edge). y .back) (f .0) ∙ ahead)); sound = λ t st holds below. below; marks = λ v q. q; marked = λ v q. refl } } }
+    record { long = long; marks = λ v q. q; marked = λ a v q. refl; hands = λ plain. record { long = long; each = λ a. record { up = λ v q. q; hands = λ e f o t. absurd (both-ways (f .1 .0) (ap (λ (y : Edge). y .back) (f .0) ∙ ahead)); sound = λ t st holds below. below; marks = λ v q. q; marked = λ v q. refl } } }
 
 -- The edges that have handed on after k words: the forward ones, and those of the words.
 pub record Early (es : List ℕ) (k : ℕ) (e : Edge) : Type 0 where
@@ -72,11 +78,12 @@ pub record Homing (a : ℕ) (es : List ℕ) (k : ℕ) (r s g : ℕ → Bool) : T
 
 pub record HomingAll (es : List ℕ) (rows rows′ : List ℕ) (marks k : ℕ) : Type 0 where
   pub long : length rows′ ≡ 64
+  pub marked : Marked rows rows′ marks
   pub each : Uncounted (members (graph es)) → (a : ℕ) → Homing a es k (column rows a) (column rows′ a) (test-bit marks)
 
 module _ (es rows₀ : List ℕ) where
   pub homing-start : length rows₀ ≡ 64 → HomingAll es rows₀ rows₀ 0 0
-  homing-start long = record { long = long; each = λ plain a. record { sound = λ t st below. below; covers = λ st e m early q k. st e (m, ahead e early) k } }
+  homing-start long = record { long = long; marked = λ a v q. refl; each = λ plain a. record { sound = λ t st below. below; covers = λ st e m early q k. st e (m, ahead e early) k } }
     where
       ahead : (e : Edge) → (e .back ≡ false) ⊎ Early es 0 e → e .back ≡ false
       ahead e (inl f) = f
@@ -119,9 +126,9 @@ module _ (es rows₀ : List ℕ) where
 
   pub homing-turn : (rows rows′ : List ℕ) (marks marks′ k : ℕ) → k < length es → HomingAll es rows₀ rows marks k → Returned (unpack (getD es k 0)) rows rows′ marks marks′ → HomingAll es rows₀ rows′ marks′ (k + 1)
   homing-turn rows rows′ marks marks′ k inside S R =
-      record { long = R .long; each = λ plain a. record { sound = homing-sound rows rows′ marks marks′ k inside S R plain a; covers = λ st e m i q gives. homing-covers rows rows′ marks marks′ k inside S R plain a st e m q gives i } }
+      record { long = R .long; marked = λ a v q. R .marked a v q ∙ S .marked a v (not-passing (test-bit marks v) (λ h. both-ways (R .marks v h) q)); each = λ plain a. record { sound = homing-sound rows rows′ marks marks′ k inside S R plain a; covers = λ st e m i q gives. homing-covers rows rows′ marks marks′ k inside S R plain a st e m q gives i } }
 
   -- Every edge is the edge of a word.
   pub homing-end : (rows : List ℕ) (marks k : ℕ) → length es ≤ k → HomingAll es rows₀ rows marks k → HomedAll (members (graph es)) rows₀ rows marks
   homing-end rows marks k all S =
-      record { long = S .long; each = λ plain a. record { sound = S .each plain a .sound; covers = λ st e m q gives. let p = graph-place es e (m .0) in S .each plain a .covers st e m (inr (record { place = p .0; before = omega (arith, p .1); same = sym (p .2) })) q gives } }
+      record { long = S .long; marked = S .marked; each = λ plain a. record { sound = S .each plain a .sound; covers = λ st e m q gives. let p = graph-place es e (m .0) in S .each plain a .covers st e m (inr (record { place = p .0; before = omega (arith, p .1); same = sym (p .2) })) q gives } }

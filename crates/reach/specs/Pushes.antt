@@ -81,9 +81,15 @@ HomeFrom a e = (e .back ≡ true) × (¬ LateInto e a)
 abbrev pub Uncounted : Graph → Type 0
 Uncounted E = (e : Edge) → E e → e .back ≡ true → e .counted ≡ false
 
+-- A row in which something is new has a mark.
+abbrev pub Marked : List ℕ → List ℕ → ℕ → Type 0
+Marked rows rows′ k = (a v : ℕ) → test-bit k v ≡ false → column rows′ a v ≡ column rows a v
+
 -- One edge handed on what its start has, where it is a return.
 pub record Returned (x : Edge) (rows rows′ : List ℕ) (k k′ : ℕ) : Type 0 where
   pub long : length rows′ ≡ 64
+  pub marks : Within (test-bit k) (test-bit k′)
+  pub marked : Marked rows rows′ k′
   pub hands : Uncounted (λ e. e ≡ x) → HandedAll (λ a e. (e ≡ x) × HomeFrom a e) (x .from) (getD rows (x .from) 0) rows rows′ k k′
 
 -- Every return handed on, on one column. Where the forward edges had handed on before, every edge has that leaves a step without a mark.
@@ -93,6 +99,7 @@ pub record Homed (a : ℕ) (E : Graph) (r s g : ℕ → Bool) : Type 0 where
 
 pub record HomedAll (E : Graph) (rows rows′ : List ℕ) (k : ℕ) : Type 0 where
   pub long : length rows′ ≡ 64
+  pub marked : Marked rows rows′ k
   pub each : Uncounted E → (a : ℕ) → Homed a (UsableFrom E a) (column rows a) (column rows′ a) (test-bit k)
 
 -- What `reach` gives. On the edges of a sheet of n steps, bit a of row v says whether a walk that begins with a counted edge out of a reaches v over the edges that it may use.

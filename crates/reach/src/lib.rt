@@ -6,7 +6,7 @@ use edges::is_counted;
 use edges::is_late;
 use edges::usable_by;
 ghost use mathlib.Core.Path.{_≡_};
-ghost use mathlib.Core.Bool.{cond};
+ghost use mathlib.Core.Bool.{cond, false};
 ghost use Prim.Native.Nat.{_<_, _≤_};
 ghost use lib.ListN.{length, replicate};
 ghost use Rattle.anchors.specs.Sets.{AnchorSets};
@@ -185,6 +185,7 @@ fn push_returns(rows: &mut [u64; 64], es: &[u64]) -> u64
 }
 
 // From the anchor sets, in which the forward edges have handed on: the returns once, and then sweeps until nothing is left to hand on, n at most, since on a sheet of n steps no anchor needs more. The order decides speed alone.
+// False only where no return brought anything new: then the rows are the anchor sets without step 0.
 pub fn reach(
     es: &[u64],
     lists: &[u16],
@@ -192,18 +193,23 @@ pub fn reach(
     sets: &[u64; 64],
     n: usize,
     rows: &mut [u64; 64],
-)
+) -> bool
     requires { ⌜ (n ≤ 64) × (length (now es) ≤ 2048) × Lists (now es) (now lists) × (now rows ≡ replicate 64 0) ⌝ }
-    ensures { λ r. ⌜ (AnchorSets n (graph (now (es .entry))) (now (sets .entry)) → Reached n (graph (now (es .entry))) (now (rows .exit))) ⌝ }
+    ensures walks { λ r. ⌜ (AnchorSets n (graph (now (es .entry))) (now (sets .entry)) → Reached n (graph (now (es .entry))) (now (rows .exit))) ⌝ }
+    ensures nothing_new { λ r. ⌜ (r ≡ false → Stripped (now (sets .entry)) n (now (rows .exit))) ⌝ }
 {
     strip(rows, sets, n);
     let mut marks = push_returns(rows, es);
+    if marks == 0 {
+        return false;
+    }
     let mut done = 0;
     while done < n {
         if marks == 0 {
-            return;
+            return true;
         }
         marks = sweep(rows, marks, es, lists, order, n);
         done += 1;
     }
+    true
 }

@@ -1,17 +1,17 @@
 -- What the reader's report says, and the words beside it; and what its parts say: N and R, and the link records.
 use mathlib.Core.Path.{_≡_}
 use mathlib.Core.List.{List}
-use Prim.Native.Nat.{ℕ, _≤_}
+use Prim.Native.Nat.{ℕ, _≤_, _<_}
 use lib.ListN.{length, take, drop}
 use Rattle.definitions.specs.Answers.{count-of, edges-of}
-use Rattle.definitions.specs.Basics.{Outcome, given, refused, when-given}
-use Rattle.definitions.specs.Bytes.{Records, blank-operation, padded}
+use Rattle.definitions.specs.Basics.{Outcome, given, refused, test-bit, when-given}
+use Rattle.definitions.specs.Bytes.{Records}
 use Rattle.definitions.specs.Numbers.{number, reading-of}
 use Rattle.edges.specs.Words.{graph}
-use Rattle.definitions.specs.declared.Operation.{Operation}
 use Rattle.definitions.specs.declared.Reading.{Reading}
 use Rattle.definitions.specs.declared.Reading.the-variants as Readings
 use Rattle.fields.specs.Parts.{outcome}
+use Rattle.operation_records.specs.Leaving.{unbounded-at}
 use Rattle.operation_records.specs.declared.Place.{Place}
 use Rattle.operation_records.specs.declared.Place.the-variants as Places
 use Rattle.link_records.specs.Answers.{LinksReads}
@@ -20,10 +20,10 @@ use Rattle.reader.specs.Parts.{sheet-records, link-count}
 use Rattle.reader.specs.declared.Head.{Head}
 use Rattle.reader.specs.declared.Report.{Report}
 
--- A sheet as a report and words hold it: its steps, with blank ones behind them, and its edges as the first words.
+-- A sheet as a report and words hold it: its open steps as a map, and its edges as the first words.
 pub record Holds (q : Records) (words : List ℕ) (r : Report) : Type 0 where
   pub n : r .n ≡ count-of q
-  pub operations : r .operations ≡ padded 64 blank-operation (q .steps)
+  pub opens : (i : ℕ) → i < r .n → test-bit (r .unbounded) i ≡ unbounded-at (q .steps) i
   pub few : r .count ≤ 2048
   pub within : r .count ≤ length words
   pub same : graph (take (r .count) words) ≡ edges-of q
@@ -47,7 +47,7 @@ pub record Heads (p : Outcome Records) (s : List ℕ) (h : Head) : Type 0 where
   pub room : h .r ≤ link-count s
 
 -- The link records, where the reading up to the steps, and the row of steps, have these answers.
-abbrev pub TailReads : List ℕ → ℕ → ℕ → List Operation → List ℕ → LinksRead → Reading → Place → Type 0
-TailReads s n r os words q (Readings.Refused k) place = q .reading ≡ Readings.Refused k
-TailReads s n r os words q Readings.Whole (Places.Refused k) = q .reading ≡ Readings.Refused k
-TailReads s n r os words q Readings.Whole (Places.At middle) = LinksReads (drop middle s) n r os words q
+abbrev pub TailReads : List ℕ → ℕ → ℕ → List ℕ → List ℕ → LinksRead → Reading → Place → Type 0
+TailReads s n r digits words q (Readings.Refused k) place = q .reading ≡ Readings.Refused k
+TailReads s n r digits words q Readings.Whole (Places.Refused k) = q .reading ≡ Readings.Refused k
+TailReads s n r digits words q Readings.Whole (Places.At middle) = LinksReads (drop middle s) n r digits words q

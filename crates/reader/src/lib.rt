@@ -1,9 +1,9 @@
-// A sheet is read from its bytes: its steps, and its edges as words; or the first fault, refusals 1 to 7 and 26.
+// A sheet is read from its bytes: the map of its open steps, and its edges as words; or the first fault, refusals 1 to 7 and 26.
 ghost use mathlib.Core.Path.{_≡_};
 ghost use mathlib.Core.List.{List};
 ghost use Prim.Native.Nat.{ℕ, _*_, _≤_, _<_};
 ghost use lib.Dec.{leb};
-ghost use lib.ListN.{length, take, drop};
+ghost use lib.ListN.{length, drop};
 ghost use Rattle.definitions.specs.Basics.{refused};
 ghost use Rattle.definitions.specs.Numbers.{number};
 ghost use Rattle.definitions.specs.Bytes as Bytes;
@@ -11,18 +11,17 @@ ghost use Rattle.fields.specs.Parts.{outcome};
 ghost use Rattle.operation_records.specs.Answers.{place-end};
 ghost use Rattle.reader.specs.Parts.{link-count, sheet-counted};
 ghost use Rattle.reader.specs.Answers.{Heads, TailReads, Reports};
-use definitions::Operation;
 use definitions::Reading;
 use definitions::Refusal;
 use fields::NumberRead;
 use link_records::LinksRead;
 use operation_records::Place;
 
-// Whether the bytes are a sheet, or the first fault. Beside a sheet: its n steps, with blank ones behind them, and how many words stand for its edges. What stands beside a fault is not said.
+// Whether the bytes are a sheet, or the first fault. Beside a sheet: how many steps it has, the map of those that are open, other than 0, and how many words stand for its edges. What stands beside a fault is not said.
 pub struct Report {
     pub reading: Reading,
     pub n: usize,
-    pub operations: [Operation; 64],
+    pub unbounded: u64,
     pub count: usize,
 }
 
@@ -102,11 +101,11 @@ fn read_tail(
     place: Place,
     n: usize,
     r: usize,
-    operations: [Operation; 64],
+    digits: &[u32; 64],
     words: &mut [u64],
 ) -> LinksRead
     requires { ⌜ (place-end place ≤ length (now s)) × (n ≤ 64) × (4 * r ≤ length (now words)) ⌝ }
-    ensures { λ q. ⌜ TailReads (now (s .entry)) n r (take n operations) (now (words .exit)) q reading place ⌝ }
+    ensures { λ q. ⌜ TailReads (now (s .entry)) n r (now (digits .entry)) (now (words .exit)) q reading place ⌝ }
 {
     match reading {
         Reading::Refused(k) => LinksRead {
@@ -118,7 +117,7 @@ fn read_tail(
                 reading: Reading::Refused(k),
                 count: 0,
             },
-            Place::At(middle) => link_records::read_links(&s[middle..], n, r, operations, words),
+            Place::At(middle) => link_records::read_links(&s[middle..], n, r, digits, words),
         },
     }
 }
@@ -134,7 +133,7 @@ pub fn is_brief(s: &[u8], most: u16) -> bool
     }
 }
 
-// A sheet, with its edges written from the front of the words on; or the first fault.
+// A sheet, its edges written from the front of the words on; or the first fault. What its steps add is kept while the link records are read.
 pub fn read(s: &[u8], words: &mut [u64]) -> Report
     requires { ⌜ 4 * link-count (now s) ≤ length (now words) ⌝ }
     ensures { λ r. ⌜ Reports (Bytes.read (now (s .entry))) (now (words .exit)) r ⌝ }
@@ -142,16 +141,16 @@ pub fn read(s: &[u8], words: &mut [u64]) -> Report
     let head = read_head(s);
     let at = head.at;
     let n = head.n;
-    let steps = operation_records::read_operations(s, at, n);
+    let mut digits = [0u32; 64];
+    let steps = operation_records::read_operations(s, at, n, &mut digits);
     let place = steps.place;
-    let operations = steps.operations;
     let reading = head.reading;
-    let tail = read_tail(s, reading, place, n, head.r, operations, words);
+    let tail = read_tail(s, reading, place, n, head.r, &digits, words);
     let judged = tail.reading;
     Report {
         reading: judged,
         n: n,
-        operations: operations,
+        unbounded: steps.unbounded,
         count: tail.count,
     }
 }

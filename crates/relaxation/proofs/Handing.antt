@@ -6,16 +6,16 @@ use mathlib.Core.List.{List}
 use Prim.Native.Nat.{ℕ, _+_, _-_, _≤_, _<_, max}
 use native.Mathlib.Decide.{decLe}
 use native.Mathlib.Omega.{arith}
-use lib.ListN.{getD}
+use lib.ListN.{length, getD}
 use borrow.Author.Tests.{le-ltb, lt-ltb}
 use Rattle.definitions.specs.Basics.{test-bit}
 use Rattle.definitions.specs.Links.{Edge, Graph, LateInto, UsableFrom}
 use Rattle.definitions.specs.Rounds.{extend}
 use Rattle.laws.proofs.Bools.{both-ways, same-or-not}
-use Rattle.theory.proofs.Relaxation.{extend-mono}
 use Rattle.theory.proofs.RowLaws.{extend-none, extend-some}
-use Rattle.relaxation.specs.Columns.{Handed, HandedAll, Numbers, Only, Square, Under, column, entry, value}
-use Rattle.relaxation.specs.Lifts.{Clear, Raised, Risen, delta-of, lent, moved}
+use Rattle.relaxation.specs.Columns.{Bounds, Handed, HandedAll, Numbers, Only, Under, column}
+use Rattle.lifting.specs.Tables.{Square, entry, value}
+use Rattle.lifting.specs.Lifts.{Clear, Raised, Risen, delta-of, lent, moved}
 
 -- Of two numbers the first is below the second, or not.
 pub below-or-not : (k n : ℕ) → (k < n) ⊎ (n ≤ k)
@@ -56,35 +56,32 @@ module _ (old c new gain loss : ℕ) (g : gain < 16777216) (l : loss < 16777216)
       let e : value (moved c (delta-of gain loss)) ≡ value c + gain - loss = omega arith in
       ap value (larger (omega arith)) ∙ value-max old (moved c (delta-of gain loss)) ∙ ap (max (value old)) e
 
--- Where an edge has something to hand on and the column that is sought holds a walk at its start, the column holds one at its end.
-ends-live : {E : Graph} {t r : ℕ → ℕ} → Under E t r → (e : Edge) → E e → 1 ≤ t (e .from) → 1 ≤ r (e .to)
-ends-live {t = t} U e m h = U .live (e .to) (omega (arith, U .settles e m, extend-some (t (e .from)) (e .gain) (e .loss) h))
+-- Where an edge has something to hand on, the column holds a walk at its end.
+ends-live : {E : Graph} {u x : ℕ} {t r : ℕ → ℕ} → Under t r → Bounds E u x t → (e : Edge) → E e → e .from ≡ u → 1 ≤ x → 1 ≤ r (e .to)
+ends-live {x = x} U B e m o h = U .live (e .to) (omega (arith, B .ends e m o, extend-some x (e .gain) (e .loss) h))
 
 -- A column that stays, where its end has what the edges hand on.
-handed-still : {E : Graph} {u x : ℕ} {r s : ℕ → ℕ} {f g : ℕ → Bool} → ((v : ℕ) → s v ≡ r v) → ((v : ℕ) → f v ≡ true → g v ≡ true) → ((t : ℕ → ℕ) → Under E t r → x ≤ t u → (e : Edge) → E e → e .from ≡ u → extend x (e .gain) (e .loss) ≤ r (e .to)) → Handed E u x r s f g
+handed-still : {E : Graph} {u x : ℕ} {r s : ℕ → ℕ} {f g : ℕ → Bool} → ((v : ℕ) → s v ≡ r v) → ((v : ℕ) → f v ≡ true → g v ≡ true) → ((t : ℕ → ℕ) → Under t r → Bounds E u x t → (e : Edge) → E e → e .from ≡ u → extend x (e .gain) (e .loss) ≤ r (e .to)) → Handed E u x r s f g
 handed-still same kept hands =
-    record { up = λ t U h v. omega (arith, same v); under = λ t U h. record { settles = U .settles; small = U .small; below = λ v. omega (arith, same v, U .below v); live = λ v q. omega (arith, same v, U .live v q) }; hands = λ t U h e m o. omega (arith, hands t U h e m o, same (e .to)); marks = kept; marked = λ v q. same v }
+    record { up = λ t U h v. omega (arith, same v); under = λ t U h. record { small = U .small; below = λ v. omega (arith, same v, U .below v); live = λ v q. omega (arith, same v, U .live v q) }; hands = λ t U h e m o. omega (arith, hands t U h e m o, same (e .to)); marks = kept; marked = λ v q. same v }
 
 -- A column that is lifted at the edge's end.
 module _ (e : Edge) (a x : ℕ) (r s : ℕ → ℕ) (timely : ¬ LateInto e a) (none : r (e .to) ≤ 16777216 → x ≤ 16777216 → x ≡ 0 → s (e .to) ≡ r (e .to)) (some : r (e .to) ≤ 16777216 → x ≤ 16777216 → 1 ≤ x → s (e .to) ≡ max (r (e .to)) (x + e .gain - e .loss)) (other : (v : ℕ) → v ≢ e .to → s v ≡ r v) where
-  module _ (t : ℕ → ℕ) (U : Under (UsableFrom (Only e) a) t r) (h : x ≤ t (e .from)) where
-    small : x ≤ 16777216
-    small = omega (arith, U .small (e .from))
-
+  module _ (t : ℕ → ℕ) (U : Under t r) (B : Bounds (UsableFrom (Only e) a) (e .from) x t) where
     low : r (e .to) ≤ 16777216
     low = omega (arith, U .below (e .to), U .small (e .to))
 
     -- What the edge hands on is at its end, and no more than that comes there.
     lifted : (0 < x) ⊎ (x ≤ 0) → (r (e .to) ≤ s (e .to)) × (s (e .to) ≤ t (e .to)) × (extend x (e .gain) (e .loss) ≤ s (e .to))
     lifted (inl q) =
-        let new = some low small q in
+        let new = some low (B .small) q in
         let longer = extend-some x (e .gain) (e .loss) q in (
           omega arith,
-          omega (arith, U .below (e .to), extend-mono x (t (e .from)) (e .gain) (e .loss) h, U .settles e (refl, timely)),
-          omega (arith, ends-live U e (refl, timely) (omega arith)),
+          omega (arith, U .below (e .to), B .ends e (refl, timely) refl),
+          omega (arith, ends-live U B e (refl, timely) refl q),
         )
     lifted (inr q) =
-        let new = none low small (omega arith) in
+        let new = none low (B .small) (omega arith) in
         (omega arith, omega (arith, U .below (e .to)), omega (arith, extend-none x (e .gain) (e .loss) (omega arith)))
 
     up : (v : ℕ) → (v ≡ e .to) ⊎ (v ≢ e .to) → r v ≤ s v
@@ -97,7 +94,7 @@ module _ (e : Edge) (a x : ℕ) (r s : ℕ → ℕ) (timely : ¬ LateInto e a) (
 
   handed-lifted : {f k : ℕ → Bool} → ((v : ℕ) → f v ≡ true → k v ≡ true) → ((v : ℕ) → k v ≡ false → s v ≡ r v) → Handed (UsableFrom (Only e) a) (e .from) x r s f k
   handed-lifted marks marked =
-      record { up = λ t U h v. up t U h v (same-or-not v (e .to)); under = λ t U h. record { settles = U .settles; small = U .small; below = λ v. below t U h v (same-or-not v (e .to)); live = λ v q. omega (arith, U .live v q, up t U h v (same-or-not v (e .to))) }; hands = λ t U h y o q. rw (o .0) (lifted t U h (below-or-not 0 x) .2); marks = marks; marked = marked }
+      record { up = λ t U B v. up t U B v (same-or-not v (e .to)); under = λ t U B. record { small = U .small; below = λ v. below t U B v (same-or-not v (e .to)); live = λ v q. omega (arith, U .live v q, up t U B v (same-or-not v (e .to))) }; hands = λ t U B y o q. rw (o .0) (lifted t U B (below-or-not 0 x) .2); marks = marks; marked = marked }
 
 -- What a row lends in a column.
 module _ (row : List ℕ) (width k : ℕ) where
@@ -134,19 +131,18 @@ module _ (e : Edge) (number row : List ℕ) (width : ℕ) (clear : (k : ℕ) →
             none (inr late) x o = absurd (o .1 (rw (o .0) late))
 
   -- Where no walk gets longer than offset 0 by it, the edge has handed on.
-  pub handed-idle : (top m : ℕ) → ((k : ℕ) → k < width → getD row k 0 ≤ 1073741824 + top) → Square d → top + e .gain ≤ e .loss → HandedAll (λ a. UsableFrom (Only e) a) number (e .from) (lent row width) d d m m
+  pub handed-idle : (top m : ℕ) → ((k : ℕ) → k < width → getD row k 0 ≤ 1073741824 + top) → Square (length d) d → top + e .gain ≤ e .loss → HandedAll (λ a. UsableFrom (Only e) a) number (e .from) (lent row width) d d m m
   handed-idle top m tops S low =
-      record { square = S; each = λ all anchor N k q. handed-still (λ v. refl) (λ v h. h) (λ t U b x o f. rw (o .0) (by t (anchor k) k U (refl, λ l. o .1 (rw (o .0) l)) b (below-or-not k width))) }
+      record { square = S; each = λ all anchor N k q. handed-still (λ v. refl) (λ v h. h) (λ t U B x o f. rw (o .0) (by t (anchor k) k U B (refl, λ l. o .1 (rw (o .0) l)) (below-or-not k width))) }
     where
-      some : (t : ℕ → ℕ) (a k : ℕ) → Under (UsableFrom (Only e) a) t (column d k) → UsableFrom (Only e) a e → value (getD row k 0) ≤ t (e .from) → k < width → (0 < value (getD row k 0)) ⊎ (value (getD row k 0) ≤ 0) → extend (value (getD row k 0)) (e .gain) (e .loss) ≤ column d k (e .to)
-      some t a k U o b h (inl q) =
-          omega (arith, extend-some (value (getD row k 0)) (e .gain) (e .loss) q, tops k h, ends-live U e o (omega arith))
-      some t a k U o b h (inr q) = omega (arith, extend-none (value (getD row k 0)) (e .gain) (e .loss) (omega arith))
+      some : (t : ℕ → ℕ) (a k : ℕ) → Under t (column d k) → Bounds (UsableFrom (Only e) a) (e .from) (lent row width k) t → UsableFrom (Only e) a e → k < width → (0 < lent row width k) ⊎ (lent row width k ≤ 0) → extend (lent row width k) (e .gain) (e .loss) ≤ column d k (e .to)
+      some t a k U B o h (inl q) =
+          omega (arith, extend-some (lent row width k) (e .gain) (e .loss) q, lent-in row width k h, tops k h, ends-live U B e o refl q)
+      some t a k U B o h (inr q) = nothing k (column d k (e .to)) (omega arith)
 
-      by : (t : ℕ → ℕ) (a k : ℕ) → Under (UsableFrom (Only e) a) t (column d k) → UsableFrom (Only e) a e → lent row width k ≤ t (e .from) → (k < width) ⊎ (width ≤ k) → extend (lent row width k) (e .gain) (e .loss) ≤ column d k (e .to)
-      by t a k U o b (inl h) =
-          rw (lent-in row width k h) (some t a k U o (omega (arith, lent-in row width k h)) h (below-or-not 0 (value (getD row k 0))))
-      by t a k U o b (inr h) = nothing k (column d k (e .to)) (lent-beyond row width k h)
+      by : (t : ℕ → ℕ) (a k : ℕ) → Under t (column d k) → Bounds (UsableFrom (Only e) a) (e .from) (lent row width k) t → UsableFrom (Only e) a e → (k < width) ⊎ (width ≤ k) → extend (lent row width k) (e .gain) (e .loss) ≤ column d k (e .to)
+      by t a k U B o (inl h) = some t a k U B o h (below-or-not 0 (lent row width k))
+      by t a k U B o (inr h) = nothing k (column d k (e .to)) (lent-beyond row width k h)
 
 -- An edge that is not late is for every anchor; a late one for all but its end.
 pub timely-columns : (e : Edge) (number : List ℕ) (width : ℕ) → e .late ≡ false → (all : ℕ) (anchor : ℕ → ℕ) → Numbers all number anchor → (k : ℕ) → k < all → ((k < width) × (k < width) × ¬ LateInto e (anchor k)) ⊎ ((¬ (k < width)) × ((width ≤ k) ⊎ LateInto e (anchor k)))

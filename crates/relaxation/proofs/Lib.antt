@@ -1,2 +1,2 @@
-pub mod Lifting
+pub mod Late
 pub mod Handing

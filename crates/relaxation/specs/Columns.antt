@@ -1,5 +1,4 @@
--- The working table, by rows of steps. Its columns are numbered: column k is that of an anchor. A cell that is floor + w holds the weight w; one below the floor holds none.
--- Read as a column, a cell is 0 where no walk comes, w + 1 for the weight w. Marks, a map of steps: bit v stands where row v may have been raised since step v last handed on.
+-- The columns of the working table are numbered: column k is that of an anchor. Read as a column, a cell is 0 where no walk comes, w + 1 for the weight w. Marks, a map of steps: bit v stands where row v may have been raised since step v last handed on.
 use mathlib.Core.Path.{_≡_}
 use mathlib.Core.Bool.{Bool, true, false}
 use mathlib.Core.List.{List, []}
@@ -9,36 +8,29 @@ use Rattle.definitions.specs.Basics.{test-bit}
 use Rattle.definitions.specs.Links.{Edge, Graph}
 use Rattle.definitions.specs.Rounds.{extend}
 use Rattle.definitions.specs.Waits.{wait-edge}
+use Rattle.lifting.specs.Tables.{Square, entry, value}
 use Rattle.theory.specs.Sweeps.{Settles, hand}
-
--- 64 rows of 64 cells.
-pub record Square (d : List (List ℕ)) : Type 0 where
-  pub rows : length d ≡ 64
-  pub cells : (v : ℕ) → v < 64 → length (getD d v []) ≡ 64
-
-abbrev pub entry : List (List ℕ) → ℕ → ℕ → ℕ
-entry d v k = getD (getD d v []) k 0
-
--- What a cell says: 0 for no walk, w + 1 for the weight w.
-abbrev pub value : ℕ → ℕ
-value c = suc c - 1073741824
 
 abbrev pub column : List (List ℕ) → ℕ → ℕ → ℕ
 column d k v = value (entry d v k)
 
--- A column below the one that is sought. In t every edge has handed on, and it is small; r is nowhere above it and holds a walk wherever t does.
-pub record Under (E : Graph) (t r : ℕ → ℕ) : Type 0 where
-  pub settles : Settles E t
+-- A column r below another one, t, which is small; r holds a walk wherever t does.
+pub record Under (t r : ℕ → ℕ) : Type 0 where
   pub small : (v : ℕ) → t v ≤ 16777216
   pub below : (v : ℕ) → r v ≤ t v
   pub live : (v : ℕ) → 1 ≤ t v → 1 ≤ r v
 
+-- What step u hands on of x along its edges stays below t.
+pub record Bounds (E : Graph) (u x : ℕ) (t : ℕ → ℕ) : Type 0 where
+  pub small : x ≤ 16777216
+  pub ends : (e : Edge) → E e → e .from ≡ u → extend x (e .gain) (e .loss) ≤ t (e .to)
+
 -- Edges of a graph on one column and its marks, some of them one or more times, where step u has x to hand on. No mark is taken away, and a step whose cell changes has one.
--- Below a column that is sought no cell falls, nothing is raised above it, and each edge out of u has handed on.
+-- Below a column that bounds what is handed on no cell falls, nothing is raised above it, and each edge out of u has handed on.
 pub record Handed (E : Graph) (u x : ℕ) (r s : ℕ → ℕ) (f g : ℕ → Bool) : Type 0 where
-  pub up : (t : ℕ → ℕ) → Under E t r → x ≤ t u → (v : ℕ) → r v ≤ s v
-  pub under : (t : ℕ → ℕ) → Under E t r → x ≤ t u → Under E t s
-  pub hands : (t : ℕ → ℕ) → Under E t r → x ≤ t u → (e : Edge) → E e → e .from ≡ u → extend x (e .gain) (e .loss) ≤ s (e .to)
+  pub up : (t : ℕ → ℕ) → Under t r → Bounds E u x t → (v : ℕ) → r v ≤ s v
+  pub under : (t : ℕ → ℕ) → Under t r → Bounds E u x t → Under t s
+  pub hands : (t : ℕ → ℕ) → Under t r → Bounds E u x t → (e : Edge) → E e → e .from ≡ u → extend x (e .gain) (e .loss) ≤ s (e .to)
   pub marks : (v : ℕ) → f v ≡ true → g v ≡ true
   pub marked : (v : ℕ) → g v ≡ false → s v ≡ r v
 
@@ -50,7 +42,7 @@ pub record Numbers (width : ℕ) (number : List ℕ) (anchor : ℕ → ℕ) : Ty
 
 -- The same for every numbered column, in the graph of its anchor: of column k step u hands on x k.
 pub record HandedAll (E : ℕ → Graph) (number : List ℕ) (u : ℕ) (x : ℕ → ℕ) (d d′ : List (List ℕ)) (m m′ : ℕ) : Type 0 where
-  pub square : Square d′
+  pub square : Square (length d) d′
   pub each : (width : ℕ) (anchor : ℕ → ℕ) → Numbers width number anchor → (k : ℕ) → k < width → Handed (E (anchor k)) u (x k) (column d k) (column d′ k) (test-bit m) (test-bit m′)
 
 -- The graph of one edge, and that of the waits for u, bit i of a map.
@@ -66,13 +58,18 @@ pub record WaitsFor (u m : ℕ) (e : Edge) : Type 0 where
 abbrev pub Covered : Graph → (ℕ → ℕ) → (ℕ → Bool) → Type 0
 Covered E r f = (e : Edge) → E e → f (e .from) ≡ false → hand r e ≤ r (e .to)
 
+-- A column below the one that is sought, in which every edge has handed on.
+pub record Sought (E : Graph) (t r : ℕ → ℕ) : Type 0 where
+  pub settles : Settles E t
+  pub under : Under t r
+
 -- Steps hand on, one after another, all that they have not handed on yet: those of On at least once. All is said below a column that is sought.
 pub record Swept (E : Graph) (On : ℕ → Type 0) (r s : ℕ → ℕ) (f g : ℕ → Bool) : Type 0 where
-  pub up : (t : ℕ → ℕ) → Under E t r → (v : ℕ) → r v ≤ s v
-  pub under : (t : ℕ → ℕ) → Under E t r → Under E t s
-  pub covers : (t : ℕ → ℕ) → Under E t r → Covered E r f → Covered E s g
-  pub hands : (t : ℕ → ℕ) → Under E t r → Covered E r f → (e : Edge) → E e → On (e .from) → hand r e ≤ s (e .to)
+  pub up : (t : ℕ → ℕ) → Sought E t r → (v : ℕ) → r v ≤ s v
+  pub under : (t : ℕ → ℕ) → Sought E t r → Sought E t s
+  pub covers : (t : ℕ → ℕ) → Sought E t r → Covered E r f → Covered E s g
+  pub hands : (t : ℕ → ℕ) → Sought E t r → Covered E r f → (e : Edge) → E e → On (e .from) → hand r e ≤ s (e .to)
 
 pub record SweptAll (E : ℕ → Graph) (width : ℕ) (On : ℕ → Type 0) (d d′ : List (List ℕ)) (m m′ : ℕ) : Type 0 where
-  pub square : Square d′
+  pub square : Square (length d) d′
   pub each : (k : ℕ) → k < width → Swept (E k) On (column d k) (column d′ k) (test-bit m) (test-bit m′)

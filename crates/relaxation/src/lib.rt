@@ -1,196 +1,24 @@
-// Rows of cells handed on along one edge, all numbered columns at once. See specs/Columns.antt and specs/Lifts.antt. The loops over a row have no branch, so that the compiler makes vectors of them.
+// The row of a step handed on along one edge: see specs/Columns.antt.
 use edges::edge_gain;
 use edges::edge_loss;
 use edges::edge_to;
 use edges::is_late;
+use lifting::raise_row;
 ghost use mathlib.Core.Path.{_≡_};
-ghost use mathlib.Core.Bool.{false};
 ghost use mathlib.Core.Logic.{_≢_};
-ghost use mathlib.Core.List.{[]};
-ghost use Prim.Native.Nat.{ℕ, _+_, _-_, _≤_, _<_, min};
+ghost use Prim.Native.Nat.{_≤_, _<_};
 ghost use lib.ListN.{length, getD};
 ghost use Rattle.definitions.specs.Links.{UsableFrom};
-ghost use Rattle.definitions.specs.Rounds.{extend};
 ghost use Rattle.edges.specs.Words.{unpack};
-ghost use Rattle.relaxation.specs.Columns.{Square, HandedAll, Only, entry, value};
-ghost use Rattle.relaxation.specs.Lifts.{Above, Clear, Lifted, Raised, Ready, Taken, Trimmed, delta-of, lent, moved};
-
-// A walk made longer by an edge, cut at the largest number of a cell.
-pub fn extended(c: u32, gain: u64, loss: u64) -> u32
-    requires { ⌜ gain < 16777216 ⌝ }
-    ensures { λ r. ⌜ r ≡ min (extend c gain loss) 4294967295 ⌝ }
-{
-    if c == 0 {
-        return 0;
-    }
-    let s = (c as u64) + gain;
-    if s <= loss {
-        return 1;
-    }
-    if 4294967295 < s - loss {
-        return 4294967295;
-    }
-    (s - loss) as u32
-}
-
-// A number that is at least as large as both. It costs less than the larger one.
-fn either(a: u32, b: u32) -> u32
-    ensures { λ r. ⌜ (a ≤ r) × (b ≤ r) ⌝ }
-{
-    a | b
-}
-
-// How far c is above old; 0 where it is not. To look at the top bit of the difference costs the compiler less than to compare.
-fn rise(old: u32, c: u32) -> u32
-    ensures { λ r. ⌜ Above old c r ⌝ }
-{
-    let t = ((4294967296 + (c as u64) - (old as u64)) % 4294967296) as u32;
-    if t < 2147483648 { t } else { 0 }
-}
-
-// A cell that says the same, where its weight is below the floor; 0 where it holds none.
-fn clean(c: u32) -> u32
-    ensures { λ r. ⌜ Clear r × (c < 2147483648 → value r ≡ value c) ⌝ }
-{
-    if c / 1073741824 == 1 { c } else { 0 }
-}
-
-// A cell moved along an edge. It wraps, so that a loss is a large delta.
-fn shift(c: u32, delta: u32) -> u32
-    ensures { λ r. ⌜ (r ≡ moved c delta) × (delta ≡ 0 → r ≡ c) ⌝ }
-{
-    (((c as u64) + (delta as u64)) % 4294967296) as u32
-}
+ghost use Rattle.lifting.specs.Tables.{Square};
+ghost use Rattle.lifting.specs.Lifts.{Raised, Ready, delta-of, lent};
+ghost use Rattle.relaxation.specs.Columns.{HandedAll, Only};
 
 fn difference(gain: u64, loss: u64) -> u32
     requires { ⌜ (gain < 16777216) × (loss < 16777216) ⌝ }
     ensures { λ r. ⌜ r ≡ delta-of gain loss ⌝ }
 {
     ((4294967296 + gain - loss) % 4294967296) as u32
-}
-
-// How many columns of a row hold weights, at least 8: none beyond does.
-fn trimmed(cells: &[u32; 64], width: usize) -> usize
-    requires { ⌜ width ≤ 64 ⌝ }
-    ensures { λ r. ⌜ Trimmed (now (cells .entry)) width r ⌝ }
-{
-    let mut w = width;
-    while 8 < w {
-        if 1073741824 <= cells[w - 1] {
-            return w;
-        }
-        w -= 1;
-    }
-    w
-}
-
-// The next multiple of 8: the loops over a row then leave nothing over.
-fn eights(w: usize) -> usize
-    requires { ⌜ w ≤ 64 ⌝ }
-    ensures { λ r. ⌜ (w ≤ r) × (r ≤ 64) ⌝ }
-{
-    (w + 7) / 8 * 8
-}
-
-// How many columns of a row to hand on.
-pub fn extent(cells: &[u32; 64], width: usize) -> usize
-    requires { ⌜ width ≤ 64 ⌝ }
-    ensures { λ r. ⌜ Trimmed (now (cells .entry)) width r ⌝ }
-{
-    let w = trimmed(cells, width);
-    eights(w)
-}
-
-// The first cells of row u, made ready to be handed on; a number that none is above.
-fn copy_row(d: &[[u32; 64]; 64], u: usize, row: &mut [u32; 64], width: usize) -> u32
-    requires { ⌜ (u < 64) × (width ≤ 64) × (length (now row) ≡ 64) ⌝ }
-    ensures { λ r. ⌜ Taken (getD (now (d .entry)) u []) (now (row .exit)) width r ⌝ }
-{
-    let mut bound = 0u32;
-    let mut k = 0;
-    while k < width {
-        let c = clean(d[u][k]);
-        row[k] = c;
-        bound = either(bound, c);
-        k += 1;
-    }
-    bound
-}
-
-// The weight of a cell, 0 where it holds none.
-fn weight(c: u32) -> u32
-    ensures { λ r. ⌜ r ≡ c - 1073741824 ⌝ }
-{
-    if c < 1073741824 { 0 } else { c - 1073741824 }
-}
-
-// The same; a weight that none of theirs is above.
-pub fn take(d: &[[u32; 64]; 64], u: usize, row: &mut [u32; 64], width: usize) -> u32
-    requires { ⌜ (u < 64) × (width ≤ 64) × (length (now row) ≡ 64) ⌝ }
-    ensures { λ r. ⌜ Taken (getD (now (d .entry)) u []) (now (row .exit)) width (1073741824 + r) ⌝ }
-{
-    let bound = copy_row(d, u, row, width);
-    weight(bound)
-}
-
-// Row `to` takes in what moves there.
-fn lift(d: &mut [[u32; 64]; 64], row: &[u32; 64], to: usize, delta: u32, width: usize)
-    requires { ⌜ (to < 64) × (width ≤ 64) × Square (now d) ⌝ }
-    ensures { λ r. ⌜ Lifted (λ k. k < width) to delta (now (row .entry)) (now (d .entry)) (now (d .exit)) ⌝ }
-{
-    let mut k = 0;
-    while k < width {
-        let c = shift(row[k], delta);
-        let old = d[to][k];
-        let new = shift(old, rise(old, c));
-        d[to][k] = new;
-        k += 1;
-    }
-}
-
-// The same; whether a cell changed.
-fn lift_noting(
-    d: &mut [[u32; 64]; 64],
-    row: &[u32; 64],
-    to: usize,
-    delta: u32,
-    width: usize,
-) -> bool
-    requires { ⌜ (to < 64) × (width ≤ 64) × Square (now d) ⌝ }
-    ensures { λ r. ⌜ Lifted (λ k. k < width) to delta (now (row .entry)) (now (d .entry)) (now (d .exit)) × (r ≡ false → (k : ℕ) → entry (now (d .exit)) to k ≡ entry (now (d .entry)) to k) ⌝ }
-{
-    let mut grown = 0u32;
-    let mut k = 0;
-    while k < width {
-        let c = shift(row[k], delta);
-        let old = d[to][k];
-        let by = rise(old, c);
-        grown = either(grown, by);
-        let new = shift(old, by);
-        d[to][k] = new;
-        k += 1;
-    }
-    grown != 0
-}
-
-// The same with marks. Where `to` has one nothing needs to be noted, as in most cases.
-pub fn raise_row(
-    d: &mut [[u32; 64]; 64],
-    row: &[u32; 64],
-    to: usize,
-    delta: u32,
-    width: usize,
-    marks: u64,
-) -> u64
-    requires { ⌜ (to < 64) × (width ≤ 64) × Square (now d) ⌝ }
-    ensures { λ r. ⌜ Raised (λ k. k < width) to delta (now (row .entry)) (now (d .entry)) (now (d .exit)) marks r ⌝ }
-{
-    if bitmaps::has(marks, to) {
-        lift(d, row, to, delta, width);
-        return marks;
-    }
-    let grew = lift_noting(d, row, to, delta, width);
-    bitmaps::insert_if(marks, to, grew)
 }
 
 // The number of a step's column.
@@ -202,7 +30,7 @@ fn column_of(x: u8) -> usize
 
 // A late edge leaves the column of its own end as it was.
 fn raise_late(
-    d: &mut [[u32; 64]; 64],
+    d: &mut [[u32; 64]],
     row: &[u32; 64],
     to: usize,
     delta: u32,
@@ -210,7 +38,7 @@ fn raise_late(
     width: usize,
     marks: u64,
 ) -> u64
-    requires { ⌜ (to < 64) × (width ≤ 64) × Square (now d) ⌝ }
+    requires { ⌜ (to < 64) × (to < length (now d)) × (width ≤ 64) × Square (length (now d)) (now d) ⌝ }
     ensures { λ r. ⌜ Raised (λ k. (k < width) × (k ≢ getD (now (number .entry)) to 0)) to delta (now (row .entry)) (now (d .entry)) (now (d .exit)) marks r ⌝ }
 {
     let k = column_of(number[to]);
@@ -225,7 +53,7 @@ fn raise_late(
 
 // One edge, with the row that its start had as its visit began. Where no walk gets longer than offset 0 by it, there is nothing to do.
 pub fn push_word(
-    d: &mut [[u32; 64]; 64],
+    d: &mut [[u32; 64]],
     row: &[u32; 64],
     marks: u64,
     w: u64,
@@ -233,7 +61,7 @@ pub fn push_word(
     number: &[u8; 64],
     width: usize,
 ) -> u64
-    requires { ⌜ (width ≤ 64) × Square (now d) × Ready (now row) width top ⌝ }
+    requires { ⌜ (unpack w .to < length (now d)) × (width ≤ 64) × Square (length (now d)) (now d) × Ready (now row) width top ⌝ }
     ensures { λ r. ⌜ HandedAll (λ a. UsableFrom (Only (unpack w)) a) (now (number .entry)) (unpack w .from) (lent (now (row .entry)) width) (now (d .entry)) (now (d .exit)) marks r ⌝ }
 {
     let to = edge_to(w);

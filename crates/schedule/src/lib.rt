@@ -1,12 +1,13 @@
 // The plan's table (the relative schedule), from the working tables: see crate irredundant for what d and sets hold.
-// Every function is safe for any tables; on orderly ones, as those of an accepted sheet are, its answer is the definition's.
+// Every function is safe for any tables with a row for each step and each member; on orderly ones, as those of an accepted sheet are, its answer is the definition's.
 ghost use mathlib.Core.Path.{_≡_};
+ghost use mathlib.Core.Bool.{true};
 ghost use mathlib.Core.List.{_++_};
 ghost use Prim.Native.Nat.{ℕ, _*_, _<_, _≤_};
 ghost use lib.ListN.{length, drop, getD};
 ghost use Rattle.definitions.specs.Basics.{tabulate, test-bit};
 ghost use Rattle.definitions.specs.Plan.{undecided};
-ghost use Rattle.irredundant.specs.Working.{Orderly, weight};
+ghost use Rattle.irredundant.specs.Working.{Orderly, member, weight};
 ghost use Rattle.schedule.specs.Rows.{Planned, Put, cleared, entry-at};
 
 // The first numbers, as many as are to be cleared, become the entries of members that do not decide.
@@ -22,8 +23,8 @@ fn clear(count: usize, row: &mut [u32])
 }
 
 // The offsets of v for the members of a map below n, each at its place in the row.
-fn put_offsets(d: &[[u32; 64]; 64], map: u64, n: usize, v: usize, row: &mut [u32])
-    requires { ⌜ (v < 64) × (n ≤ length (now row)) ⌝ }
+fn put_offsets(d: &[[u32; 64]], map: u64, n: usize, v: usize, row: &mut [u32])
+    requires { ⌜ (v < length (now d)) × (n ≤ length (now row)) ⌝ }
     ensures { λ r. ⌜ Put n (test-bit map) (weight (now (d .entry)) v) (now (row .entry)) (now (row .exit)) ⌝ }
 {
     let mut left = map;
@@ -39,8 +40,8 @@ fn put_offsets(d: &[[u32; 64]; 64], map: u64, n: usize, v: usize, row: &mut [u32
 }
 
 // Row v of the plan, where it is cleared.
-fn fill_row(d: &[[u32; 64]; 64], sets: &[u64; 64], n: usize, v: usize, row: &mut [u32])
-    requires { ⌜ (v < 64) × (n ≤ length (now row)) ⌝ }
+fn fill_row(d: &[[u32; 64]], sets: &[u64; 64], n: usize, v: usize, row: &mut [u32])
+    requires { ⌜ (v < 64) × (v < length (now d)) × ((a : ℕ) → member (now sets) v a ≡ true → a < length (now d)) × (n ≤ length (now row)) ⌝ }
     ensures { λ r. ⌜ (Orderly (now (d .entry)) (now (sets .entry)) v → ((a : ℕ) → a < n → getD (now (row .entry)) a 0 ≡ undecided) → now (row .exit) ≡ tabulate (entry-at (now (d .entry)) (now (sets .entry)) v) n ++ drop n (now (row .entry))) ⌝ }
 {
     let deciding = irredundant::deciding_set(d, sets, v);
@@ -48,8 +49,8 @@ fn fill_row(d: &[[u32; 64]; 64], sets: &[u64; 64], n: usize, v: usize, row: &mut
 }
 
 // The plan's table, at the front of the lent numbers: all of it is cleared, and then filled a row at a time, each in the part of the table where it belongs.
-pub fn fill_plan(d: &[[u32; 64]; 64], sets: &[u64; 64], n: usize, table: &mut [u32])
-    requires { ⌜ (n ≤ 64) × (n * n ≤ length (now table)) ⌝ }
+pub fn fill_plan(d: &[[u32; 64]], sets: &[u64; 64], n: usize, table: &mut [u32])
+    requires { ⌜ (n ≤ 64) × (n ≤ length (now d)) × ((v a : ℕ) → v < n → member (now sets) v a ≡ true → a < length (now d)) × (n * n ≤ length (now table)) ⌝ }
     ensures { λ r. ⌜ Planned n (now (d .entry)) (now (sets .entry)) (now (table .entry)) (now (table .exit)) ⌝ }
 {
     clear(n * n, table);

@@ -14,23 +14,25 @@ use borrow.Author.Tests.{eq-eqb}
 use Rattle.definitions.specs.Basics.{any-below, test-bit}
 use Rattle.definitions.specs.Links.{Edge, Graph, _⊑_, members}
 use Rattle.edges.specs.Words.{graph, unpack}
+use Rattle.edges.proofs.Places.{graph-place}
 use Rattle.laws.proofs.Bools.{bool-cases, both-ways, same-or-not}
 use Rattle.laws.proofs.Maps.{test-zero}
 use Rattle.laws.proofs.Tests.{any-below-by}
 use Rattle.relations.specs.Rows.{row-bit}
-use Rattle.relaxation.specs.Columns.{Numbers, Only, Square, column, entry}
-use Rattle.relaxation.proofs.Lifting.{square-stored, stored-beside, stored-here, stored-other}
+use Rattle.lifting.specs.Tables.{Square, entry}
+use Rattle.relaxation.specs.Columns.{Numbers, Only, column}
+use Rattle.lifting.proofs.Tables.{square-stored, square-then, stored-beside, stored-here, stored-other}
 use Rattle.theory.specs.Sweeps.{Leads}
-use Rattle.seeding.specs.Seeds.{Begins, Begun, BegunAll, Empty, Numbered, Prepared, Raised, Seeded}
+use Rattle.seeding.specs.Seeds.{Begins, Begun, BegunAll, Empty, Idle, Numbered, Prepared, Raised, Seeded}
 use Rattle.seeding.proofs.Numbering.{left-still}
 
 -- One cell is stored to, and the others stay.
 pub record Stored (v k c : ℕ) (d d′ : List (List ℕ)) : Type 0 where
-  pub square : Square d′
+  pub square : Square (length d) d′
   pub here : entry d′ v k ≡ c
   pub other : (w j : ℕ) → (w ≢ v) ⊎ (j ≢ k) → entry d′ w j ≡ entry d w j
 
-pub stored-cell : (v k c : ℕ) (d : List (List ℕ)) → Square d → v < 64 → k < 64 → Stored v k c d (set d v (set (getD d v []) k c))
+pub stored-cell : (v k c : ℕ) (d : List (List ℕ)) → Square (length d) d → v < length d → k < 64 → Stored v k c d (set d v (set (getD d v []) k c))
 stored-cell v k c d S h b = record { square = square-stored d v k c S h b; here = stored-here d v k c S h b; other = λ w j. by w j (same-or-not w v) }
   where
     by : (w j : ℕ) → (w ≡ v) ⊎ (w ≢ v) → (w ≢ v) ⊎ (j ≢ k) → entry (set d v (set (getD d v []) k c)) w j ≡ entry d w j
@@ -38,12 +40,12 @@ stored-cell v k c d S h b = record { square = square-stored d v k c S h b; here 
     by w j (inl e) (inr o) = rw e (stored-beside d v k c S h b j o)
     by w j (inr e) o = stored-other d v k c S h b w j e
 
-pub raised-stored : (v k c : ℕ) (d : List (List ℕ)) → Square d → v < 64 → k < 64 → entry d v k < c → Raised v k c d (set d v (set (getD d v []) k c))
+pub raised-stored : (v k c : ℕ) (d : List (List ℕ)) → Square (length d) d → v < length d → k < 64 → entry d v k < c → Raised v k c d (set d v (set (getD d v []) k c))
 raised-stored v k c d S h b l =
     let T = stored-cell v k c d S h b in
     record { square = T .square; here = T .here ∙ omega arith; other = T .other }
 
-pub raised-kept : (v k c : ℕ) (d : List (List ℕ)) → Square d → c ≤ entry d v k → Raised v k c d d
+pub raised-kept : (v k c : ℕ) (d : List (List ℕ)) → Square (length d) d → c ≤ entry d v k → Raised v k c d d
 raised-kept v k c d S l = record { square = S; here = omega arith; other = λ w j o. refl }
 
 -- The pairs of step v and the members of a map that are not left; and those of the rows of sets below v.
@@ -55,7 +57,7 @@ Below sets v w a = (w < v) × (a < 64) × (row-bit sets w a ≡ true)
 
 -- Seeds of no pair, of one pair, and of some pairs and then of others.
 module _ (number : List ℕ) where
-  seeded-none : {P : ℕ → ℕ → Type 0} (d : List (List ℕ)) → Square d → ((v a : ℕ) → ¬ P v a) → Seeded number P d d
+  seeded-none : {P : ℕ → ℕ → Type 0} (d : List (List ℕ)) → Square (length d) d → ((v a : ℕ) → ¬ P v a) → Seeded number P d d
   seeded-none d S none = record { square = S; here = λ v a p. absurd (none v a p); other = λ v k o. refl; either = λ v k. inr refl }
 
   seeded-one : {P : ℕ → ℕ → Type 0} (v a k : ℕ) {d d′ : List (List ℕ)} → k ≡ getD number a 0 % 64 → P v a → ((w b : ℕ) → P w b → (w ≡ v) × (b ≡ a)) → Stored v k 1073741824 d d′ → Seeded number P d d′
@@ -76,7 +78,7 @@ module _ (number : List ℕ) where
 
   seeded-both : {P Q R : ℕ → ℕ → Type 0} {d d′ d″ : List (List ℕ)} → ((v a : ℕ) → P v a → R v a) → ((v a : ℕ) → Q v a → R v a) → ((v a : ℕ) → R v a → P v a ⊎ Q v a) → Seeded number P d d′ → Seeded number Q d′ d″ → Seeded number R d d″
   seeded-both {P} {Q} {R} {d} {d′} {d″} i j split A B =
-      record { square = B .square; here = λ v a r. here v a (split v a r); other = λ v k o. B .other v k (λ a q. o a (j v a q)) ∙ A .other v k (λ a p. o a (i v a p)); either = λ v k. either v k (B .either v k) (A .either v k) }
+      record { square = square-then (A .square) (B .square); here = λ v a r. here v a (split v a r); other = λ v k o. B .other v k (λ a q. o a (j v a q)) ∙ A .other v k (λ a p. o a (i v a p)); either = λ v k. either v k (B .either v k) (A .either v k) }
     where
       stays : (v k : ℕ) → entry d′ v k ≡ 1073741824 → (entry d″ v k ≡ 1073741824) ⊎ (entry d″ v k ≡ entry d′ v k) → entry d″ v k ≡ 1073741824
       stays v k h (inl e) = e
@@ -95,7 +97,7 @@ module _ (number : List ℕ) where
   seeded-as i j A = record { square = A .square; here = λ v a r. A .here v a (j v a r); other = λ v k o. A .other v k (λ a p. o a (i v a p)); either = A .either }
 
   -- The loop over the members of a map.
-  pub sown-start : (v map : ℕ) (d : List (List ℕ)) → Square d → Seeded number (Sown v map map) d d
+  pub sown-start : (v map : ℕ) (d : List (List ℕ)) → Square (length d) d → Seeded number (Sown v map map) d d
   sown-start v map d S = seeded-none d S (λ w a p. both-ways (p .2) (p .3))
 
   pub sown-more : (v map left left′ a k : ℕ) {d d′ d″ : List (List ℕ)} → a < 64 → test-bit map a ≡ true → test-bit left a ≡ true → ((j : ℕ) → test-bit left′ j ≡ (test-bit left j && not (eqb j a))) → k ≡ getD number a 0 % 64 → Seeded number (Sown v map left) d d′ → Stored v k 1073741824 d′ d″ → Seeded number (Sown v map left′) d d″
@@ -122,7 +124,7 @@ module _ (number : List ℕ) where
   sown-end v map left z A = seeded-as (λ w a p. (p .0, p .1, p .2)) (λ w a p. (p .0, p .1, p .2, ap (λ (x : ℕ). test-bit x a) z ∙ test-zero a)) A
 
   -- The loop over the rows.
-  pub below-start : (sets : List ℕ) (d : List (List ℕ)) → Square d → Seeded number (Below sets 0) d d
+  pub below-start : (sets : List ℕ) (d : List (List ℕ)) → Square (length d) d → Seeded number (Below sets 0) d d
   below-start sets d S = seeded-none d S (λ w a p. omega (arith, p .0))
 
   pub below-more : (sets : List ℕ) (v : ℕ) {d d′ d″ : List (List ℕ)} → Seeded number (Below sets v) d d′ → Seeded number (λ w a. (w ≡ v) × (a < 64) × (test-bit (getD sets v 0) a ≡ true)) d′ d″ → Seeded number (Below sets (v + 1)) d d″
@@ -140,21 +142,25 @@ module _ (number : List ℕ) where
 
 -- Edges that begin no walk of any anchor that is not there.
 module _ (number : List ℕ) where
-  begun-none : {E : Graph} (d : List (List ℕ)) → Square d → ((e : Edge) → E e → (a : ℕ) → Leads a e → e .gain ≤ e .loss) → BegunAll E number d d
+  begun-none : {E : Graph} (d : List (List ℕ)) → Square (length d) d → ((e : Edge) → E e → (a : ℕ) → Leads a e → e .gain ≤ e .loss) → BegunAll E number d d
   begun-none d S light =
       record { square = S; each = λ width anchor N few k b. record { up = λ v. omega arith; begun = λ e m l h. omega (arith, light e m (anchor k) l); sound = λ t s below. below } }
 
-  pub begun-uncounted : (e : Edge) (d : List (List ℕ)) → Square d → e .counted ≡ false → BegunAll (Only e) number d d
+  pub begun-idle : (es : List ℕ) (d : List (List ℕ)) → Square (length d) d → Idle es (length es) → BegunAll (members (graph es)) number d d
+  begun-idle es d S idle =
+      begun-none d S (λ e m a l. let p = graph-place es e m in let z = idle (p .0) (p .1) (ap (λ (x : Edge). x .counted) (p .2) ∙ l .counts) in omega (arith, z, ap (λ (x : Edge). x .gain) (p .2)))
+
+  pub begun-uncounted : (e : Edge) (d : List (List ℕ)) → Square (length d) d → e .counted ≡ false → BegunAll (Only e) number d d
   begun-uncounted e d S h = begun-none d S (λ x m a l. absurd (both-ways (l .counts) (ap (λ (y : Edge). y .counted) m ∙ h)))
 
-  pub begun-light : (e : Edge) (d : List (List ℕ)) → Square d → e .gain ≤ e .loss → BegunAll (Only e) number d d
+  pub begun-light : (e : Edge) (d : List (List ℕ)) → Square (length d) d → e .gain ≤ e .loss → BegunAll (Only e) number d d
   begun-light e d S h = begun-none d S (λ x m a l. rw m h)
 
-  pub begun-source : (e : Edge) (d : List (List ℕ)) → Square d → e .from ≡ 0 → BegunAll (Only e) number d d
+  pub begun-source : (e : Edge) (d : List (List ℕ)) → Square (length d) d → e .from ≡ 0 → BegunAll (Only e) number d d
   begun-source e d S h = begun-none d S (λ x m a l. absurd (l .not-source (sym (l .leaves) ∙ ap (λ (y : Edge). y .from) m ∙ h)))
 
   -- A step without a column is no anchor.
-  pub begun-unnumbered : (e : Edge) (d : List (List ℕ)) → Square d → 64 ≤ getD number (e .from) 0 → BegunAll (Only e) number d d
+  pub begun-unnumbered : (e : Edge) (d : List (List ℕ)) → Square (length d) d → 64 ≤ getD number (e .from) 0 → BegunAll (Only e) number d d
   begun-unnumbered e d S h =
       record { square = S; each = λ width anchor N few k b. record { up = λ v. omega arith; begun = λ x m l c. absurd (omega (arith, N .there k b, ap (λ (y : ℕ). getD number y 0) (sym (l .leaves) ∙ ap (λ (y : Edge). y .from) m))); sound = λ t s below. below } }
 
@@ -193,7 +199,7 @@ module _ (number : List ℕ) where
 
   -- One graph and then another.
   begun-both : {E F G : Graph} {d d′ d″ : List (List ℕ)} → E ⊑ G → F ⊑ G → ((e : Edge) → G e → E e ⊎ F e) → BegunAll E number d d′ → BegunAll F number d′ d″ → BegunAll G number d d″
-  begun-both {E} {F} {G} {d} {d′} {d″} i j split A B = record { square = B .square; each = each }
+  begun-both {E} {F} {G} {d} {d′} {d″} i j split A B = record { square = square-then (A .square) (B .square); each = each }
     where
       each : (width : ℕ) (anchor : ℕ → ℕ) → Numbers width number anchor → width ≤ 64 → (k : ℕ) → k < width → Begun G (anchor k) (column d k) (column d″ k)
       each width anchor N few k b =
@@ -206,7 +212,7 @@ module _ (number : List ℕ) where
           by P Q e l h (inr m) = Q .begun e m l (omega (arith, P .up (e .to)))
 
   -- The loop over a list: the words before place k.
-  pub begun-start : (es : List ℕ) (d : List (List ℕ)) → Square d → BegunAll (members (graph (take 0 es))) number d d
+  pub begun-start : (es : List ℕ) (d : List (List ℕ)) → Square (length d) d → BegunAll (members (graph (take 0 es))) number d d
   unfolding graph
   begun-start es d S = begun-none d S (λ e m. absurd (List·Memᴰ·not-nil m))
 
@@ -235,6 +241,14 @@ module _ (number : List ℕ) where
       let i : k ≡ length es = omega arith in
       let t : take k es ≡ es = ap (λ (j : ℕ). take j es) i ∙ take-length es in
       rw t at A
+
+-- The loop over the words: one more of them is idle where its gain is 0, if it is counted.
+pub idle-more : (es : List ℕ) (k gain : ℕ) → Idle es k → (unpack (getD es k 0) .counted ≡ true → gain ≡ unpack (getD es k 0) .gain) → gain ≡ 0 → Idle es (k + 1)
+idle-more es k gain idle is z j b = by (same-or-not j k)
+  where
+    by : (j ≡ k) ⊎ (j ≢ k) → unpack (getD es j 0) .counted ≡ true → unpack (getD es j 0) .gain ≡ 0
+    by (inl e) = rw e (λ c. sym (is c) ∙ z)
+    by (inr o) = idle j (omega arith)
 
 -- Seeds and then edges: an anchor's column begins with the walk of weight 0 where the anchor is a member, and with nothing elsewhere, as no other anchor has its number.
 module _ {E : Graph} {number : List ℕ} {width : ℕ} {d₀ d₁ d₂ : List (List ℕ)} (sets : List ℕ) (n all : ℕ) (empty : Empty d₀) (union : (a : ℕ) → test-bit all a ≡ any-below (λ v. row-bit sets v a) n) (N : Numbered all width number) (seeded : Seeded number (λ w a. (w < n) × (a < 64) × (row-bit sets w a ≡ true)) d₀ d₁) (begun : BegunAll E number d₁ d₂) where
@@ -275,5 +289,5 @@ module _ {E : Graph} {number : List ℕ} {width : ℕ} {d₀ d₁ d₂ : List (L
         let B = begun .each width (N .anchor) (N .numbers) (N .few) k b in
         record { live = λ v c h. omega (arith, one v c h, B .up v); begun = λ e m l c h. B .begun e m l (omega (arith, one (e .to) c h)); sound = λ t s live. B .sound t s (below t live) }
 
-  pub prepared : Prepared E sets n width number d₂
-  prepared = record { anchor = N .anchor; numbers = N .numbers; few = N .few; listed = listed; low = λ v a b c h. N .low a c (union a ∙ any-below-by (λ w. row-bit sets w a) n b h); square = begun .square; columns = begins }
+  pub prepared : Prepared E sets n width number (length d₀) d₂
+  prepared = record { anchor = N .anchor; numbers = N .numbers; few = N .few; listed = listed; low = λ v a b c h. N .low a c (union a ∙ any-below-by (λ w. row-bit sets w a) n b h); square = square-then (seeded .square) (begun .square); columns = begins }

@@ -5,14 +5,16 @@ use edges::edge_loss;
 use edges::edge_to;
 use edges::is_counted;
 ghost use mathlib.Core.Path.{_≡_};
-ghost use mathlib.Core.Bool.{true};
+ghost use mathlib.Core.Bool.{true, false};
 ghost use Prim.Native.Nat.{ℕ, _+_, _-_, _%_, _<_, _≤_};
+ghost use lib.ListN.{length};
 ghost use Rattle.definitions.specs.Basics.{any-below, test-bit};
 ghost use Rattle.definitions.specs.Links.{members};
-ghost use Rattle.edges.specs.Words.{graph, unpack};
+ghost use Rattle.edges.specs.Words.{EndsBelow, graph, unpack};
 ghost use Rattle.relations.specs.Rows.{row-bit};
-ghost use Rattle.relaxation.specs.Columns.{Only, Square};
-ghost use Rattle.seeding.specs.Seeds.{Blank, BegunAll, Empty, Numbered, Prepared, Raised, Seeded};
+ghost use Rattle.lifting.specs.Tables.{Square};
+ghost use Rattle.relaxation.specs.Columns.{Only};
+ghost use Rattle.seeding.specs.Seeds.{Blank, BegunAll, Empty, Idle, Numbered, Prepared, Raised, Seeded};
 
 // The steps that stand in some row below n.
 fn all_members(sets: &[u64; 64], n: usize) -> u64
@@ -52,8 +54,8 @@ pub fn column_of(x: u8) -> usize
 }
 
 // The walk of weight 0 at step v, in the columns of the members of a map.
-fn seed_row(d: &mut [[u32; 64]; 64], number: &[u8; 64], map: u64, v: usize)
-    requires { ⌜ (v < 64) × Square (now d) ⌝ }
+fn seed_row(d: &mut [[u32; 64]], number: &[u8; 64], map: u64, v: usize)
+    requires { ⌜ (v < length (now d)) × Square (length (now d)) (now d) ⌝ }
     ensures { λ r. ⌜ Seeded (now (number .entry)) (λ w a. (w ≡ v) × (a < 64) × (test-bit map a ≡ true)) (now (d .entry)) (now (d .exit)) ⌝ }
 {
     let mut left = map;
@@ -66,8 +68,8 @@ fn seed_row(d: &mut [[u32; 64]; 64], number: &[u8; 64], map: u64, v: usize)
 }
 
 // The same at every step below n, by its row of sets.
-fn seed_rows(d: &mut [[u32; 64]; 64], number: &[u8; 64], sets: &[u64; 64], n: usize)
-    requires { ⌜ (n ≤ 64) × Square (now d) ⌝ }
+fn seed_rows(d: &mut [[u32; 64]], number: &[u8; 64], sets: &[u64; 64], n: usize)
+    requires { ⌜ (n ≤ 64) × (n ≤ length (now d)) × Square (length (now d)) (now d) ⌝ }
     ensures { λ r. ⌜ Seeded (now (number .entry)) (λ w a. (w < n) × (a < 64) × (row-bit (now (sets .entry)) w a ≡ true)) (now (d .entry)) (now (d .exit)) ⌝ }
 {
     let mut v = 0;
@@ -78,8 +80,8 @@ fn seed_rows(d: &mut [[u32; 64]; 64], number: &[u8; 64], sets: &[u64; 64], n: us
 }
 
 // The cell of step v in column k becomes c, where that is more.
-fn raise(d: &mut [[u32; 64]; 64], v: usize, k: usize, c: u32)
-    requires { ⌜ (v < 64) × (k < 64) × Square (now d) ⌝ }
+fn raise(d: &mut [[u32; 64]], v: usize, k: usize, c: u32)
+    requires { ⌜ (v < length (now d)) × (k < 64) × Square (length (now d)) (now d) ⌝ }
     ensures { λ r. ⌜ Raised v k c (now (d .entry)) (now (d .exit)) ⌝ }
 {
     if d[v][k] < c {
@@ -100,8 +102,8 @@ fn seeded(gain: u64, loss: u64) -> u32
 }
 
 // The walk of one counted edge out of a step other than 0, in the column of that step where it has one.
-fn seed_edge(d: &mut [[u32; 64]; 64], number: &[u8; 64], w: u64)
-    requires { ⌜ Square (now d) × (unpack w .counted ≡ true) ⌝ }
+fn seed_edge(d: &mut [[u32; 64]], number: &[u8; 64], w: u64)
+    requires { ⌜ (unpack w .to < length (now d)) × Square (length (now d)) (now d) × (unpack w .counted ≡ true) ⌝ }
     ensures { λ r. ⌜ BegunAll (Only (unpack w)) (now (number .entry)) (now (d .entry)) (now (d .exit)) ⌝ }
 {
     let from = edge_from(w);
@@ -117,8 +119,8 @@ fn seed_edge(d: &mut [[u32; 64]; 64], number: &[u8; 64], w: u64)
 }
 
 // The same for any edge. One that gains nothing begins no walk that is not there.
-fn seed_word(d: &mut [[u32; 64]; 64], number: &[u8; 64], w: u64)
-    requires { ⌜ Square (now d) ⌝ }
+fn seed_word(d: &mut [[u32; 64]], number: &[u8; 64], w: u64)
+    requires { ⌜ (unpack w .to < length (now d)) × Square (length (now d)) (now d) ⌝ }
     ensures { λ r. ⌜ BegunAll (Only (unpack w)) (now (number .entry)) (now (d .entry)) (now (d .exit)) ⌝ }
 {
     if !is_counted(w) {
@@ -131,8 +133,8 @@ fn seed_word(d: &mut [[u32; 64]; 64], number: &[u8; 64], w: u64)
 }
 
 // The edges of a list.
-fn seed_words(d: &mut [[u32; 64]; 64], number: &[u8; 64], es: &[u64])
-    requires { ⌜ Square (now d) ⌝ }
+fn seed_words(d: &mut [[u32; 64]], number: &[u8; 64], es: &[u64])
+    requires { ⌜ EndsBelow (now es) (length (now d)) × Square (length (now d)) (now d) ⌝ }
     ensures { λ r. ⌜ BegunAll (members (graph (now (es .entry)))) (now (number .entry)) (now (d .entry)) (now (d .exit)) ⌝ }
 {
     let mut k = 0;
@@ -142,20 +144,59 @@ fn seed_words(d: &mut [[u32; 64]; 64], number: &[u8; 64], es: &[u64])
     }
 }
 
+// The gain of a counted edge; 0 for another.
+fn counted_gain(w: u64) -> u64
+    ensures { λ r. ⌜ (unpack w .counted ≡ true → r ≡ unpack w .gain) ⌝ }
+{
+    let gain = edge_gain(w);
+    if is_counted(w) { gain } else { 0 }
+}
+
+// A number that is at least as large as both.
+fn either(a: u64, b: u64) -> u64
+    ensures { λ r. ⌜ (a ≤ r) × (b ≤ r) ⌝ }
+{
+    a | b
+}
+
+// Whether a counted edge gains, as few do. The loop has no branch, so that the compiler makes vectors of it.
+fn begins_some(es: &[u64]) -> bool
+    ensures { λ r. ⌜ (r ≡ false → Idle (now (es .entry)) (length (now (es .entry)))) ⌝ }
+{
+    let mut all = 0u64;
+    let mut k = 0;
+    while k < es.len() {
+        let gain = counted_gain(es[k]);
+        all = either(all, gain);
+        k += 1;
+    }
+    all != 0
+}
+
+// The edges of a list, where one of them may begin a walk that is not there.
+fn seed_edges(d: &mut [[u32; 64]], number: &[u8; 64], es: &[u64])
+    requires { ⌜ EndsBelow (now es) (length (now d)) × Square (length (now d)) (now d) ⌝ }
+    ensures { λ r. ⌜ BegunAll (members (graph (now (es .entry)))) (now (number .entry)) (now (d .entry)) (now (d .exit)) ⌝ }
+{
+    if begins_some(es) {
+        seed_words(d, number, es);
+    }
+}
+
 // Numbers for the members of the rows of sets below n, and what their columns begin with, in an empty table. How many columns there are.
 pub fn seed(
-    d: &mut [[u32; 64]; 64],
+    d: &mut [[u32; 64]],
     number: &mut [u8; 64],
     es: &[u64],
     sets: &[u64; 64],
     n: usize,
 ) -> usize
-    requires { ⌜ (n ≤ 64) × Empty (now d) × Blank (now number) ⌝ }
-    ensures { λ r. ⌜ Prepared (members (graph (now (es .entry)))) (now (sets .entry)) n r (now (number .exit)) (now (d .exit)) ⌝ }
+    requires { ⌜ (n ≤ 64) × (n ≤ length (now d)) × EndsBelow (now es) (length (now d)) × Empty (now d) × Blank (now number) ⌝ }
+    ensures { λ r. ⌜ Prepared (members (graph (now (es .entry)))) (now (sets .entry)) n r (now (number .exit)) (length (now (d .entry))) (now (d .exit)) ⌝ }
 {
     let all = all_members(sets, n);
     let width = number_members(all, number);
     seed_rows(d, number, sets, n);
-    seed_words(d, number, es);
+    seed_edges(d, number, es);
     width
 }

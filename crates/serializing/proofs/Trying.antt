@@ -16,13 +16,13 @@ use Rattle.definitions.specs.Plan.{offset-row}
 use Rattle.definitions.specs.Rounds.{cell, extend}
 use Rattle.definitions.specs.Waits.{serialized, wait-maps}
 use Rattle.demands.proofs.Sheets.{feasible-iff, not-8, serializable-iff, serialized-rooted}
-use Rattle.edges.specs.Serial.{wait-edges}
+use Rattle.edges.specs.Serial.{Within, wait-edges}
 use Rattle.edges.proofs.Serializing.{serialized-maps}
-use Rattle.heaviest.specs.Settling.{Supported, Within}
+use Rattle.heaviest.specs.Settling.{Supported}
 use Rattle.laws.proofs.Bools.{bool-cases, both-ways, not-passing, or-left}
 use Rattle.laws.proofs.Tests.{all-below-by, all-below-each, all-by, all-each, any-none, tabulate-at}
 use Rattle.relations.specs.Rows.{row-bit}
-use Rattle.relaxation.specs.Columns.{entry}
+use Rattle.lifting.specs.Tables.{entry}
 use Rattle.settled.specs.Settled.{cut-hand, handed-on, source-column}
 use Rattle.theory.specs.Graphs.{ForwardAcyclic, Gains, NonPositive, Rooted, Serializable, Shape, Well}
 use Rattle.theory.proofs.Feasibility.{stable-nonpositive}

@@ -12,21 +12,20 @@ ghost use Rattle.adjacency.specs.Lists.{Lists};
 ghost use Rattle.edges.specs.Words.{graph};
 ghost use Rattle.precedence.specs.Chains.{precedes};
 ghost use Rattle.relations.specs.Rows.{row-bit};
-ghost use Rattle.relaxation.specs.Columns.{entry};
+ghost use Rattle.lifting.specs.Tables.{entry};
 ghost use Rattle.theory.specs.Graphs.{ForwardAcyclic, Gains, Shape, Well};
 
-// Whether some return counts from a finish.
+// Whether some return counts from a finish: bit 62 of its word. The loop has no branch, so that it goes over several words at a time.
 fn has_late(es: &[u64]) -> bool
     ensures { λ r. ⌜ r ≡ any (λ e. e .late) (graph (now (es .entry))) ⌝ }
 {
+    let mut seen = 0;
     let mut k = 0;
     while k < es.len() {
-        if edges::is_late(es[k]) {
-            return true;
-        }
+        seen = bitmaps::union(seen, es[k]);
         k += 1;
     }
-    false
+    bitmaps::has(seen, 62)
 }
 
 // Bit u of row v, below n: a forward edge leads from u to v, or v waits for u.
@@ -75,7 +74,7 @@ fn leaves_times(es: &[u64], lists: &[u16], maps: &[u64; 64], order: &[u8; 64], n
     requires { ⌜ (1 ≤ n) × (n ≤ 64) × (length (now es) ≤ 2048) × Lists (now es) (now lists) ⌝ }
     ensures { λ r. ⌜ (Well n (members (graph (now (es .entry)))) → Gains (members (graph (now (es .entry)))) 65535 → now (maps .entry) ≡ wait-maps n (graph (now (es .entry))) → closes-circle n (serialized n (graph (now (es .entry)))) ≡ false → r ≡ not (infeasible n (serialized n (graph (now (es .entry)))))) ⌝ }
 {
-    let mut d = heaviest::empty_table();
+    let mut d = [[0u32; 64]; 64];
     let sets = [1u64; 64];
     heaviest::walks(&mut d, es, lists, maps, &sets, order, n);
     if d[0][0] == 0 {

@@ -12,15 +12,14 @@ use Rattle.definitions.specs.Basics.{all, all-below, test-bit}
 use Rattle.definitions.specs.Links.{Edge}
 use Rattle.definitions.specs.Rounds.{extend}
 use Rattle.definitions.specs.Waits.{wait-edge}
-use Rattle.edges.specs.Serial.{wait-edges}
+use Rattle.edges.specs.Serial.{Within, wait-edges}
 use Rattle.edges.specs.Words.{graph}
 use Rattle.edges.proofs.Waiting.{WaitBit, wait-edges-has, wait-edges-only}
-use Rattle.heaviest.specs.Settling.{Within}
 use Rattle.laws.proofs.Bools.{bool-cases, both-ways, not-passing, or-left, or-right, or-split, same-test}
 use Rattle.laws.proofs.Maps.{test-zero}
 use Rattle.laws.proofs.Searches.{all-below-same}
 use Rattle.laws.proofs.Tests.{all-below-by, all-below-each, all-by, all-each}
-use Rattle.relaxation.specs.Columns.{entry}
+use Rattle.lifting.specs.Tables.{entry}
 use Rattle.settled.specs.Settled.{handed-on, waits-handed-on}
 
 -- An edge by its fields.

@@ -7,7 +7,7 @@ use Rattle.definitions.specs.Basics.{all-below, test-bit}
 use Rattle.definitions.specs.Links.{Edge}
 use Rattle.definitions.specs.Rounds.{extend}
 use Rattle.definitions.specs.Waits.{wait-edge}
-use Rattle.relaxation.specs.Columns.{entry}
+use Rattle.lifting.specs.Tables.{entry}
 
 abbrev pub source-column : List (List ℕ) → ℕ → ℕ
 source-column d v = entry d v 0

@@ -3,7 +3,6 @@ use edges::edge_from;
 use edges::edge_gain;
 use edges::edge_loss;
 use edges::edge_to;
-use relaxation::extended;
 ghost use mathlib.Core.Path.{_≡_};
 ghost use mathlib.Core.List.{_++_};
 ghost use Prim.Native.Nat.{_<_, _≤_, min};
@@ -11,15 +10,32 @@ ghost use lib.Dec.{leb};
 ghost use lib.ListN.{getD};
 ghost use Rattle.definitions.specs.Basics.{all, all-below};
 ghost use Rattle.definitions.specs.Rounds.{extend};
-ghost use Rattle.edges.specs.Serial.{wait-edges};
+ghost use Rattle.edges.specs.Serial.{Within, wait-edges};
 ghost use Rattle.edges.specs.Words.{graph, unpack};
-ghost use Rattle.heaviest.specs.Settling.{Within};
-ghost use Rattle.relaxation.specs.Columns.{Square, entry};
+ghost use Rattle.lifting.specs.Tables.{Square, entry};
 ghost use Rattle.settled.specs.Settled.{handed-on, waits-handed-on};
+
+// A walk made longer by an edge, cut at the largest number of a cell.
+fn extended(c: u32, gain: u64, loss: u64) -> u32
+    requires { ⌜ gain < 16777216 ⌝ }
+    ensures { λ r. ⌜ r ≡ min (extend c gain loss) 4294967295 ⌝ }
+{
+    if c == 0 {
+        return 0;
+    }
+    let s = (c as u64) + gain;
+    if s <= loss {
+        return 1;
+    }
+    if 4294967295 < s - loss {
+        return 4294967295;
+    }
+    (s - loss) as u32
+}
 
 // Whether an edge, by its fields, has handed on.
 fn handed(d: &[[u32; 64]; 64], from: usize, to: usize, gain: u64, loss: u64) -> bool
-    requires { ⌜ (from < 64) × (to < 64) × (gain < 16777216) × Square (now d) ⌝ }
+    requires { ⌜ (from < 64) × (to < 64) × (gain < 16777216) × Square 64 (now d) ⌝ }
     ensures { λ r. ⌜ r ≡ leb (min (extend (entry (now (d .entry)) from 0) gain loss) 4294967295) (entry (now (d .entry)) to 0) ⌝ }
 {
     let c = extended(d[from][0], gain, loss);
@@ -28,7 +44,7 @@ fn handed(d: &[[u32; 64]; 64], from: usize, to: usize, gain: u64, loss: u64) -> 
 
 // Whether an edge, by its word, has.
 fn handed_word(d: &[[u32; 64]; 64], w: u64) -> bool
-    requires { ⌜ Square (now d) ⌝ }
+    requires { ⌜ Square 64 (now d) ⌝ }
     ensures { λ r. ⌜ r ≡ handed-on (now (d .entry)) (unpack w) ⌝ }
 {
     let from = edge_from(w);
@@ -40,7 +56,7 @@ fn handed_word(d: &[[u32; 64]; 64], w: u64) -> bool
 
 // Whether every edge has.
 fn settled_edges(d: &[[u32; 64]; 64], es: &[u64]) -> bool
-    requires { ⌜ Square (now d) ⌝ }
+    requires { ⌜ Square 64 (now d) ⌝ }
     ensures { λ r. ⌜ r ≡ all (handed-on (now (d .entry))) (graph (now (es .entry))) ⌝ }
 {
     let mut k = 0;
@@ -55,7 +71,7 @@ fn settled_edges(d: &[[u32; 64]; 64], es: &[u64]) -> bool
 
 // Whether every wait of step i has, by the map of what it waits for.
 fn settled_row(d: &[[u32; 64]; 64], map: u64, i: usize) -> bool
-    requires { ⌜ (i < 64) × Square (now d) ⌝ }
+    requires { ⌜ (i < 64) × Square 64 (now d) ⌝ }
     ensures { λ r. ⌜ r ≡ waits-handed-on (now (d .entry)) map i ⌝ }
 {
     let mut left = map;
@@ -71,7 +87,7 @@ fn settled_row(d: &[[u32; 64]; 64], map: u64, i: usize) -> bool
 
 // Whether every wait of the steps below n has.
 fn settled_waits(d: &[[u32; 64]; 64], maps: &[u64; 64], n: usize) -> bool
-    requires { ⌜ (n ≤ 64) × Square (now d) ⌝ }
+    requires { ⌜ (n ≤ 64) × Square 64 (now d) ⌝ }
     ensures { λ r. ⌜ r ≡ all-below (λ i. waits-handed-on (now (d .entry)) (getD (now (maps .entry)) i 0) i) n ⌝ }
 {
     let mut i = 0;
@@ -86,7 +102,7 @@ fn settled_waits(d: &[[u32; 64]; 64], maps: &[u64; 64], n: usize) -> bool
 
 // Whether every edge and every wait that maps hold has handed on.
 pub fn settled(d: &[[u32; 64]; 64], es: &[u64], maps: &[u64; 64], n: usize) -> bool
-    requires { ⌜ (n ≤ 64) × Square (now d) ⌝ }
+    requires { ⌜ (n ≤ 64) × Square 64 (now d) ⌝ }
     ensures { λ r. ⌜ (Within n (now (maps .entry)) → r ≡ all (handed-on (now (d .entry))) (graph (now (es .entry)) ++ wait-edges n (now (maps .entry)))) ⌝ }
 {
     if !settled_edges(d, es) {

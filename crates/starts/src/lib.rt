@@ -1,5 +1,5 @@
 // Start times (relative start times) for a list of delays, from the working tables: see crate irredundant for what d and sets hold.
-// Every function is safe for any tables; on those of an edge list its answer is the definition's.
+// Every function is safe for any tables with a row for each step; on those of an edge list its answer is the definition's.
 ghost use mathlib.Core.Path.{_≡_};
 ghost use Prim.Native.Nat.{ℕ, _+_, _<_, _≤_, min, max};
 ghost use lib.Dec.{eqb};
@@ -32,23 +32,16 @@ fn narrow(x: u64) -> u32
 }
 
 // What the member a adds to the choice for v.
-fn term_of(d: &[[u32; 64]; 64], list: &[u32], old: &[u32; 64], v: usize, a: usize) -> u64
-    requires { ⌜ (v < 64) × (a < 64) × (a < length (now list)) ⌝ }
+fn term_of(d: &[[u32; 64]], list: &[u32], old: &[u32; 64], v: usize, a: usize) -> u64
+    requires { ⌜ (v < length (now d)) × (a < 64) × (a < length (now list)) ⌝ }
     ensures { λ r. ⌜ r ≡ term (now (d .entry)) (now (list .entry)) (now (old .entry)) v a ⌝ }
 {
     sum(old[a], list[a], irredundant::offset_at(d, v, a))
 }
 
 // The largest term of the members below n, in their order.
-fn latest(
-    d: &[[u32; 64]; 64],
-    members: u64,
-    n: usize,
-    list: &[u32],
-    old: &[u32; 64],
-    v: usize,
-) -> u64
-    requires { ⌜ (n ≤ 64) × (v < 64) × (n ≤ length (now list)) ⌝ }
+fn latest(d: &[[u32; 64]], members: u64, n: usize, list: &[u32], old: &[u32; 64], v: usize) -> u64
+    requires { ⌜ (n ≤ 64) × (v < length (now d)) × (n ≤ length (now list)) ⌝ }
     ensures { λ r. ⌜ r ≡ largest (test-bit members) (term (now (d .entry)) (now (list .entry)) (now (old .entry)) v) n ⌝ }
 {
     let mut most = 0;
@@ -67,14 +60,14 @@ fn latest(
 
 // The start of v by the starts of a row.
 fn start_of(
-    d: &[[u32; 64]; 64],
+    d: &[[u32; 64]],
     sets: &[u64; 64],
     n: usize,
     list: &[u32],
     old: &[u32; 64],
     v: usize,
 ) -> u32
-    requires { ⌜ (n ≤ 64) × (v < 64) × (n ≤ length (now list)) ⌝ }
+    requires { ⌜ (n ≤ 64) × (v < 64) × (v < length (now d)) × (n ≤ length (now list)) ⌝ }
     ensures { λ r. ⌜ r ≡ start-at (now (d .entry)) (now (sets .entry)) n (now (list .entry)) (now (old .entry)) v ⌝ }
 {
     if v == 0 {
@@ -85,8 +78,8 @@ fn start_of(
 }
 
 // One turn of the rule.
-fn turn(d: &[[u32; 64]; 64], sets: &[u64; 64], n: usize, list: &[u32], old: &[u32; 64]) -> [u32; 64]
-    requires { ⌜ (n ≤ 64) × (n ≤ length (now list)) ⌝ }
+fn turn(d: &[[u32; 64]], sets: &[u64; 64], n: usize, list: &[u32], old: &[u32; 64]) -> [u32; 64]
+    requires { ⌜ (n ≤ 64) × (n ≤ length (now d)) × (n ≤ length (now list)) ⌝ }
     ensures { λ r. ⌜ r ≡ next-row (now (d .entry)) (now (sets .entry)) n (now (list .entry)) (now (old .entry)) ⌝ }
 {
     let mut row = [0u32; 64];
@@ -115,8 +108,8 @@ fn same(a: &[u32; 64], b: &[u32; 64], n: usize) -> bool
 }
 
 // Turns until one changes nothing, n of them at most.
-fn turns(d: &[[u32; 64]; 64], sets: &[u64; 64], n: usize, list: &[u32]) -> [u32; 64]
-    requires { ⌜ (n ≤ 64) × (n ≤ length (now list)) ⌝ }
+fn turns(d: &[[u32; 64]], sets: &[u64; 64], n: usize, list: &[u32]) -> [u32; 64]
+    requires { ⌜ (n ≤ 64) × (n ≤ length (now d)) × (n ≤ length (now list)) ⌝ }
     ensures { λ r. ⌜ r ≡ row-after (now (d .entry)) (now (sets .entry)) n (now (list .entry)) n ⌝ }
 {
     let mut row = [0u32; 64];
@@ -133,8 +126,8 @@ fn turns(d: &[[u32; 64]; 64], sets: &[u64; 64], n: usize, list: &[u32]) -> [u32;
 }
 
 // Start times for a list of delays, at the front of the lent numbers.
-pub fn fill_starts(d: &[[u32; 64]; 64], sets: &[u64; 64], n: usize, list: &[u32], out: &mut [u32])
-    requires { ⌜ (n ≤ 64) × (n ≤ length (now list)) × (n ≤ length (now out)) ⌝ }
+pub fn fill_starts(d: &[[u32; 64]], sets: &[u64; 64], n: usize, list: &[u32], out: &mut [u32])
+    requires { ⌜ (n ≤ 64) × (n ≤ length (now d)) × (n ≤ length (now list)) × (n ≤ length (now out)) ⌝ }
     ensures { λ r. ⌜ Started n (now (d .entry)) (now (sets .entry)) (now (list .entry)) (now (out .entry)) (now (out .exit)) ⌝ }
 {
     let row = turns(d, sets, n, list);

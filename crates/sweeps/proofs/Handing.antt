@@ -18,43 +18,42 @@ use Rattle.adjacency.proofs.Following.{Behind, behind-mem, behind-split, mem-be
 use Rattle.edges.specs.Words.{graph, unpack}
 use Rattle.laws.proofs.Bools.{and-split, both-ways, same-or-not}
 use Rattle.laws.proofs.Maps.{test-zero}
-use Rattle.relaxation.specs.Columns.{Handed, HandedAll, Only, Square, Under, WaitsFor, column}
+use Rattle.lifting.specs.Tables.{Square}
+use Rattle.relaxation.specs.Columns.{Bounds, Handed, HandedAll, Only, Under, WaitsFor, column}
+use Rattle.lifting.proofs.Tables.{square-then}
 
 -- A mark that does not stand later did not stand before.
 pub mark-back : {b c : Bool} → (b ≡ true → c ≡ true) → c ≡ false → b ≡ false
 mark-back {b = true} k h = absurd (both-ways (k refl) h)
 mark-back {b = false} k h = refl
 
--- What is below a sought column of a graph is so in a part of it; and what changes in the part stays below it in the whole.
-under-part : {E G : Graph} {t r : ℕ → ℕ} → E ⊑ G → Under G t r → Under E t r
-under-part i U = record { settles = λ e m. U .settles e (i e m); small = U .small; below = U .below; live = U .live }
-
-under-whole : {E G : Graph} {t r s : ℕ → ℕ} → Under G t r → Under E t s → Under G t s
-under-whole U W = record { settles = U .settles; small = U .small; below = W .below; live = W .live }
+-- What bounds the edges of a graph bounds those of a part of it.
+bounds-part : {E G : Graph} {u x : ℕ} {t : ℕ → ℕ} → E ⊑ G → Bounds G u x t → Bounds E u x t
+bounds-part i B = record { small = B .small; ends = λ e m. B .ends e (i e m) }
 
 -- One graph and then another make a third, where the edges out of u are in one of them.
 pub handed-both : {E F G : Graph} {u x : ℕ} {r s t : ℕ → ℕ} {f g h : ℕ → Bool} → E ⊑ G → F ⊑ G → ((e : Edge) → G e → e .from ≡ u → E e ⊎ F e) → Handed E u x r s f g → Handed F u x s t g h → Handed G u x r t f h
 handed-both {E} {F} {G} {u} {x} {r} {s} {t} i j split H K =
-    record { up = λ y U b v. omega (arith, H .up y (under-part i U) b v, K .up y (under-part j (between y U b)) b v); under = λ y U b. under-whole (between y U b) (K .under y (under-part j (between y U b)) b); hands = λ y U b e m o. by y U b e o (split e m o); marks = λ v q. K .marks v (H .marks v q); marked = λ v q. K .marked v q ∙ H .marked v (mark-back (K .marks v) q) }
+    record { up = λ y U B v. omega (arith, H .up y U (bounds-part i B) v, K .up y (between y U B) (bounds-part j B) v); under = λ y U B. K .under y (between y U B) (bounds-part j B); hands = λ y U B e m o. by y U B e o (split e m o); marks = λ v q. K .marks v (H .marks v q); marked = λ v q. K .marked v q ∙ H .marked v (mark-back (K .marks v) q) }
   where
-    between : (y : ℕ → ℕ) → Under G y r → x ≤ y u → Under G y s
-    between y U b = under-whole U (H .under y (under-part i U) b)
+    between : (y : ℕ → ℕ) → Under y r → Bounds G u x y → Under y s
+    between y U B = H .under y U (bounds-part i B)
 
-    by : (y : ℕ → ℕ) → Under G y r → x ≤ y u → (e : Edge) → e .from ≡ u → E e ⊎ F e → extend x (e .gain) (e .loss) ≤ t (e .to)
-    by y U b e o (inl m) = omega (arith, H .hands y (under-part i U) b e m o, K .up y (under-part j (between y U b)) b (e .to))
-    by y U b e o (inr m) = K .hands y (under-part j (between y U b)) b e m o
+    by : (y : ℕ → ℕ) → Under y r → Bounds G u x y → (e : Edge) → e .from ≡ u → E e ⊎ F e → extend x (e .gain) (e .loss) ≤ t (e .to)
+    by y U B e o (inl m) = omega (arith, H .hands y U (bounds-part i B) e m o, K .up y (between y U B) (bounds-part j B) (e .to))
+    by y U B e o (inr m) = K .hands y (between y U B) (bounds-part j B) e m o
 
 pub handed-all : {E F G : ℕ → Graph} {number : List ℕ} {u u′ : ℕ} {x : ℕ → ℕ} {d d′ d″ : List (List ℕ)} {m m′ m″ : ℕ} → u′ ≡ u → ((a : ℕ) → E a ⊑ G a) → ((a : ℕ) → F a ⊑ G a) → ((a : ℕ) (e : Edge) → G a e → e .from ≡ u → E a e ⊎ F a e) → HandedAll E number u x d d′ m m′ → HandedAll F number u′ x d′ d″ m′ m″ → HandedAll G number u x d d″ m m″
 handed-all {F = F} {u = u} {x = x} {d′ = d′} {d″ = d″} {m′ = m′} {m″ = m″} same i j split H K =
-    record { square = K .square; each = λ width anchor N k q. let a = anchor k in let K′ : Handed (F a) u (x k) (column d′ k) (column d″ k) (test-bit m′) (test-bit m″) = rw same at (K .each width anchor N k q) in handed-both (i a) (j a) (split a) (H .each width anchor N k q) K′ }
+    record { square = square-then (H .square) (K .square); each = λ width anchor N k q. let a = anchor k in let K′ : Handed (F a) u (x k) (column d′ k) (column d″ k) (test-bit m′) (test-bit m″) = rw same at (K .each width anchor N k q) in handed-both (i a) (j a) (split a) (H .each width anchor N k q) K′ }
 
 -- The same edges under another name.
 pub handed-as : {E G : ℕ → Graph} {number : List ℕ} {u : ℕ} {x : ℕ → ℕ} {d d′ : List (List ℕ)} {m m′ : ℕ} → ((a : ℕ) → E a ⊑ G a) → ((a : ℕ) → G a ⊑ E a) → HandedAll E number u x d d′ m m′ → HandedAll G number u x d d′ m m′
 handed-as i j H =
-    record { square = H .square; each = λ width anchor N k q. let a = anchor k in let h = H .each width anchor N k q in record { up = λ t U b. h .up t (under-part (i a) U) b; under = λ t U b. under-whole U (h .under t (under-part (i a) U) b); hands = λ t U b e m o. h .hands t (under-part (i a) U) b e (j a e m) o; marks = h .marks; marked = h .marked } }
+    record { square = H .square; each = λ width anchor N k q. let a = anchor k in let h = H .each width anchor N k q in record { up = λ t U B. h .up t U (bounds-part (i a) B); under = λ t U B. h .under t U (bounds-part (i a) B); hands = λ t U B e m o. h .hands t U (bounds-part (i a) B) e (j a e m) o; marks = h .marks; marked = h .marked } }
 
 -- Nothing has been done while no edge of the graph leaves u.
-pub handed-none : {E : ℕ → Graph} {number : List ℕ} {u : ℕ} {x : ℕ → ℕ} (d : List (List ℕ)) (m : ℕ) → Square d → ((a : ℕ) (e : Edge) → E a e → e .from ≢ u) → HandedAll E number u x d d m m
+pub handed-none : {E : ℕ → Graph} {number : List ℕ} {u : ℕ} {x : ℕ → ℕ} (d : List (List ℕ)) (m : ℕ) → Square (length d) d → ((a : ℕ) (e : Edge) → E a e → e .from ≢ u) → HandedAll E number u x d d m m
 handed-none d m S away =
     record { square = S; each = λ width anchor N k q. record { up = λ t U b v. omega arith; under = λ t U b. U; hands = λ t U b e i o. absurd (away (anchor k) e i o); marks = λ v h. h; marked = λ v h. refl } }
 
@@ -70,7 +69,7 @@ pub record Listing (es number : List ℕ) (u : ℕ) (x : ℕ → ℕ) (d₀ d : 
   pub handed : HandedAll (λ a. UsableFrom (Behind es k) a) number u x d₀ d m₀ m
 
 module _ (es number : List ℕ) (u : ℕ) (x : ℕ → ℕ) (d₀ : List (List ℕ)) (m₀ : ℕ) where
-  pub listing-start : (k : ℕ) → Square d₀ → k ≡ last-from es u (length es) → Listing es number u x d₀ d₀ m₀ m₀ k
+  pub listing-start : (k : ℕ) → Square (length d₀) d₀ → k ≡ last-from es u (length es) → Listing es number u x d₀ d₀ m₀ m₀ k
   listing-start k S h =
       record { few = omega (arith, last-below es u (length es)); leaves = λ i e. last-leaves es u (length es) i (sym h ∙ e) .0; handed = handed-none d₀ m₀ S (λ a e b o. last-skips es u (length es) (b .0 .place) (omega (arith, b .0 .behind)) (b .0 .inside) (ap (λ (y : Edge). y .from) (sym (b .0 .same)) ∙ o)) }
 
@@ -142,7 +141,7 @@ waits-told left z e w =
     record { target = w .target; waits = w .waits; told = ap (λ (x : ℕ). test-bit x (w .target)) z ∙ test-zero (w .target); same = w .same }
 
 module _ (waiting u : ℕ) (number : List ℕ) (x : ℕ → ℕ) (d₀ : List (List ℕ)) (m₀ : ℕ) where
-  pub told-start : Square d₀ → HandedAll (λ a. Told u waiting waiting) number u x d₀ d₀ m₀ m₀
+  pub told-start : Square (length d₀) d₀ → HandedAll (λ a. Told u waiting waiting) number u x d₀ d₀ m₀ m₀
   told-start S = handed-none d₀ m₀ S (λ a e t o. both-ways (t .waits) (t .told))
 
   -- A wait is never late, so it is for every anchor.

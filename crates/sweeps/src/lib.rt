@@ -1,17 +1,21 @@
 // Steps that hand on, along their edges and to what waits for them, the rows that were raised since they last did. See relaxation's specs/Columns.antt and specs/Graphs.antt.
-use relaxation::extent;
+use lifting::extent;
+use lifting::raise_row;
+use lifting::take;
 use relaxation::push_word;
-use relaxation::raise_row;
-use relaxation::take;
 ghost use mathlib.Core.Path.{_≡_};
+ghost use mathlib.Core.Bool.{true};
 ghost use mathlib.Core.List.{List};
-ghost use Prim.Native.Nat.{ℕ, _-_, _<_, _≤_};
+ghost use Prim.Native.Nat.{ℕ, _+_, _-_, _<_, _≤_};
 ghost use lib.ListN.{length, getD};
 ghost use Rattle.adjacency.specs.Lists.{Lists};
+ghost use Rattle.definitions.specs.Basics.{test-bit};
 ghost use Rattle.definitions.specs.Links.{UsableFrom, members};
-ghost use Rattle.edges.specs.Words.{graph};
-ghost use Rattle.relaxation.specs.Columns.{Square, HandedAll, WaitsFor};
-ghost use Rattle.relaxation.specs.Lifts.{Clear, Ready, lent};
+ghost use Rattle.edges.specs.Serial.{Within};
+ghost use Rattle.edges.specs.Words.{EndsBelow, graph};
+ghost use Rattle.lifting.specs.Tables.{Square};
+ghost use Rattle.relaxation.specs.Columns.{HandedAll, WaitsFor};
+ghost use Rattle.lifting.specs.Lifts.{Clear, Ready, lent};
 ghost use Rattle.sweeps.specs.Graphs.{SweptBy};
 
 // A place in an adjacency list.
@@ -23,7 +27,7 @@ fn index(x: u16) -> usize
 
 // The edges out of u hand on a row.
 fn push_edges(
-    d: &mut [[u32; 64]; 64],
+    d: &mut [[u32; 64]],
     row: &[u32; 64],
     marks: u64,
     es: &[u64],
@@ -33,7 +37,7 @@ fn push_edges(
     number: &[u8; 64],
     width: usize,
 ) -> u64
-    requires { ⌜ (u < 64) × (width ≤ 64) × (length (now es) ≤ 2048) × Lists (now es) (now lists) × Square (now d) × Ready (now row) width top ⌝ }
+    requires { ⌜ (u < 64) × (width ≤ 64) × (length (now es) ≤ 2048) × Lists (now es) (now lists) × EndsBelow (now es) (length (now d)) × Square (length (now d)) (now d) × Ready (now row) width top ⌝ }
     ensures { λ r. ⌜ HandedAll (λ a. UsableFrom (members (graph (now (es .entry)))) a) (now (number .entry)) u (lent (now (row .entry)) width) (now (d .entry)) (now (d .exit)) marks r ⌝ }
 {
     let mut left = marks;
@@ -46,14 +50,8 @@ fn push_edges(
 }
 
 // What waits for u, by a map, is handed the row as it is.
-fn push_waits(
-    d: &mut [[u32; 64]; 64],
-    row: &[u32; 64],
-    marks: u64,
-    waiting: u64,
-    width: usize,
-) -> u64
-    requires { ⌜ (width ≤ 64) × Square (now d) × ((k : ℕ) → k < width → Clear (getD (now row) k 0)) ⌝ }
+fn push_waits(d: &mut [[u32; 64]], row: &[u32; 64], marks: u64, waiting: u64, width: usize) -> u64
+    requires { ⌜ (width ≤ 64) × ((i : ℕ) → test-bit waiting i ≡ true → i < length (now d)) × Square (length (now d)) (now d) × ((k : ℕ) → k < width → Clear (getD (now row) k 0)) ⌝ }
     ensures { λ r. ⌜ ((u : ℕ) (number : List ℕ) → HandedAll (λ a. WaitsFor u waiting) number u (lent (now (row .entry)) width) (now (d .entry)) (now (d .exit)) marks r) ⌝ }
 {
     let mut left = marks;
@@ -68,7 +66,7 @@ fn push_waits(
 
 // Step u hands on, where it has a mark. The row is lent to it as a place to work in.
 fn visit(
-    d: &mut [[u32; 64]; 64],
+    d: &mut [[u32; 64]],
     row: &mut [u32; 64],
     marks: u64,
     es: &[u64],
@@ -78,8 +76,8 @@ fn visit(
     number: &[u8; 64],
     width: usize,
 ) -> u64
-    requires { ⌜ (u < 64) × (width ≤ 64) × (length (now es) ≤ 2048) × Lists (now es) (now lists) × Square (now d) × (length (now row) ≡ 64) ⌝ }
-    ensures { λ r. ⌜ SweptBy (now (es .entry)) (now (waiting .entry)) (now (number .entry)) width (λ v. v ≡ u) (now (d .entry)) (now (d .exit)) marks r × (length (now (row .exit)) ≡ 64) ⌝ }
+    requires { ⌜ (u < 64) × (u < length (now d)) × (width ≤ 64) × (length (now es) ≤ 2048) × Lists (now es) (now lists) × EndsBelow (now es) (length (now d)) × Within (length (now d)) (now waiting) × Square (length (now d)) (now d) × (length (now row) ≡ 64) ⌝ }
+    ensures { λ r. ⌜ SweptBy (now (es .entry)) (now (waiting .entry)) (now (number .entry)) width (λ v. v ≡ u) 1 (now (d .entry)) (now (d .exit)) marks r × (length (now (row .exit)) ≡ 64) ⌝ }
 {
     if !bitmaps::has(marks, u) {
         return marks;
@@ -110,18 +108,26 @@ fn noted(hint: u64, fresh: u64, place: &[u8; 64]) -> u64 {
     all
 }
 
+// A step below n: x where it is one.
+fn step_below(x: usize, n: usize) -> usize
+    requires { ⌜ 1 ≤ n ⌝ }
+    ensures { λ r. ⌜ r < n ⌝ }
+{
+    if x < n { x } else { 0 }
+}
+
 // The step to visit next, where k visits are left: of those in the hint the one with the lowest place in the order; at the end every step below n, from the last to the first.
 fn next_step(k: usize, n: usize, hint: u64, left: u64, order: &[u8; 64]) -> usize
-    requires { ⌜ (n ≤ 64) × (0 < k) × (0 < left) ⌝ }
-    ensures { λ r. ⌜ (r < 64) × (k ≤ n → r ≡ k - 1) ⌝ }
+    requires { ⌜ (1 ≤ n) × (n ≤ 64) × (0 < k) × (0 < left) ⌝ }
+    ensures { λ r. ⌜ (r < n) × (k ≤ n → r ≡ k - 1) ⌝ }
 {
     if k <= n {
         return k - 1;
     }
     if hint == 0 {
-        return bitmaps::lowest(left);
+        return step_below(bitmaps::lowest(left), n);
     }
-    place_of(order[bitmaps::lowest(hint)])
+    step_below(place_of(order[bitmaps::lowest(hint)]), n)
 }
 
 // A map without its smallest member, if it has one.
@@ -133,10 +139,10 @@ fn rest_of(m: u64) -> u64 {
     }
 }
 
-// Steps hand on until no mark is left, or for long enough that each step below n has done so. A step that gets a mark comes into the hint by its place. What hint, order and places are decides only how
-// many visits there are. At first every step has a mark, so the marks are the hint.
+// Steps hand on until no mark is left, or for long enough that each step below n has done so: by at most `most` visits, and then one of each step. A step that gets a mark comes into the hint by its
+// place. What hint, order and places are decides only how many visits there are. At first every step has a mark, so the marks are the hint.
 pub fn sweep(
-    d: &mut [[u32; 64]; 64],
+    d: &mut [[u32; 64]],
     marks: u64,
     es: &[u64],
     lists: &[u16],
@@ -146,14 +152,15 @@ pub fn sweep(
     number: &[u8; 64],
     width: usize,
     n: usize,
+    most: usize,
 ) -> u64
-    requires { ⌜ (n ≤ 64) × (width ≤ 64) × (length (now es) ≤ 2048) × Lists (now es) (now lists) × Square (now d) ⌝ }
-    ensures { λ r. ⌜ SweptBy (now (es .entry)) (now (waiting .entry)) (now (number .entry)) width (λ v. v < n) (now (d .entry)) (now (d .exit)) marks r ⌝ }
+    requires { ⌜ (1 ≤ n) × (n ≤ 64) × (n ≤ length (now d)) × (most ≤ 2048) × (width ≤ 64) × (length (now es) ≤ 2048) × Lists (now es) (now lists) × EndsBelow (now es) (length (now d)) × Within (length (now d)) (now waiting) × Square (length (now d)) (now d) ⌝ }
+    ensures { λ r. ⌜ SweptBy (now (es .entry)) (now (waiting .entry)) (now (number .entry)) width (λ v. v < n) (n + most) (now (d .entry)) (now (d .exit)) marks r ⌝ }
 {
     let mut row = [0u32; 64];
     let mut left = marks;
     let mut hint = marks;
-    let mut k = n + 2048;
+    let mut k = n + most;
     while k != 0 {
         if left == 0 {
             return left;

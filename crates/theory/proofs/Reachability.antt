@@ -51,7 +51,7 @@ mem-forwards (x ∷ es) e m = go (List·Memᴰ·append-cases (cond (x .back) [] 
 
 pub forwards-shape : {n : ℕ} {es : List Edge} → Shape n (members es) → Shape n (members (forwards es))
 forwards-shape {n} {es} shape =
-    record { from-below = λ e m. shape .from-below e (mem-forwards es e m .0); to-below = λ e m. shape .to-below e (mem-forwards es e m .0); back-uncounted = λ e m. shape .back-uncounted e (mem-forwards es e m .0); forward-lossless = λ e m. shape .forward-lossless e (mem-forwards es e m .0); forward-timely = λ e m. shape .forward-timely e (mem-forwards es e m .0) }
+    record { from-below = λ e m. shape .from-below e (mem-forwards es e m .0); to-below = λ e m. shape .to-below e (mem-forwards es e m .0); back-uncounted = λ e m. shape .back-uncounted e (mem-forwards es e m .0); forward-lossless = λ e m. shape .forward-lossless e (mem-forwards es e m .0); forward-timely = λ e m. shape .forward-timely e (mem-forwards es e m .0); late-not-source = λ e m. shape .late-not-source e (mem-forwards es e m .0) }
 
 -- Edges without their weights: the same walks, each of weight 0.
 mem-bare : {e : Edge} {es : List Edge} → List·Memᴰ e es → List·Memᴰ (bare e) (bares es)
@@ -85,7 +85,7 @@ walk-bare {es} (step w e m f o hk hp hq) =
     (record { k = _; p = _; q = _; walk = step (r .0 .walk) (b .edge) (b .mem) (sym (ap (λ (x : Edge). x .from) (b .same)) ∙ f) (sym (ap (λ (x : Edge). x .to) (b .same)) ∙ o) refl refl refl }, omega (arith, r .1, ap (λ (x : Edge). x .gain) (b .same)))
 
 bare-shape : {n : ℕ} {es : List Edge} → Shape n (members es) → Shape n (members (bares es))
-bare-shape {n} {es} shape = record { from-below = λ e m. from-at e (bare-mem es m); to-below = λ e m. to-at e (bare-mem es m); back-uncounted = λ e m b. count-at e (bare-mem es m) b; forward-lossless = λ e m b. ap (λ (x : Edge). x .loss) (bare-mem es m .same); forward-timely = λ e m b. late-at e (bare-mem es m) b }
+bare-shape {n} {es} shape = record { from-below = λ e m. from-at e (bare-mem es m); to-below = λ e m. to-at e (bare-mem es m); back-uncounted = λ e m b. count-at e (bare-mem es m) b; forward-lossless = λ e m b. ap (λ (x : Edge). x .loss) (bare-mem es m .same); forward-timely = λ e m b. late-at e (bare-mem es m) b; late-not-source = λ e m b. source-at e (bare-mem es m) b }
   where
     from-at : (e : Edge) → Bared es e → e .from < n
     from-at e r = omega (arith, shape .from-below (r .edge) (r .mem), ap (λ (x : Edge). x .from) (r .same))
@@ -98,6 +98,9 @@ bare-shape {n} {es} shape = record { from-below = λ e m. from-at e (bare-mem es
 
     late-at : (e : Edge) → Bared es e → e .back ≡ false → e .late ≡ false
     late-at e r b = ap (λ (x : Edge). x .late) (r .same) ∙ shape .forward-timely (r .edge) (r .mem) (sym (ap (λ (x : Edge). x .back) (r .same)) ∙ b)
+
+    source-at : (e : Edge) → Bared es e → e .late ≡ true → e .to ≢ 0
+    source-at e r b z = shape .late-not-source (r .edge) (r .mem) (sym (ap (λ (x : Edge). x .late) (r .same)) ∙ b) (sym (ap (λ (x : Edge). x .to) (r .same)) ∙ z)
 
 bare-nonpositive : (es : List Edge) → NonPositive (members (bares es))
 bare-nonpositive es = record { closed = λ w. let r = walk-bare w in omega (arith, r .1) }

@@ -131,7 +131,7 @@ module _ {n : ℕ} {E E′ F : Graph} {d t : ℕ → ℕ} (W : Waited E E′) (a
 -- What E′ takes over from E.
 module _ {n : ℕ} {E E′ : Graph} (W : Waited E E′) (shape : Shape n E) where
   pub waited-shape : Shape n E′
-  waited-shape = record { from-below = λ e m. from-at e (W .only e m); to-below = λ e m. to-at e (W .only e m); back-uncounted = λ e m. back-at e (W .only e m); forward-lossless = λ e m. loss-at e (W .only e m); forward-timely = λ e m. late-at e (W .only e m) }
+  waited-shape = record { from-below = λ e m. from-at e (W .only e m); to-below = λ e m. to-at e (W .only e m); back-uncounted = λ e m. back-at e (W .only e m); forward-lossless = λ e m. loss-at e (W .only e m); forward-timely = λ e m. late-at e (W .only e m); late-not-source = λ e m. source-at e (W .only e m) }
     where
       from-at : (e : Edge) → E e ⊎ WaitEdge E e → e .from < n
       from-at e (inl m) = shape .from-below e m
@@ -152,6 +152,10 @@ module _ {n : ℕ} {E E′ : Graph} (W : Waited E E′) (shape : Shape n E) wher
       late-at : (e : Edge) → E e ⊎ WaitEdge E e → e .back ≡ false → e .late ≡ false
       late-at e (inl m) b = shape .forward-timely e m b
       late-at e (inr h) b = h .timely
+
+      source-at : (e : Edge) → E e ⊎ WaitEdge E e → e .late ≡ true → e .to ≢ 0
+      source-at e (inl m) b = shape .late-not-source e m b
+      source-at e (inr h) b = absurd (both-ways b (h .timely))
 
   pub waited-timely : Timely E → Timely E′
   waited-timely timely e m = go (W .only e m)

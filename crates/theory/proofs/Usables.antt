@@ -61,7 +61,7 @@ module _ {n : ℕ} {E : Graph} (shape : Shape n E) where
 
   pub usable-shape : (a : ℕ) → Shape n (UsableFrom E a)
   usable-shape a =
-      record { from-below = λ e m. shape .from-below e (m .0); to-below = λ e m. shape .to-below e (m .0); back-uncounted = λ e m. shape .back-uncounted e (m .0); forward-lossless = λ e m. shape .forward-lossless e (m .0); forward-timely = λ e m. shape .forward-timely e (m .0) }
+      record { from-below = λ e m. shape .from-below e (m .0); to-below = λ e m. shape .to-below e (m .0); back-uncounted = λ e m. shape .back-uncounted e (m .0); forward-lossless = λ e m. shape .forward-lossless e (m .0); forward-timely = λ e m. shape .forward-timely e (m .0); late-not-source = λ e m. shape .late-not-source e (m .0) }
 
   -- So anchor sets are the same over them.
   pub member-usable : {a v : ℕ} (b : ℕ) → InAnchorSet E a v → InAnchorSet (UsableFrom E b) a v
@@ -89,7 +89,7 @@ module _ {n : ℕ} {E : Graph} (shape : Shape n E) where
 -- The same of the list.
 pub usable-list-shape : {n : ℕ} {es : List Edge} → Shape n (members es) → (a : ℕ) → Shape n (members (usable es a))
 usable-list-shape {n} {es} shape a =
-    record { from-below = λ e m. shape .from-below e (members-usable es a e m .0); to-below = λ e m. shape .to-below e (members-usable es a e m .0); back-uncounted = λ e m. shape .back-uncounted e (members-usable es a e m .0); forward-lossless = λ e m. shape .forward-lossless e (members-usable es a e m .0); forward-timely = λ e m. shape .forward-timely e (members-usable es a e m .0) }
+    record { from-below = λ e m. shape .from-below e (members-usable es a e m .0); to-below = λ e m. shape .to-below e (members-usable es a e m .0); back-uncounted = λ e m. shape .back-uncounted e (members-usable es a e m .0); forward-lossless = λ e m. shape .forward-lossless e (members-usable es a e m .0); forward-timely = λ e m. shape .forward-timely e (members-usable es a e m .0); late-not-source = λ e m. shape .late-not-source e (members-usable es a e m .0) }
 
 pub carries-list : {n : ℕ} {es : List Edge} → Shape n (members es) → WellPosed (members es) → (a : ℕ) → Carries (members (usable es a)) a
 carries-list {n} {es} shape posed a e m b i =

@@ -25,6 +25,7 @@ pub record Shape (n : ℕ) (E : Graph) : Type 0 where
   pub back-uncounted : (e : Edge) → E e → e .back ≡ true → e .counted ≡ false
   pub forward-lossless : (e : Edge) → E e → e .back ≡ false → e .loss ≡ 0
   pub forward-timely : (e : Edge) → E e → e .back ≡ false → e .late ≡ false
+  pub late-not-source : (e : Edge) → E e → e .late ≡ true → e .to ≢ 0
 
 -- Every step has a forward chain from step 0: not refusal 9.
 abbrev pub Rooted : ℕ → Graph → Type 0

@@ -1,5 +1,6 @@
 -- `heaviest::spread_row` meets its contract.
 use borrow.Author.Needs.{needs}
+use Rattle.lifting.proofs.Tables.{square-own}
 use native.Mathlib.Omega.{arith}
 use Rattle.laws.proofs.Maps.{removed-lt}
 use Rattle.seeding.proofs.Seeding.{stored-cell}
@@ -85,7 +86,10 @@ loop-again c =
     (start .pre .2 (c .before .before .before .before .before .highest .result) (top .below) (s .loop .inv .within (c .before .before .before .before .before .highest .result) (top .member)))
     (c .before .weight-of .ensures)
     (s .loop .inv)
-    (stored-cell (args .v) (c .before .before .before .before .before .highest .result) (c .before .weight-of .result) (s .loop .d) (s .loop .inv .square) (start .pre .0) (top .below))
+    (stored-cell (args .v) (c .before .before .before .before .before .highest .result) (c .before .weight-of .result) (s .loop .d) (square-own (s .loop .inv .square)) (omega (arith, start .pre .0, s .loop .inv .square .rows)) (top .below))
+
+same-length : tie.Need-same-length Inv-loop μ-loop
+same-length c = c .before .loop .inv .square .rows
 
 returns : tie.Need-returns Inv-loop μ-loop
 returns c =
@@ -115,4 +119,5 @@ spread-row-spec =
     remove-requires
     loop-less
     loop-again
+    same-length
     returns)

@@ -1,5 +1,6 @@
 -- `heaviest::spread_rows` meets its contract.
 use borrow.Author.Needs.{needs}
+use Rattle.lifting.proofs.Tables.{square-own}
 use native.Mathlib.Omega.{arith}
 use mathlib.Core.Path.{_≡_, subst}
 use Prim.Native.Nat.{ℕ, _-_, _≤_, _<_}
@@ -19,7 +20,7 @@ abbrev μ-loop : tie.MeasureT-loop
 μ-loop d₀ number sets n v₀ d v = n - v
 
 loop-holds : tie.Need-loop-holds Inv-loop μ-loop
-loop-holds c = (omega arith, spread-start (c .args .number .now) (c .args .sets .now) (c .args .d .now) (c .pre .1))
+loop-holds c = (omega arith, spread-start (c .args .number .now) (c .args .sets .now) (c .args .d .now) (c .pre .2))
 
 mul-spread-row : tie.Need-mul-spread-row Inv-loop μ-loop
 mul-spread-row c = search needs
@@ -28,7 +29,7 @@ element-copy-out-spread-row : tie.Need-element-copy-out-spread-row Inv-loop μ-l
 element-copy-out-spread-row c = search needs
 
 spread-row-requires : tie.Need-spread-row-requires Inv-loop μ-loop
-spread-row-requires c κs = (omega arith, c .before .before .before .loop .inv .1 .square, λ a b h. c .before .before .before .before .pre .2 (c .before .before .before .loop .v) a (omega arith) b h)
+spread-row-requires c κs = let p = c .before .before .before .before .pre in let l = c .before .before .before .loop in let S = l .inv .1 .square in (omega (arith, p .1, S .rows), square-own S, λ a b h. p .3 (l .v) a (omega arith) b h)
 
 add-v : tie.Need-add-v Inv-loop μ-loop
 add-v c = search needs
@@ -37,7 +38,10 @@ loop-less : tie.Need-loop-less Inv-loop μ-loop
 loop-less c = search needs
 
 loop-again : tie.Need-loop-again Inv-loop μ-loop
-loop-again c = let s = c .before .before .before .before in (omega arith, spread-more (s .before .args .number .now) (s .before .args .sets .now) (s .loop .v) (s .loop .inv .1) (c .spread-row .ensures))
+loop-again c = let s = c .before .before .before .before .before in (omega arith, spread-more (s .before .args .number .now) (s .before .args .sets .now) (s .loop .v) (s .loop .inv .1) (c .before .spread-row .ensures))
+
+same-length : tie.Need-same-length Inv-loop μ-loop
+same-length c = c .before .loop .inv .1 .square .rows
 
 returns : tie.Need-returns Inv-loop μ-loop
 returns c =
@@ -59,4 +63,5 @@ spread-rows-spec =
     add-v
     loop-less
     loop-again
+    same-length
     returns)

@@ -23,7 +23,7 @@ lowest-requires : tie.Need-lowest-requires Inv-loop μ-loop
 lowest-requires c κs = omega arith
 
 reaches-requires : tie.Need-reaches-requires Inv-loop μ-loop
-reaches-requires c κs = (omega arith, c .lowest .ensures .below, omega arith)
+reaches-requires c κs = (omega arith, c .lowest .ensures .below, omega arith, omega arith)
 
 remove-if-requires : tie.Need-remove-if-requires Inv-loop μ-loop
 remove-if-requires c κs = c .before .lowest .ensures .below

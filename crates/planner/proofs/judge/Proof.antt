@@ -13,7 +13,7 @@ slice-aggregate-judge-with : tie.Need-slice-aggregate-judge-with
 slice-aggregate-judge-with c = search needs
 
 judge-with-requires : tie.Need-judge-with-requires
-judge-with-requires c κs = room-brief (now (c .before .before .before .before .args .s)) 64 (sym (c .before .before .is-brief .ensures) ∙ c .before .if1 .taken)
+judge-with-requires c κs = room-brief (now (c .before .before .before .before .args .s)) 32 (sym (c .before .before .is-brief .ensures) ∙ c .before .if1 .taken)
 
 returns : tie.Need-returns
 returns c = search needs

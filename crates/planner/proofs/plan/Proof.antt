@@ -13,7 +13,7 @@ slice-aggregate-plan-with : tie.Need-slice-aggregate-plan-with
 slice-aggregate-plan-with c = search needs
 
 plan-with-requires : tie.Need-plan-with-requires
-plan-with-requires c κs = room-brief (now (c .before .before .before .before .before .before .args .s)) 64 (sym (c .before .before .before .is-brief .ensures) ∙ c .before .before .if1 .taken)
+plan-with-requires c κs = room-brief (now (c .before .before .before .before .before .before .args .s)) 32 (sym (c .before .before .before .is-brief .ensures) ∙ c .before .before .if1 .taken)
 
 same-length : tie.Need-same-length
 same-length c = search needs

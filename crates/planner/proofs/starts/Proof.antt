@@ -13,7 +13,7 @@ slice-aggregate-starts-with : tie.Need-slice-aggregate-starts-with
 slice-aggregate-starts-with c = search needs
 
 starts-with-requires : tie.Need-starts-with-requires
-starts-with-requires c κs = room-brief (now (c .before .before .before .before .before .before .before .args .s)) 64 (sym (c .before .before .before .is-brief .ensures) ∙ c .before .before .if1 .taken)
+starts-with-requires c κs = room-brief (now (c .before .before .before .before .before .before .before .args .s)) 32 (sym (c .before .before .before .is-brief .ensures) ∙ c .before .before .if1 .taken)
 
 same-length : tie.Need-same-length
 same-length c = search needs

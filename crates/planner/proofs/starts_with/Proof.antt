@@ -5,7 +5,7 @@ use lib.Seq.{length-take-le}
 use denote.Ref.{now}
 use borrow.Author.Needs.{needs}
 use Rattle.reader.proofs.Reports.{report-refused}
-use Rattle.planner.proofs.Held.{held-within}
+use Rattle.planner.proofs.Held.{held-shape, held-within}
 use Rattle.planner.proofs.Calls.{Whole, whole, starts-given, starts-refused, sheet-started}
 use Rattle.planner.proofs.starts_with.Statement.{statement}
 use Rattle.planner.proofs.starts_with.Tie as tie
@@ -23,23 +23,17 @@ enum-known-reading c = search needs
 enum-told : tie.Need-enum-told
 enum-told c = search needs
 
-unbounded-map-requires : tie.Need-unbounded-map-requires
-unbounded-map-requires c κs =
-    let w = read-whole (c .before) in
-    let b = held-within (w .fits) (w .found .holds) in
-    omega (arith, b .1)
-
 slice-reshare-prefix-starts-edges : tie.Need-slice-reshare-prefix-starts-edges
-slice-reshare-prefix-starts-edges c = read-whole (c .before .before) .found .holds .within
+slice-reshare-prefix-starts-edges c = read-whole c .found .holds .within
 
 slice-aggregate-starts-edges : tie.Need-slice-aggregate-starts-edges
-slice-aggregate-starts-edges c = sym (length-take-le _ _ (read-whole (c .before .before .before) .found .holds .within))
+slice-aggregate-starts-edges c = sym (length-take-le _ _ (read-whole (c .before) .found .holds .within))
 
 starts-edges-requires : tie.Need-starts-edges-requires
 starts-edges-requires c κs =
-    let w = read-whole (c .before .before .before .before) in
+    let w = read-whole (c .before .before) in
     let b = held-within (w .fits) (w .found .holds) in
-    (omega (arith, b .0), omega (arith, b .1), b .2)
+    (omega (arith, b .0), omega (arith, b .1), b .2, held-shape (w .fits) (w .found .holds))
 
 same-length : tie.Need-same-length
 same-length c = search needs
@@ -55,8 +49,8 @@ same-length-3 c = search needs
 
 returns-2 : tie.Need-returns-2
 returns-2 c =
-    let w = read-whole (c .before .before .before .before .before .before .before) in
-    starts-given (now (c .before .before .before .before .before .before .before .before .before .before .before .before .before .before .before .before .before .args .s)) (w .found .is-given) _ _ _ (c .before .before .starts-edges .result) (sheet-started (w .fits) (w .found .holds) (c .before .before .before .before .before .before .before .before .before .before .before .before .before .before .before .before .before .args .allow) (c .before .before .starts-edges .result) (c .before .before .before .before .before .unbounded-map .result) _ _ (c .before .before .before .before .before .unbounded-map .ensures) (c .before .before .starts-edges .ensures))
+    let w = read-whole (c .before .before .before .before .before) in
+    starts-given (now (c .before .before .before .before .before .before .before .before .before .before .before .before .before .before .before .args .s)) (w .found .is-given) _ _ _ (c .before .before .starts-edges .result) (sheet-started (w .fits) (w .found .holds) (c .before .before .before .before .before .before .before .before .before .before .before .before .before .before .before .args .allow) (c .before .before .starts-edges .result) _ _ (c .before .before .starts-edges .ensures))
 
 pub starts-with-spec : {M : Type 1} → statement M
 starts-with-spec =
@@ -65,7 +59,6 @@ starts-with-spec =
     read-requires
     enum-known-reading
     enum-told
-    unbounded-map-requires
     slice-reshare-prefix-starts-edges
     slice-aggregate-starts-edges
     starts-edges-requires

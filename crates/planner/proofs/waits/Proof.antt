@@ -13,7 +13,7 @@ slice-aggregate-waits-with : tie.Need-slice-aggregate-waits-with
 slice-aggregate-waits-with c = search needs
 
 waits-with-requires : tie.Need-waits-with-requires
-waits-with-requires c κs = room-brief (now (c .before .before .before .before .args .s)) 64 (sym (c .before .before .is-brief .ensures) ∙ c .before .if1 .taken)
+waits-with-requires c κs = room-brief (now (c .before .before .before .before .args .s)) 32 (sym (c .before .before .is-brief .ensures) ∙ c .before .if1 .taken)
 
 returns : tie.Need-returns
 returns c = search needs

@@ -1,8 +1,10 @@
--- `planning::add_source` meets its contract. Invariant: the rows below v have taken in step 0.
-use Prim.Native.Nat.{_-_, _≤_}
+-- `planning::add_source` meets its contract. Invariant: the rows below v have taken in step 0, and hold steps below n alone.
+use Prim.Native.Nat.{ℕ, _-_, _<_, _≤_}
 use lib.ListN.{length}
 use mathlib.Core.Path.{_≡_}
-use Rattle.planning.proofs.Sourcing.{Sourced, sourced-none, sourced-more}
+use mathlib.Core.Bool.{true}
+use Rattle.relations.specs.Rows.{row-bit}
+use Rattle.planning.proofs.Sourcing.{Sourced, sourced-none, sourced-more, steps-more}
 use native.Mathlib.Omega.{arith}
 use borrow.Author.Needs.{needs}
 use Rattle.planning.proofs.add_source.Statement.{statement}
@@ -12,13 +14,16 @@ use Rattle.planning.proofs.add_source.Lts as lts
 use Rattle.bitmaps.proofs.insert.Reads as insert-reads
 
 abbrev Inv-loop : tie.InvT-loop
-Inv-loop rows₀ n v₀ rows v = (v ≤ n) × (length rows₀ ≡ 64 → Sourced rows₀ v rows)
+Inv-loop rows₀ n all v₀ rows v = (v ≤ n) × (length rows₀ ≡ 64 → Sourced n rows₀ v rows) × ((w a : ℕ) → w < v → row-bit rows w a ≡ true → a < n)
 
 abbrev μ-loop : tie.MeasureT-loop
-μ-loop rows₀ n v₀ rows v = n - v
+μ-loop rows₀ n all v₀ rows v = n - v
+
+below-requires : tie.Need-below-requires Inv-loop μ-loop
+below-requires c κs = search needs
 
 loop-holds : tie.Need-loop-holds Inv-loop μ-loop
-loop-holds c = (omega arith, λ long. sourced-none long)
+loop-holds c = (omega arith, λ long. sourced-none long, λ w a b. absurd (let f : ⊥ = omega arith in f))
 
 mul-insert : tie.Need-mul-insert Inv-loop μ-loop
 mul-insert c = search needs
@@ -28,6 +33,9 @@ element-copy-out-insert c = search needs
 
 insert-requires : tie.Need-insert-requires Inv-loop μ-loop
 insert-requires c κs = search needs
+
+both-requires : tie.Need-both-requires Inv-loop μ-loop
+both-requires c κs = search needs
 
 mul-rows : tie.Need-mul-rows Inv-loop μ-loop
 mul-rows c = search needs
@@ -43,14 +51,18 @@ loop-less c = search needs
 
 loop-again : tie.Need-loop-again Inv-loop μ-loop
 loop-again c =
-    let s = c .before .before .before in
-    (omega arith, λ long. sourced-more (s .loop .v) (c .insert .result) (search needs) (s .loop .inv .1 long) (λ k. c .insert .ensures k))
+    let s = c .before .before .before .before in
+    let all-is = s .before .below .ensures in (
+      omega arith,
+      λ long. sourced-more _ _ _ _ _ _ (c .before .insert .ensures) all-is (c .both .ensures) (search needs) (s .loop .inv .1 long),
+      steps-more _ (s .loop .rows) _ _ _ _ (c .before .insert .ensures) all-is (c .both .ensures) (s .loop .inv .2),
+    )
 
 returns : tie.Need-returns Inv-loop μ-loop
 returns c =
     let s = c .before in
-    let e : s .loop .v ≡ s .before .args .n = omega arith in
-    λ long v a b. s .loop .inv .1 long .made v a (omega (arith, e))
+    let e : s .loop .v ≡ s .before .before .args .n = omega arith in
+    (λ long v a b. s .loop .inv .1 long .made v a (omega (arith, e)), λ v a b. s .loop .inv .2 v a (omega (arith, e)))
 
 pub add-source-spec : {M : Type 1} → statement M
 add-source-spec =
@@ -58,10 +70,12 @@ add-source-spec =
     (tie.spec
     Inv-loop
     μ-loop
+    below-requires
     loop-holds
     mul-insert
     element-copy-out-insert
     insert-requires
+    both-requires
     mul-rows
     element-write-rows
     add-v

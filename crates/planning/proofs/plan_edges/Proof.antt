@@ -11,7 +11,7 @@ slice-aggregate-plan-listed : tie.Need-slice-aggregate-plan-listed
 slice-aggregate-plan-listed c = search needs
 
 plan-listed-requires : tie.Need-plan-listed-requires
-plan-listed-requires c κs = let p = c .before .before .before .before .before .pre in (p .0, p .1, p .2, omega (arith, length-replicate {A = ℕ} 320 0), zeros-empty 320 (omega arith))
+plan-listed-requires c κs = let p = c .before .before .before .before .before .pre in (p .0, p .1, p .2, omega (arith, length-replicate {A = ℕ} 320 0), zeros-empty 320 (omega arith), p .3)
 
 same-length : tie.Need-same-length
 same-length c = search needs
@@ -23,7 +23,7 @@ slice-aggregate-plan-listed-2 : tie.Need-slice-aggregate-plan-listed-2
 slice-aggregate-plan-listed-2 c = search needs
 
 plan-listed-requires-2 : tie.Need-plan-listed-requires-2
-plan-listed-requires-2 c κs = let p = c .before .before .before .before .before .pre in (p .0, p .1, p .2, omega (arith, p .2, length-replicate {A = ℕ} 2112 0), zeros-empty 2112 (omega arith))
+plan-listed-requires-2 c κs = let p = c .before .before .before .before .before .pre in (p .0, p .1, p .2, omega (arith, p .2, length-replicate {A = ℕ} 2112 0), zeros-empty 2112 (omega arith), p .3)
 
 same-length-2 : tie.Need-same-length-2
 same-length-2 c = search needs

@@ -11,7 +11,7 @@ slice-aggregate-starts-listed : tie.Need-slice-aggregate-starts-listed
 slice-aggregate-starts-listed c = search needs
 
 starts-listed-requires : tie.Need-starts-listed-requires
-starts-listed-requires c κs = let p = c .before .before .before .before .before .before .pre in (p .0, p .1, p .2, omega (arith, length-replicate {A = ℕ} 320 0), zeros-empty 320 (omega arith))
+starts-listed-requires c κs = let p = c .before .before .before .before .before .before .pre in (p .0, p .1, p .2, omega (arith, length-replicate {A = ℕ} 320 0), zeros-empty 320 (omega arith), p .3)
 
 same-length : tie.Need-same-length
 same-length c = search needs
@@ -23,7 +23,7 @@ slice-aggregate-starts-listed-2 : tie.Need-slice-aggregate-starts-listed-2
 slice-aggregate-starts-listed-2 c = search needs
 
 starts-listed-requires-2 : tie.Need-starts-listed-requires-2
-starts-listed-requires-2 c κs = let p = c .before .before .before .before .before .before .pre in (p .0, p .1, p .2, omega (arith, p .2, length-replicate {A = ℕ} 2112 0), zeros-empty 2112 (omega arith))
+starts-listed-requires-2 c κs = let p = c .before .before .before .before .before .before .pre in (p .0, p .1, p .2, omega (arith, p .2, length-replicate {A = ℕ} 2112 0), zeros-empty 2112 (omega arith), p .3)
 
 same-length-2 : tie.Need-same-length-2
 same-length-2 c = search needs

@@ -1,92 +1,102 @@
--- `planning::starts_listed` meets its contract, path by path: a refusal of judging, 13, 14 for the list and for the numbers to be written, the starts.
+-- `planning::starts_listed` meets its contract, path by path: 8 or 9; a refusal, 10 before it; the starts, or 10.
 use borrow.Author.Needs.{needs}
 use mathlib.Core.Path.{sym, _∙_}
 use borrow.Author.Tests.{not-true, not-false}
-use Rattle.planning.proofs.Writing.{list-short, out-short, plannable, starts-passed, starts-short, starts-written, starts-wrong}
+use Rattle.planning.proofs.Writing.{sorted-rooted, starts-refused, starts-unsorted, starts-written}
 use Rattle.planning.proofs.starts_listed.Statement.{statement}
 use Rattle.planning.proofs.starts_listed.Tie as tie
 use Rattle.planning.proofs.starts_listed.Reads as reads
 use Rattle.planning.proofs.starts_listed.Lts as lts
 use Rattle.adjacency.proofs.list.Reads as list-reads
-use Rattle.analysis.proofs.judge.Reads as judge-reads
-use Rattle.delays.proofs.delays_bad.Reads as delays-bad-reads
+use Rattle.analysis.proofs.judge_assuming_feasible.Reads as judge-assuming-feasible-reads
+use Rattle.feasibility.proofs.feasible.Reads as feasible-reads
 use Rattle.planning.proofs.accepted.Reads as accepted-reads
+use Rattle.planning.proofs.unless_infeasible.Reads as unless-infeasible-reads
+use Rattle.planning.proofs.with_list.Reads as with-list-reads
 use Rattle.planning.proofs.write_starts.Reads as write-starts-reads
 
 list-requires : tie.Need-list-requires
 list-requires c κs = search needs
 
-judge-requires : tie.Need-judge-requires
-judge-requires c κs = search needs
-
-accepted-requires : tie.Need-accepted-requires
-accepted-requires c κs = search needs
+judge-assuming-feasible-requires : tie.Need-judge-assuming-feasible-requires
+judge-assuming-feasible-requires c κs = search needs
 
 same-length : tie.Need-same-length
 same-length c = search needs
 
 returns : tie.Need-returns
-returns c shape gains os long map = starts-passed (c .before .before .judge .ensures shape gains) os _ _ (sym (c .before .accepted .ensures) ∙ not-true _ (c .if1 .taken))
+returns c gains os long map = starts-unsorted (c .before .before .judge-assuming-feasible .ensures (c .before .before .before .before .before .before .before .before .before .before .before .before .before .before .before .pre .5) gains) os _ _ (not-true _ (c .if1 .taken))
 
-delays-bad-requires : tie.Need-delays-bad-requires
-delays-bad-requires c κs = search needs
+with-list-requires : tie.Need-with-list-requires
+with-list-requires c κs = search needs
+
+accepted-requires : tie.Need-accepted-requires
+accepted-requires c κs = search needs
+
+feasible-requires : tie.Need-feasible-requires
+feasible-requires c κs = search needs
+
+unless-infeasible-requires : tie.Need-unless-infeasible-requires
+unless-infeasible-requires c κs = search needs
 
 same-length-2 : tie.Need-same-length-2
 same-length-2 c = search needs
 
 returns-2 : tie.Need-returns-2
-returns-2 c shape gains os long map = starts-wrong (c .before .before .before .before .judge .ensures shape gains) os _ _ (sym (c .before .before .before .accepted .ensures) ∙ not-false _ (c .before .before .if1 .left)) (sym (c .before .delays-bad .ensures .wrong os long map) ∙ c .if2 .taken)
+returns-2 c gains os long map =
+    let tested = c .before .before .before .before in
+    let checked = tested .before .before in
+    let pre = checked .before .before .before .before .before .before .before .before .before .before .before .before .before .before .before .before .pre in
+    let presumed = checked .before .before .before .judge-assuming-feasible .ensures (pre .5) gains in
+    let sorted = not-false _ (checked .before .if1 .left) in
+    starts-refused presumed os _ _ sorted (c .before .feasible .ensures (pre .5) (sorted-rooted presumed (pre .0) (pre .5) sorted)) (checked .with-list .ensures .0 os long map) (c .unless-infeasible .ensures) (sym (tested .before .accepted .ensures) ∙ not-true _ (tested .if2 .taken))
+
+write-starts-requires : tie.Need-write-starts-requires
+write-starts-requires c κs =
+    let tested = c .before .before .before .before .before in
+    let checked = tested .before .before in
+    let fits = checked .with-list .ensures .1 (sym (tested .before .accepted .ensures) ∙ not-false _ (tested .if2 .left)) in
+    let pre = checked .before .before .before .before .before .before .before .before .before .before .before .before .before .before .before .before .pre in
+    (pre .0, pre .1, pre .2, checked .before .before .before .before .before .before .before .before .before .before .list .ensures, fits .0, fits .1, pre .5)
+
+unless-infeasible-requires-2 : tie.Need-unless-infeasible-requires-2
+unless-infeasible-requires-2 c κs = search needs
 
 same-length-3 : tie.Need-same-length-3
 same-length-3 c = search needs
 
-returns-3 : tie.Need-returns-3
-returns-3 c shape gains os long map =
-    let analysed = c .before .before .before .before .before .judge .ensures shape gains in
-    starts-short analysed os _ _ (sym (c .before .before .before .before .accepted .ensures) ∙ not-false _ (c .before .before .before .if1 .left)) (sym (c .before .before .delays-bad .ensures .wrong os long map) ∙ c .before .if2 .left) (list-short analysed os _ _ (c .if3 .taken))
-
 same-length-4 : tie.Need-same-length-4
 same-length-4 c = search needs
 
-returns-4 : tie.Need-returns-4
-returns-4 c shape gains os long map =
-    let analysed = c .before .before .before .before .before .before .judge .ensures shape gains in
-    starts-short analysed os _ _ (sym (c .before .before .before .before .before .accepted .ensures) ∙ not-false _ (c .before .before .before .before .if1 .left)) (sym (c .before .before .before .delays-bad .ensures .wrong os long map) ∙ c .before .before .if2 .left) (out-short analysed os _ _ (c .if4 .taken))
-
-write-starts-requires : tie.Need-write-starts-requires
-write-starts-requires c κs = search needs
-
-same-length-5 : tie.Need-same-length-5
-same-length-5 c = search needs
-
-same-length-6 : tie.Need-same-length-6
-same-length-6 c = search needs
-
-returns-5 : tie.Need-returns-5
-returns-5 c shape gains os long map =
-    let analysed = c .before .before .before .before .before .before .before .before .before .before .before .before .before .before .judge .ensures shape gains in
-    let accepted = sym (c .before .before .before .before .before .before .before .before .before .before .before .before .before .accepted .ensures) ∙ not-false _ (c .before .before .before .before .before .before .before .before .before .before .before .before .if1 .left) in
-    let right = sym (c .before .before .before .before .before .before .before .before .before .before .before .delays-bad .ensures .wrong os long map) ∙ c .before .before .before .before .before .before .before .before .before .before .if2 .left in
-    starts-written analysed os _ _ accepted right (c .before .before .before .before .before .before .before .before .before .if3 .left) (c .before .before .before .before .before .before .before .before .if4 .left)
-    (c .before .before .write-starts .ensures (plannable analysed (c .before .before .before .before .before .before .before .before .before .before .before .before .before .before .before .before .before .before .before .before .before .before .before .before .before .before .before .pre .0) shape gains accepted) os long right)
+returns-3 : tie.Need-returns-3
+returns-3 c gains os long map =
+    let wrote = c .before .before .before in
+    let tested = wrote .before .before .before .before .before .before in
+    let checked = tested .before .before in
+    let pre = checked .before .before .before .before .before .before .before .before .before .before .before .before .before .before .before .before .pre in
+    let presumed = checked .before .before .before .judge-assuming-feasible .ensures (pre .5) gains in
+    let sorted = not-false _ (checked .before .if1 .left) in
+    starts-written presumed os _ _ sorted (wrote .write-starts .ensures .1 .1 (pre .5) (sorted-rooted presumed (pre .0) (pre .5) sorted) gains (presumed .traced sorted .long)) (checked .with-list .ensures .0 os long map) (c .unless-infeasible2 .ensures) (pre .0) (pre .5) gains
+    (sym (tested .before .accepted .ensures) ∙ not-false _ (tested .if2 .left))
+    (λ t p right. wrote .write-starts .ensures .0 t p os long right)
+    (wrote .write-starts .ensures .1 .0)
 
 pub starts-listed-spec : {M : Type 1} → statement M
 starts-listed-spec =
     tie.close
     (tie.spec
     list-requires
-    judge-requires
-    accepted-requires
+    judge-assuming-feasible-requires
     same-length
     returns
-    delays-bad-requires
+    with-list-requires
+    accepted-requires
+    feasible-requires
+    unless-infeasible-requires
     same-length-2
     returns-2
-    same-length-3
-    returns-3
-    same-length-4
-    returns-4
     write-starts-requires
-    same-length-5
-    same-length-6
-    returns-5)
+    unless-infeasible-requires-2
+    same-length-3
+    same-length-4
+    returns-3)

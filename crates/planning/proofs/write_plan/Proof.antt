@@ -1,44 +1,51 @@
--- `planning::write_plan` meets its contract: the tables that it makes hold the walks and anchor sets of the edges with the waits in.
+-- `planning::write_plan` meets its contract: edges within n steps end within the rows, few or all.
 use borrow.Author.Needs.{needs}
-use Rattle.theory.proofs.Plans.{plan-posed, plan-well}
-use Rattle.planning.proofs.Overriding.{holds-orderly}
-use Rattle.planning.proofs.Tables.{plannable-holds}
+use native.Mathlib.Omega.{arith}
+use Rattle.heaviest.proofs.Spreading.{empty-found}
+use Rattle.planning.proofs.Tables.{ends-within}
 use Rattle.planning.proofs.write_plan.Statement.{statement}
 use Rattle.planning.proofs.write_plan.Tie as tie
 use Rattle.planning.proofs.write_plan.Reads as reads
 use Rattle.planning.proofs.write_plan.Lts as lts
-use Rattle.heaviest.proofs.empty_table.Reads as empty-table-reads
-use Rattle.heaviest.proofs.walks.Reads as walks-reads
-use Rattle.planning.proofs.add_source.Reads as add-source-reads
-use Rattle.schedule.proofs.fill_plan.Reads as fill-plan-reads
+use Rattle.planning.proofs.plan_on.Reads as plan-on-reads
 
-empty-table-requires : tie.Need-empty-table-requires
-empty-table-requires c κs = search needs
+slice-aggregate-plan-on : tie.Need-slice-aggregate-plan-on
+slice-aggregate-plan-on c = search needs
 
-add-source-requires : tie.Need-add-source-requires
-add-source-requires c κs = search needs
-
-walks-requires : tie.Need-walks-requires
-walks-requires c κs = search needs
-
-fill-plan-requires : tie.Need-fill-plan-requires
-fill-plan-requires c κs = search needs
+plan-on-requires : tie.Need-plan-on-requires
+plan-on-requires c κs =
+    let pre = c .before .before .before .before .before .before .before .pre in
+    (pre .0, pre .1, search needs, pre .2, pre .3, empty-found 16, ends-within _ _ (pre .5) (search needs), pre .4)
 
 same-length : tie.Need-same-length
 same-length c = search needs
 
 returns : tie.Need-returns
-returns c p =
-    let H = plannable-holds (c .before .before .before .before .before .before .before .before .before .add-source .last .0) (c .before .before .before .before .before .before .walks .last .0) (search needs) p (c .before .before .before .before .before .before .walks .ensures .1) (c .before .before .before .before .before .before .before .before .before .add-source .ensures (p .long)) in
-    c .before .before .fill-plan .ensures .plan _ H (holds-orderly (plan-well (p .well) (p .serial)) (plan-posed (p .well) (p .serial)) H)
+returns c = search needs
+
+slice-aggregate-plan-on-2 : tie.Need-slice-aggregate-plan-on-2
+slice-aggregate-plan-on-2 c = search needs
+
+plan-on-requires-2 : tie.Need-plan-on-requires-2
+plan-on-requires-2 c κs =
+    let pre = c .before .before .before .before .before .before .before .pre in
+    (pre .0, pre .1, search needs, pre .2, pre .3, empty-found 64, ends-within _ _ (pre .5) (search needs), pre .4)
+
+same-length-2 : tie.Need-same-length-2
+same-length-2 c = search needs
+
+returns-2 : tie.Need-returns-2
+returns-2 c = search needs
 
 pub write-plan-spec : {M : Type 1} → statement M
 write-plan-spec =
     tie.close
     (tie.spec
-    empty-table-requires
-    add-source-requires
-    walks-requires
-    fill-plan-requires
+    slice-aggregate-plan-on
+    plan-on-requires
     same-length
-    returns)
+    returns
+    slice-aggregate-plan-on-2
+    plan-on-requires-2
+    same-length-2
+    returns-2)

@@ -1,46 +1,51 @@
--- `planning::write_starts` meets its contract: as for a plan, and starts of a list that is not refused have 32 bits.
+-- `planning::write_starts` meets its contract: edges within n steps end within the rows, few or all.
 use borrow.Author.Needs.{needs}
-use Prim.Native.Nat.{_≤_}
-use Rattle.starts.proofs.Accepted.{plan-starts-fit}
-use Rattle.planning.proofs.Tables.{plannable-holds}
+use native.Mathlib.Omega.{arith}
+use Rattle.heaviest.proofs.Spreading.{empty-found}
+use Rattle.planning.proofs.Tables.{ends-within}
 use Rattle.planning.proofs.write_starts.Statement.{statement}
 use Rattle.planning.proofs.write_starts.Tie as tie
 use Rattle.planning.proofs.write_starts.Reads as reads
 use Rattle.planning.proofs.write_starts.Lts as lts
-use Rattle.heaviest.proofs.empty_table.Reads as empty-table-reads
-use Rattle.heaviest.proofs.walks.Reads as walks-reads
-use Rattle.planning.proofs.add_source.Reads as add-source-reads
-use Rattle.starts.proofs.fill_starts.Reads as fill-starts-reads
+use Rattle.planning.proofs.starts_on.Reads as starts-on-reads
 
-empty-table-requires : tie.Need-empty-table-requires
-empty-table-requires c κs = search needs
+slice-aggregate-starts-on : tie.Need-slice-aggregate-starts-on
+slice-aggregate-starts-on c = search needs
 
-add-source-requires : tie.Need-add-source-requires
-add-source-requires c κs = search needs
-
-walks-requires : tie.Need-walks-requires
-walks-requires c κs = search needs
-
-fill-starts-requires : tie.Need-fill-starts-requires
-fill-starts-requires c κs = search needs
+starts-on-requires : tie.Need-starts-on-requires
+starts-on-requires c κs =
+    let pre = c .before .before .before .before .before .before .before .before .pre in
+    (pre .0, pre .1, search needs, pre .2, pre .3, empty-found 16, ends-within _ _ (pre .6) (search needs), pre .4, pre .5)
 
 same-length : tie.Need-same-length
 same-length c = search needs
 
 returns : tie.Need-returns
-returns c p os long right =
-    let few : c .before .before .before .before .before .before .before .before .before .before .before .before .before .before .before .before .args .n ≤ 64 = search needs in
-    c .before .before .fill-starts .ensures .times _
-    (plannable-holds (c .before .before .before .before .before .before .before .before .before .add-source .last .0) (c .before .before .before .before .before .before .walks .last .0) few p (c .before .before .before .before .before .before .walks .ensures .1) (c .before .before .before .before .before .before .before .before .before .add-source .ensures (p .long)))
-    (plan-starts-fit (p .well) (p .serial) (p .gains) few os _ long (search needs) right)
+returns c = search needs
+
+slice-aggregate-starts-on-2 : tie.Need-slice-aggregate-starts-on-2
+slice-aggregate-starts-on-2 c = search needs
+
+starts-on-requires-2 : tie.Need-starts-on-requires-2
+starts-on-requires-2 c κs =
+    let pre = c .before .before .before .before .before .before .before .before .pre in
+    (pre .0, pre .1, search needs, pre .2, pre .3, empty-found 64, ends-within _ _ (pre .6) (search needs), pre .4, pre .5)
+
+same-length-2 : tie.Need-same-length-2
+same-length-2 c = search needs
+
+returns-2 : tie.Need-returns-2
+returns-2 c = search needs
 
 pub write-starts-spec : {M : Type 1} → statement M
 write-starts-spec =
     tie.close
     (tie.spec
-    empty-table-requires
-    add-source-requires
-    walks-requires
-    fill-starts-requires
+    slice-aggregate-starts-on
+    starts-on-requires
     same-length
-    returns)
+    returns
+    slice-aggregate-starts-on-2
+    starts-on-requires-2
+    same-length-2
+    returns-2)

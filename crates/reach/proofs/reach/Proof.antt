@@ -1,10 +1,12 @@
 -- `reach::reach` meets its contract.
 use borrow.Author.Needs.{needs}
 use mathlib.Core.Path.{_≡_}
+use mathlib.Core.Bool.{true≢false}
 use Prim.Native.Nat.{_-_}
 use lib.ListN.{length}
 use Rattle.anchors.specs.Sets.{AnchorSets}
 use Rattle.edges.specs.Words.{graph}
+use Rattle.reach.proofs.Returning.{stripped-still}
 use Rattle.reach.proofs.Searching.{Searched, searched-end, searched-more, searched-rest, searched-start}
 use Rattle.reach.proofs.reach.Statement.{statement}
 use Rattle.reach.proofs.reach.Tie as tie
@@ -23,17 +25,23 @@ push-returns-requires c κs = c .before .strip .ensures .long
 
 loop-holds : tie.Need-loop-holds Inv-loop μ-loop
 loop-holds c =
-    let h = c .push-returns .ensures in
-    (h .long, λ sets. searched-start _ _ _ _ _ _ sets (c .before .before .strip .ensures) h)
+    let h = c .before .push-returns .ensures in
+    (h .long, λ sets. searched-start _ _ _ _ _ _ sets (c .before .before .before .strip .ensures) h)
 
 returns : tie.Need-returns Inv-loop μ-loop
 returns c =
+    let h = c .before .push-returns .ensures in
+    let start = c .before .before .before .strip .ensures in
+    (λ sets. searched-rest _ _ 0 _ _ (h .long) (c .if1 .taken) (searched-start _ _ _ _ _ _ sets start h), λ new. stripped-still _ _ _ _ _ (h .long) (c .if1 .taken) (h .marked) start)
+
+returns-2 : tie.Need-returns-2 Inv-loop μ-loop
+returns-2 c =
     let h = c .before .before .loop .inv in
-    λ sets. searched-rest _ _ _ _ _ (h .0) (c .if1 .taken) (h .1 sets)
+    (λ sets. searched-rest _ _ _ _ _ (h .0) (c .if2 .taken) (h .1 sets), λ new. absurd (true≢false new))
 
 sweep-requires : tie.Need-sweep-requires Inv-loop μ-loop
 sweep-requires c κs =
-    let p = c .before .before .before .before .before .before .before .before .before .before .pre in
+    let p = c .before .before .before .before .before .before .before .before .before .before .before .pre in
     (p .0, p .1, p .2, c .before .before .before .loop .inv .0)
 
 add-done : tie.Need-add-done Inv-loop μ-loop
@@ -45,10 +53,10 @@ loop-less c = search needs
 loop-again : tie.Need-loop-again Inv-loop μ-loop
 loop-again c = (c .sweep .ensures .long, λ sets. searched-more _ _ _ _ _ _ _ (c .sweep .ensures) (c .before .before .before .before .loop .inv .1 sets))
 
-returns-2 : tie.Need-returns-2 Inv-loop μ-loop
-returns-2 c =
+returns-3 : tie.Need-returns-3 Inv-loop μ-loop
+returns-3 c =
     let h = c .before .loop .inv in
-    λ sets. searched-end _ _ _ _ _ (h .0) (c .loop-test .left) (h .1 sets)
+    (λ sets. searched-end _ _ _ _ _ (h .0) (c .loop-test .left) (h .1 sets), λ new. absurd (true≢false new))
 
 pub reach-spec : {M : Type 1} → statement M
 reach-spec =
@@ -58,10 +66,11 @@ reach-spec =
     μ-loop
     strip-requires
     push-returns-requires
-    loop-holds
     returns
+    loop-holds
+    returns-2
     sweep-requires
     add-done
     loop-less
     loop-again
-    returns-2)
+    returns-3)

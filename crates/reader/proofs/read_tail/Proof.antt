@@ -46,7 +46,7 @@ returns-3 c =
     let a = c .before .before .before .before .before .before .before .before .before .before .before .before .args in
     let s = now (a .s) in
     let middle = c .before .before .before .before .before .before .place2 .given .0 .0 in
-    let in-part : LinksReads (take (length s - middle) (drop middle s)) (a .n) (a .r) (take (a .n) (a .operations)) (c .before .before .read-links .last .1 .1 .1 .1 .0) (c .before .before .read-links .result) = c .before .before .read-links .ensures in
+    let in-part : LinksReads (take (length s - middle) (drop middle s)) (a .n) (a .r) (now (a .digits)) (c .before .before .read-links .last .1 .1 .1 .1 .0) (c .before .before .read-links .result) = c .before .before .read-links .ensures in
     rw (c .before .before .before .before .before .before .before .before .enum-told .given .1, c .before .before .before .before .before .before .place2 .given .1) (rw (part-rest s middle) at in-part)
 
 pub read-tail-spec : {M : Type 1} → statement M

@@ -2,7 +2,7 @@
 use mathlib.Core.Path.{refl}
 use native.Mathlib.Omega.{arith}
 use borrow.Author.Needs.{needs}
-use Rattle.relaxation.proofs.Lifting.{raised-back, raised-beyond}
+use Rattle.relaxation.proofs.Late.{raised-back, raised-beyond}
 use Rattle.relaxation.proofs.raise_late.Statement.{statement}
 use Rattle.relaxation.proofs.raise_late.Tie as tie
 
@@ -15,8 +15,11 @@ column-of-requires c κs = search needs
 raise-row-requires : tie.Need-raise-row-requires
 raise-row-requires c κs = search needs
 
+same-length : tie.Need-same-length
+same-length c = search needs
+
 returns : tie.Need-returns
-returns c = raised-beyond _ _ _ _ _ _ _ _ _ (c .raise-row .ensures) _ (c .before .before .before .column-of .ensures) (omega arith)
+returns c = raised-beyond _ _ _ _ _ _ _ _ _ (c .before .raise-row .ensures) _ (c .before .before .before .before .column-of .ensures) (omega arith)
 
 mul-old : tie.Need-mul-old
 mul-old c = search needs
@@ -45,8 +48,11 @@ index-1-d c = search needs
 index-2-d : tie.Need-index-2-d
 index-2-d c = search needs
 
+same-length-2 : tie.Need-same-length-2
+same-length-2 c = search needs
+
 returns-2 : tie.Need-returns-2
-returns-2 c = let s = c .before .before .before .before in raised-back _ _ _ _ _ _ _ _ _ (c .raise-row2 .ensures) _ _ (s .column-of .ensures) refl (s .before .before .pre .0) (omega arith)
+returns-2 c = let s = c .before .before .before .before .before in raised-back _ _ _ _ _ _ _ _ _ (c .before .raise-row2 .ensures) _ _ (s .column-of .ensures) refl (s .before .before .pre .1) (omega arith)
 
 pub raise-late-spec : {M : Type 1} → statement M
 raise-late-spec =
@@ -55,6 +61,7 @@ raise-late-spec =
     element-copy-out-column-of
     column-of-requires
     raise-row-requires
+    same-length
     returns
     mul-old
     mul-old-2
@@ -65,4 +72,5 @@ raise-late-spec =
     mul-d-2
     index-1-d
     index-2-d
+    same-length-2
     returns-2)

@@ -22,13 +22,13 @@ abbrev μ-loop : tie.MeasureT-loop
 μ-loop d sets n table₀ v₀ table v = n - v
 
 in-table : (c : tie.In-loop Inv-loop μ-loop) → (c .before .loop .v * c .before .before .before .before .before .before .before .args .n + c .before .before .before .before .before .before .before .args .n ≤ c .before .before .before .before .before .before .before .args .n * c .before .before .before .before .before .before .before .args .n) × (c .before .before .before .before .before .before .before .args .n * c .before .before .before .before .before .before .before .args .n ≤ 4096) × (c .before .before .before .before .before .before .before .args .n * c .before .before .before .before .before .before .before .args .n ≤ length (c .before .loop .table))
-in-table c = (row-place _ _ (omega arith), table-size _ (omega arith), omega (arith, c .before .loop .inv .1, clear-length _ _ _ (c .before .before .before .before .before .before .before .pre .1) (c .before .before .before .before .clear .ensures), c .before .before .before .before .before .before .before .pre .1))
+in-table c = (row-place _ _ (omega arith), table-size _ (omega arith), omega (arith, c .before .loop .inv .1, clear-length _ _ _ (c .before .before .before .before .before .before .before .pre .3) (c .before .before .before .before .clear .ensures), c .before .before .before .before .before .before .before .pre .3))
 
 mul-clear : tie.Need-mul-clear Inv-loop μ-loop
 mul-clear c = omega (arith, table-size _ (c .before .pre .0))
 
 clear-requires : tie.Need-clear-requires Inv-loop μ-loop
-clear-requires c κs = c .before .before .pre .1
+clear-requires c κs = c .before .before .pre .3
 
 loop-holds : tie.Need-loop-holds Inv-loop μ-loop
 loop-holds c = (omega arith, refl, λ T. first-rows-none _ _ _ _)
@@ -49,7 +49,7 @@ part-fill-row-end : tie.Need-part-fill-row-end Inv-loop μ-loop
 part-fill-row-end c = search needs
 
 fill-row-requires : tie.Need-fill-row-requires Inv-loop μ-loop
-fill-row-requires c κs = (omega arith, simp (length-take, length-drop) (omega (arith, in-table (c .before))))
+fill-row-requires c κs = (omega arith, omega arith, λ a. c .before .before .before .before .before .before .before .before .pre .2 _ a (omega arith), simp (length-take, length-drop) (omega (arith, in-table (c .before))))
 
 add-v : tie.Need-add-v Inv-loop μ-loop
 add-v c = search needs
@@ -63,7 +63,7 @@ loop-again c =
     (omega arith, search needs, λ T. first-rows-more _ _ _ _ _ _ _ (s .loop .inv .2 T) (c .before .before .fill-row .ensures (T _ (omega arith)) (row-clear _ _ _ _ _ _ _ (omega arith) (in-table (c .before .before .before .before) .2) (c .before .before .before .before .before .before .before .before .clear .ensures) (s .loop .inv .2 T))))
 
 same-length : tie.Need-same-length Inv-loop μ-loop
-same-length c = c .before .loop .inv .1 ∙ clear-length _ _ _ (c .before .before .before .before .before .before .before .pre .1) (c .before .before .before .before .clear .ensures)
+same-length c = c .before .loop .inv .1 ∙ clear-length _ _ _ (c .before .before .before .before .before .before .before .pre .3) (c .before .before .before .before .clear .ensures)
 
 returns : tie.Need-returns Inv-loop μ-loop
 returns c =

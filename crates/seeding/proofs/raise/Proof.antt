@@ -31,6 +31,9 @@ index-1-d c = search needs
 index-2-d : tie.Need-index-2-d
 index-2-d c = search needs
 
+same-length : tie.Need-same-length
+same-length c = search needs
+
 returns : tie.Need-returns
 returns c = let s = c .before .before in raised-stored (s .args .v) (s .args .k) (s .args .c) (s .args .d .now) (s .pre .2) (s .pre .0) (s .pre .1) (c .if1 .taken)
 
@@ -49,5 +52,6 @@ raise-spec =
     mul-d-2
     index-1-d
     index-2-d
+    same-length
     returns
     returns-2)

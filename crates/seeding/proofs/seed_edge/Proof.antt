@@ -22,7 +22,7 @@ edge-from-requires : tie.Need-edge-from-requires
 edge-from-requires c κs = search needs
 
 returns : tie.Need-returns
-returns c = let s = c .before .before in begun-source (s .args .number .now) (unpack (s .args .w)) (s .args .d .now) (s .pre .0) (sym (c .before .edge-from .ensures .0) ∙ c .if1 .taken)
+returns c = let s = c .before .before in begun-source (s .args .number .now) (unpack (s .args .w)) (s .args .d .now) (s .pre .1) (sym (c .before .edge-from .ensures .0) ∙ c .if1 .taken)
 
 element-copy-out-k : tie.Need-element-copy-out-k
 element-copy-out-k c = search needs
@@ -30,7 +30,7 @@ element-copy-out-k c = search needs
 returns-2 : tie.Need-returns-2
 returns-2 c =
     let s = c .before .before .before .before in
-    begun-unnumbered (s .args .number .now) (unpack (s .args .w)) (s .args .d .now) (s .pre .0) (omega (arith, ap (λ (x : ℕ). getD (s .args .number .now) x 0) (c .before .before .before .edge-from .ensures .0), c .if2 .taken))
+    begun-unnumbered (s .args .number .now) (unpack (s .args .w)) (s .args .d .now) (s .pre .1) (omega (arith, ap (λ (x : ℕ). getD (s .args .number .now) x 0) (c .before .before .before .edge-from .ensures .0), c .if2 .taken))
 
 edge-gain-requires : tie.Need-edge-gain-requires
 edge-gain-requires c κs = search needs
@@ -48,27 +48,30 @@ column-of-requires : tie.Need-column-of-requires
 column-of-requires c κs = search needs
 
 raise-requires : tie.Need-raise-requires
-raise-requires c κs = search needs
+raise-requires c κs = let p = c .before .before .before .before .before .before .before .before .before .before .pre in (omega (arith, c .before .edge-to .ensures .0, p .0), c .column-of .ensures .1, p .1)
+
+same-length : tie.Need-same-length
+same-length c = search needs
 
 returns-3 : tie.Need-returns-3
 returns-3 c =
-    let s = c .before .before .before .before .before .before .before .before .before .before .before in
-    let from = c .before .before .before .before .before .before .before .before .before .before .edge-from .ensures in
+    let s = c .before .before .before .before .before .before .before .before .before .before .before .before in
+    let from = c .before .before .before .before .before .before .before .before .before .before .before .edge-from .ensures in
     begun-edge
     (s .args .number .now)
     (unpack (s .args .w))
-    (c .before .before .edge-to .result)
-    (c .before .column-of .result)
-    (c .before .before .before .before .seeded .result)
+    (c .before .before .before .edge-to .result)
+    (c .before .before .column-of .result)
+    (c .before .before .before .before .before .seeded .result)
     (s .args .d .now)
-    (c .raise .last .0)
-    (c .before .before .edge-to .ensures .0)
-    (s .pre .1)
-    (λ z. c .before .before .before .before .before .before .before .before .before .if1 .left (from .0 ∙ z))
+    (c .before .raise .last .0)
+    (c .before .before .before .edge-to .ensures .0)
+    (s .pre .2)
+    (λ z. c .before .before .before .before .before .before .before .before .before .before .if1 .left (from .0 ∙ z))
     (omega (arith, from .0, from .1))
-    (omega (arith, c .before .column-of .ensures .0, ap (λ (x : ℕ). getD (s .args .number .now) x 0) (from .0), c .before .before .before .before .before .before .before .if2 .left))
-    (omega (arith, c .before .before .before .before .seeded .ensures, c .before .before .before .before .before .before .edge-gain .ensures .0, c .before .before .before .before .before .edge-loss .ensures .0))
-    (c .raise .ensures)
+    (omega (arith, c .before .before .column-of .ensures .0, ap (λ (x : ℕ). getD (s .args .number .now) x 0) (from .0), c .before .before .before .before .before .before .before .before .if2 .left))
+    (omega (arith, c .before .before .before .before .before .seeded .ensures, c .before .before .before .before .before .before .before .edge-gain .ensures .0, c .before .before .before .before .before .before .edge-loss .ensures .0))
+    (c .before .raise .ensures)
 
 pub seed-edge-spec : {M : Type 1} → statement M
 seed-edge-spec =
@@ -84,4 +87,5 @@ seed-edge-spec =
     edge-to-requires
     column-of-requires
     raise-requires
+    same-length
     returns-3)

@@ -1,5 +1,6 @@
 -- `seeding::seed_row` meets its contract.
 use borrow.Author.Needs.{needs}
+use Rattle.lifting.proofs.Tables.{square-own}
 use native.Mathlib.Omega.{arith}
 use mathlib.Core.Path.{_≡_}
 use mathlib.Core.Bool.{true}
@@ -60,8 +61,11 @@ loop-again c =
     let leaves = c .without-lowest .ensures _ low in
     let args = s .before .args in (
       λ j h. s .loop .inv .0 j (still-left (s .loop .left) (c .without-lowest .result) (c .before .before .before .lowest .result) leaves j h .0),
-      sown-more (args .number .now) (args .v) (args .map) (s .loop .left) (c .without-lowest .result) (c .before .before .before .lowest .result) (c .before .column-of .result) (low .below) (s .loop .inv .0 _ (low .member)) (low .member) leaves (c .before .column-of .ensures .0) (s .loop .inv .1) (stored-cell (args .v) (c .before .column-of .result) 1073741824 (s .loop .d) (s .loop .inv .1 .square) (s .before .pre .0) (c .before .column-of .ensures .1)),
+      sown-more (args .number .now) (args .v) (args .map) (s .loop .left) (c .without-lowest .result) (c .before .before .before .lowest .result) (c .before .column-of .result) (low .below) (s .loop .inv .0 _ (low .member)) (low .member) leaves (c .before .column-of .ensures .0) (s .loop .inv .1) (stored-cell (args .v) (c .before .column-of .result) 1073741824 (s .loop .d) (square-own (s .loop .inv .1 .square)) (omega (arith, s .before .pre .0, s .loop .inv .1 .square .rows)) (c .before .column-of .ensures .1)),
     )
+
+same-length : tie.Need-same-length Inv-loop μ-loop
+same-length c = c .before .loop .inv .1 .square .rows
 
 returns : tie.Need-returns Inv-loop μ-loop
 returns c = sown-end _ _ _ _ (omega arith) (c .before .loop .inv .1)
@@ -83,4 +87,5 @@ seed-row-spec =
     without-lowest-requires
     loop-less
     loop-again
+    same-length
     returns)

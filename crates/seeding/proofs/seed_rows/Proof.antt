@@ -1,5 +1,6 @@
 -- `seeding::seed_rows` meets its contract.
 use borrow.Author.Needs.{needs}
+use Rattle.lifting.proofs.Tables.{square-own}
 use native.Mathlib.Omega.{arith}
 use Rattle.seeding.specs.Seeds.{Seeded}
 use Rattle.seeding.proofs.Seeding.{Below, below-more, below-start}
@@ -18,7 +19,7 @@ abbrev μ-loop : tie.MeasureT-loop
 μ-loop d₀ number sets n v₀ d v = n - v
 
 loop-holds : tie.Need-loop-holds Inv-loop μ-loop
-loop-holds c = (omega arith, below-start (c .args .number .now) (c .args .sets .now) (c .args .d .now) (c .pre .1))
+loop-holds c = (omega arith, below-start (c .args .number .now) (c .args .sets .now) (c .args .d .now) (c .pre .2))
 
 mul-seed-row : tie.Need-mul-seed-row Inv-loop μ-loop
 mul-seed-row c = search needs
@@ -27,7 +28,7 @@ element-copy-out-seed-row : tie.Need-element-copy-out-seed-row Inv-loop μ-loop
 element-copy-out-seed-row c = search needs
 
 seed-row-requires : tie.Need-seed-row-requires Inv-loop μ-loop
-seed-row-requires c κs = (omega arith, c .before .before .before .loop .inv .1 .square)
+seed-row-requires c κs = let S = c .before .before .before .loop .inv .1 .square in (omega (arith, c .before .before .before .before .pre .1, S .rows), square-own S)
 
 add-v : tie.Need-add-v Inv-loop μ-loop
 add-v c = search needs
@@ -36,7 +37,10 @@ loop-less : tie.Need-loop-less Inv-loop μ-loop
 loop-less c = search needs
 
 loop-again : tie.Need-loop-again Inv-loop μ-loop
-loop-again c = let s = c .before .before .before .before in (omega arith, below-more (s .before .args .number .now) (s .before .args .sets .now) (s .loop .v) (s .loop .inv .1) (c .seed-row .ensures))
+loop-again c = let s = c .before .before .before .before .before in (omega arith, below-more (s .before .args .number .now) (s .before .args .sets .now) (s .loop .v) (s .loop .inv .1) (c .before .seed-row .ensures))
+
+same-length : tie.Need-same-length Inv-loop μ-loop
+same-length c = c .before .loop .inv .1 .square .rows
 
 returns : tie.Need-returns Inv-loop μ-loop
 returns c =
@@ -58,4 +62,5 @@ seed-rows-spec =
     add-v
     loop-less
     loop-again
+    same-length
     returns)

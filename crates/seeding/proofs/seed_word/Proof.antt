@@ -18,7 +18,7 @@ is-counted-requires : tie.Need-is-counted-requires
 is-counted-requires c κs = search needs
 
 returns : tie.Need-returns
-returns c = let s = c .before .before in begun-uncounted (s .args .number .now) (unpack (s .args .w)) (s .args .d .now) (s .pre) (sym (c .before .is-counted .ensures) ∙ not-true _ (c .if1 .taken))
+returns c = let s = c .before .before in begun-uncounted (s .args .number .now) (unpack (s .args .w)) (s .args .d .now) (s .pre .1) (sym (c .before .is-counted .ensures) ∙ not-true _ (c .if1 .taken))
 
 edge-gain-requires : tie.Need-edge-gain-requires
 edge-gain-requires c κs = search needs
@@ -27,13 +27,16 @@ edge-loss-requires : tie.Need-edge-loss-requires
 edge-loss-requires c κs = search needs
 
 returns-2 : tie.Need-returns-2
-returns-2 c = let s = c .before .before .before .before .before in begun-light (s .args .number .now) (unpack (s .args .w)) (s .args .d .now) (s .pre) (omega (arith, c .before .before .edge-gain .ensures .0, c .before .edge-loss .ensures .0, c .if2 .taken))
+returns-2 c = let s = c .before .before .before .before .before in begun-light (s .args .number .now) (unpack (s .args .w)) (s .args .d .now) (s .pre .1) (omega (arith, c .before .before .edge-gain .ensures .0, c .before .edge-loss .ensures .0, c .if2 .taken))
 
 seed-edge-requires : tie.Need-seed-edge-requires
-seed-edge-requires c κs = (c .before .before .before .before .before .before .pre, sym (c .before .before .before .before .before .is-counted .ensures) ∙ not-false _ (c .before .before .before .before .if1 .left))
+seed-edge-requires c κs = let p = c .before .before .before .before .before .before .pre in (p .0, p .1, sym (c .before .before .before .before .before .is-counted .ensures) ∙ not-false _ (c .before .before .before .before .if1 .left))
+
+same-length : tie.Need-same-length
+same-length c = search needs
 
 returns-3 : tie.Need-returns-3
-returns-3 c = search needs
+returns-3 c = c .before .seed-edge .ensures
 
 pub seed-word-spec : {M : Type 1} → statement M
 seed-word-spec =
@@ -45,4 +48,5 @@ seed-word-spec =
     edge-loss-requires
     returns-2
     seed-edge-requires
+    same-length
     returns-3)

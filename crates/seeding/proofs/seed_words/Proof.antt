@@ -1,5 +1,6 @@
 -- `seeding::seed_words` meets its contract.
 use borrow.Author.Needs.{needs}
+use Rattle.lifting.proofs.Tables.{square-own}
 use native.Mathlib.Omega.{arith}
 use Prim.Native.Nat.{_-_, _≤_}
 use lib.ListN.{length, take}
@@ -20,7 +21,7 @@ abbrev μ-loop : tie.MeasureT-loop
 μ-loop d₀ number es k₀ d k = length es - k
 
 loop-holds : tie.Need-loop-holds Inv-loop μ-loop
-loop-holds c = let s = c .before in (omega arith, begun-start (s .args .number .now) (s .args .es .now) (s .args .d .now) (s .pre))
+loop-holds c = let s = c .before in (omega arith, begun-start (s .args .number .now) (s .args .es .now) (s .args .d .now) (s .pre .1))
 
 mul-seed-word : tie.Need-mul-seed-word Inv-loop μ-loop
 mul-seed-word c = search needs
@@ -29,7 +30,7 @@ shared-slice-read-seed-word : tie.Need-shared-slice-read-seed-word Inv-loop μ-l
 shared-slice-read-seed-word c = search needs
 
 seed-word-requires : tie.Need-seed-word-requires Inv-loop μ-loop
-seed-word-requires c κs = c .before .before .before .loop .inv .1 .square
+seed-word-requires c κs = let l = c .before .before .before .loop in let S = l .inv .1 .square in (omega (arith, c .before .before .before .before .before .pre .0 (l .k) (search needs), S .rows), square-own S)
 
 add-k : tie.Need-add-k Inv-loop μ-loop
 add-k c = search needs
@@ -38,7 +39,10 @@ loop-less : tie.Need-loop-less Inv-loop μ-loop
 loop-less c = search needs
 
 loop-again : tie.Need-loop-again Inv-loop μ-loop
-loop-again c = let s = c .before .before .before .before in (omega arith, begun-more (s .before .before .args .number .now) (s .before .before .args .es .now) (s .loop .k) (search needs) (s .loop .inv .1) (c .seed-word .ensures))
+loop-again c = let s = c .before .before .before .before .before in (omega arith, begun-more (s .before .before .args .number .now) (s .before .before .args .es .now) (s .loop .k) (search needs) (s .loop .inv .1) (c .before .seed-word .ensures))
+
+same-length : tie.Need-same-length Inv-loop μ-loop
+same-length c = c .before .loop .inv .1 .square .rows
 
 returns : tie.Need-returns Inv-loop μ-loop
 returns c = begun-end _ _ _ (c .before .loop .inv .0) (omega arith) (c .before .loop .inv .1)
@@ -56,4 +60,5 @@ seed-words-spec =
     add-k
     loop-less
     loop-again
+    same-length
     returns)

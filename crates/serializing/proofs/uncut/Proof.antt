@@ -11,7 +11,7 @@ use Rattle.definitions.specs.Basics.{all-below}
 use Rattle.laws.proofs.Bools.{both-ways, not-passing}
 use Rattle.laws.proofs.Searches.{all-below-more, all-below-nothing}
 use Rattle.laws.proofs.Tests.{all-below-by, all-below-each}
-use Rattle.relaxation.specs.Columns.{entry}
+use Rattle.lifting.specs.Tables.{entry}
 use Rattle.serializing.proofs.uncut.Statement.{statement}
 use Rattle.serializing.proofs.uncut.Tie as tie
 use Rattle.serializing.proofs.uncut.Reads as reads

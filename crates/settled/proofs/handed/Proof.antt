@@ -3,12 +3,12 @@ use borrow.Author.Needs.{needs}
 use mathlib.Core.Path.{ap}
 use Prim.Native.Nat.{ℕ}
 use lib.Dec.{leb}
-use Rattle.relaxation.specs.Columns.{entry}
+use Rattle.lifting.specs.Tables.{entry}
 use Rattle.settled.proofs.handed.Statement.{statement}
 use Rattle.settled.proofs.handed.Tie as tie
 use Rattle.settled.proofs.handed.Reads as reads
 use Rattle.settled.proofs.handed.Lts as lts
-use Rattle.relaxation.proofs.extended.Reads as extended-reads
+use Rattle.settled.proofs.extended.Reads as extended-reads
 
 mul-extended : tie.Need-mul-extended
 mul-extended c = search needs

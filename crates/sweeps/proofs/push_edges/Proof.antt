@@ -1,9 +1,10 @@
 -- `sweeps::push_edges` meets its contract.
 use mathlib.Core.Path.{_∙_}
-use Prim.Native.Nat.{_≤_}
+use Prim.Native.Nat.{_-_, _≤_}
 use native.Mathlib.Omega.{arith}
 use borrow.Author.Needs.{needs}
-use Rattle.relaxation.specs.Lifts.{lent}
+use Rattle.lifting.proofs.Tables.{square-own}
+use Rattle.lifting.specs.Lifts.{lent}
 use Rattle.sweeps.proofs.Handing.{Listing, listing-start, listing-turn, listing-next, listing-less, listing-end}
 use Rattle.sweeps.proofs.push_edges.Statement.{statement}
 use Rattle.sweeps.proofs.push_edges.Tie as tie
@@ -24,7 +25,7 @@ index-requires : tie.Need-index-requires Inv-loop μ-loop
 index-requires c κs = search needs
 
 loop-holds : tie.Need-loop-holds Inv-loop μ-loop
-loop-holds c = let s = c .before .before .before .before in listing-start _ _ _ _ _ _ _ (s .pre .4) (c .index .ensures ∙ s .pre .3 .heads _ (s .pre .0))
+loop-holds c = let s = c .before .before .before .before in listing-start _ _ _ _ _ _ _ (s .pre .5) (c .index .ensures ∙ s .pre .3 .heads _ (s .pre .0))
 
 sub-push-word : tie.Need-sub-push-word Inv-loop μ-loop
 sub-push-word c = search needs
@@ -36,7 +37,7 @@ shared-slice-read-push-word : tie.Need-shared-slice-read-push-word Inv-loop μ-l
 shared-slice-read-push-word c = omega (arith, c .before .before .before .loop .inv .few)
 
 push-word-requires : tie.Need-push-word-requires Inv-loop μ-loop
-push-word-requires c κs = let s = c .before .before .before .before .before .before .before .before in (s .pre .1, c .before .before .before .loop .inv .handed .square, s .pre .5)
+push-word-requires c κs = let p = c .before .before .before .before .before .before .before .before .pre in let l = c .before .before .before .loop in let i = l .inv in (omega (arith, p .4 (l .k - 1) (omega (arith, i .few)), i .handed .square .rows), p .1, square-own (i .handed .square), p .6)
 
 add-index : tie.Need-add-index Inv-loop μ-loop
 add-index c = search needs
@@ -51,10 +52,13 @@ index-requires-2 : tie.Need-index-requires-2 Inv-loop μ-loop
 index-requires-2 c κs = search needs
 
 loop-less : tie.Need-loop-less Inv-loop μ-loop
-loop-less c = let s = c .before .before .before .before .before .before in let some : 1 ≤ s .loop .k = omega arith in listing-less _ _ _ _ _ _ _ _ _ _ _ _ some (s .loop .inv) (c .before .before .push-word .ensures) (listing-next _ _ _ _ _ _ _ _ _ _ _ (c .before .before .before .before .before .before .before .before .before .before .before .pre .3) some (s .loop .inv) (c .index2 .ensures))
+loop-less c = let s = c .before .before .before .before .before .before .before in let some : 1 ≤ s .loop .k = omega arith in listing-less _ _ _ _ _ _ _ _ _ _ _ _ some (s .loop .inv) (c .before .before .before .push-word .ensures) (listing-next _ _ _ _ _ _ _ _ _ _ _ (c .before .before .before .before .before .before .before .before .before .before .before .before .pre .3) some (s .loop .inv) (c .index2 .ensures))
 
 loop-again : tie.Need-loop-again Inv-loop μ-loop
-loop-again c = let s = c .before .before .before .before .before .before in let some : 1 ≤ s .loop .k = omega arith in listing-turn _ _ _ _ _ _ _ _ _ _ _ _ some (s .loop .inv) (c .before .before .push-word .ensures) (listing-next _ _ _ _ _ _ _ _ _ _ _ (c .before .before .before .before .before .before .before .before .before .before .before .pre .3) some (s .loop .inv) (c .index2 .ensures))
+loop-again c = let s = c .before .before .before .before .before .before .before in let some : 1 ≤ s .loop .k = omega arith in listing-turn _ _ _ _ _ _ _ _ _ _ _ _ some (s .loop .inv) (c .before .before .before .push-word .ensures) (listing-next _ _ _ _ _ _ _ _ _ _ _ (c .before .before .before .before .before .before .before .before .before .before .before .before .pre .3) some (s .loop .inv) (c .index2 .ensures))
+
+same-length : tie.Need-same-length Inv-loop μ-loop
+same-length c = c .before .loop .inv .handed .square .rows
 
 returns : tie.Need-returns Inv-loop μ-loop
 returns c = listing-end _ _ _ _ _ _ _ _ _ (omega arith) (c .before .loop .inv)
@@ -79,4 +83,5 @@ push-edges-spec =
     index-requires-2
     loop-less
     loop-again
+    same-length
     returns)

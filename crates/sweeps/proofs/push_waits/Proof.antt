@@ -8,7 +8,8 @@ use Rattle.definitions.specs.Waits.{wait-edge}
 use Rattle.definitions.specs.Basics.{test-bit}
 use Rattle.laws.proofs.Maps.{removed-lt}
 use Rattle.relaxation.proofs.Handing.{handed-row, timely-columns}
-use Rattle.relaxation.specs.Lifts.{lent}
+use Rattle.lifting.proofs.Tables.{square-own}
+use Rattle.lifting.specs.Lifts.{lent}
 use Rattle.relaxation.specs.Columns.{HandedAll}
 use Rattle.sweeps.proofs.Handing.{Told, left-within, told-start, told-turn, told-end}
 use Rattle.sweeps.proofs.push_waits.Statement.{statement}
@@ -21,22 +22,25 @@ abbrev μ-loop : tie.MeasureT-loop
 μ-loop d₀ row marks waiting width left₀ todo₀ d left todo = todo
 
 loop-holds : tie.Need-loop-holds Inv-loop μ-loop
-loop-holds c = (λ j h. h, λ u number. told-start _ _ _ _ _ _ (c .pre .1))
+loop-holds c = (λ j h. h, λ u number. told-start _ _ _ _ _ _ (c .pre .2))
 
 lowest-requires : tie.Need-lowest-requires Inv-loop μ-loop
 lowest-requires c κs = omega arith
 
 raise-row-requires : tie.Need-raise-row-requires Inv-loop μ-loop
-raise-row-requires c κs = (c .before .lowest .ensures .below, c .before .before .before .before .pre .0, c .before .before .before .loop .inv .1 0 [] .square)
+raise-row-requires c κs = let p = c .before .before .before .before .pre in let i = c .before .before .before .loop .inv in let low = c .before .lowest in let S = i .1 0 [] .square in (low .ensures .below, omega (arith, p .1 (low .result) (i .0 (low .result) (low .ensures .member)), S .rows), p .0, square-own S)
 
 without-lowest-requires : tie.Need-without-lowest-requires Inv-loop μ-loop
 without-lowest-requires c κs = omega arith
 
 loop-less : tie.Need-loop-less Inv-loop μ-loop
-loop-less c = let low = c .before .before .before .lowest .ensures in removed-lt _ _ _ (low .member) (c .without-lowest .ensures _ low)
+loop-less c = let low = c .before .before .before .before .lowest .ensures in removed-lt _ _ _ (low .member) (c .without-lowest .ensures _ low)
 
 loop-again : tie.Need-loop-again Inv-loop μ-loop
-loop-again c = let s = c .before .before .before .before .before in let low = c .before .before .before .lowest in (left-within _ _ _ _ (s .loop .inv .0) (c .without-lowest .ensures _ (low .ensures)), λ u number. told-turn _ _ _ _ _ _ _ _ _ _ _ _ _ (s .loop .inv .0) (low .ensures .member) (c .without-lowest .ensures _ (low .ensures)) (s .loop .inv .1 u number) (handed-row (wait-edge (record { anchor = u; target = low .result })) number (s .before .args .row .now) (s .before .args .width) (s .before .pre .2) _ _ _ _ _ _ _ (omega arith) (omega arith) refl refl (c .before .raise-row .ensures) (timely-columns (wait-edge (record { anchor = u; target = low .result })) number _ refl)))
+loop-again c = let s = c .before .before .before .before .before .before in let low = c .before .before .before .before .lowest in (left-within _ _ _ _ (s .loop .inv .0) (c .without-lowest .ensures _ (low .ensures)), λ u number. told-turn _ _ _ _ _ _ _ _ _ _ _ _ _ (s .loop .inv .0) (low .ensures .member) (c .without-lowest .ensures _ (low .ensures)) (s .loop .inv .1 u number) (handed-row (wait-edge (record { anchor = u; target = low .result })) number (s .before .args .row .now) (s .before .args .width) (s .before .pre .3) _ _ _ _ _ _ _ (omega arith) (omega arith) refl refl (c .before .before .raise-row .ensures) (timely-columns (wait-edge (record { anchor = u; target = low .result })) number _ refl)))
+
+same-length : tie.Need-same-length Inv-loop μ-loop
+same-length c = c .before .loop .inv .1 0 [] .square .rows
 
 returns : tie.Need-returns Inv-loop μ-loop
 returns c = λ u number. told-end _ _ _ _ _ _ _ _ _ (omega arith) (c .before .loop .inv .1 u number)
@@ -53,4 +57,5 @@ push-waits-spec =
     without-lowest-requires
     loop-less
     loop-again
+    same-length
     returns)

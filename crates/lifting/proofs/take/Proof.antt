@@ -1,0 +1,17 @@
+-- `lifting::take` meets its contract.
+use borrow.Author.Needs.{needs}
+use Rattle.lifting.proofs.Lifting.{taken-weights}
+use Rattle.lifting.proofs.take.Statement.{statement}
+use Rattle.lifting.proofs.take.Tie as tie
+
+copy-row-requires : tie.Need-copy-row-requires
+copy-row-requires c κs = search needs
+
+weight-requires : tie.Need-weight-requires
+weight-requires c κs = search needs
+
+returns : tie.Need-returns
+returns c = taken-weights _ _ (c .weight .ensures) (c .before .copy-row .ensures)
+
+pub take-spec : {M : Type 1} → statement M
+take-spec = tie.close (tie.spec copy-row-requires weight-requires returns)
