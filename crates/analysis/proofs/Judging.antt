@@ -26,7 +26,7 @@ use Rattle.theory.specs.Graphs.{ForwardAcyclic, Rooted, Shape, Well}
 use Rattle.waits.specs.Reaching.{Known, Reaches}
 use Rattle.waits.proofs.Posed.{unwaited-consistent, unwaited-count, unwaited-maps}
 use Rattle.analysis.specs.declared.Analysis.{Analysis}
-use Rattle.analysis.specs.Analysis.{judge-order, judge-first, judge-waits, judge-rest, Sorting, Serial, Blank, Serialized, Analysed, Traced, Unweighed, Presumed}
+use Rattle.analysis.specs.Analysis.{judge-order, judge-first, judge-waits, judge-rest, Sorting, Serial, Blank, Serialized, Analysed, Unweighed, Presumed}
 
 -- Refusals in a row are the first of them, and then the rest.
 split : {A : Type 0} (a b c : Bool) (i j k : ℕ) (rest : Outcome A) → refuse-if a i (refuse-if b j (refuse-if c k rest)) ≡ when-given {A = Unit {0}} (refuse-if a i (refuse-if b j (refuse-if c k (given tt)))) (λ u. rest)
@@ -105,10 +105,6 @@ module _ (n : ℕ) (g : List Edge) where
   unfolding judge-first refuse-if infeasible
   first-done-by h k l = rw (h, k, l)
 
-  feasible-by : closes-circle n g ≡ false → unreached n g ≡ false → infeasible n g ≡ false → judge-first n g ≡ given tt
-  unfolding judge-first refuse-if
-  feasible-by h k l = rw (h, k, l)
-
   infeasible-by : closes-circle n g ≡ false → unreached n g ≡ false → infeasible n g ≡ true → (allow : Bool) → judge-edges n g allow ≡ refused 10
   unfolding judge-edges refuse-if
   infeasible-by h k l allow = rw (h, k, l)
@@ -123,10 +119,7 @@ module _ (n : ℕ) (g : List Edge) where
     pub first-done : stable g (rounds g n (source-row n 0)) ≡ true → judge-first n g ≡ given tt
     first-done l = let p = order-passed passed in first-done-by (p .0) (p .1) l
 
-    -- The same by the test of 10, for who finds out about it after the rest.
-    pub order-feasible : infeasible n g ≡ false → judge-first n g ≡ given tt
-    order-feasible l = let p = order-passed passed in feasible-by (p .0) (p .1) l
-
+    -- 10 by its test, for who finds out about it after the rest.
     pub order-infeasible : infeasible n g ≡ true → (allow : Bool) → judge-edges n g allow ≡ refused 10
     order-infeasible l allow = let p = order-passed passed in infeasible-by (p .0) (p .1) l allow
 
@@ -199,22 +192,18 @@ module _ (n : ℕ) (g : List Edge) where
     serialized-found h k e serial =
         record { judges = e ∙ sym (rest-waits h k allow); found = λ v f. serial; blank = λ l f. absurd (allowed l (sym (rest-waits h k true) ∙ f)) }
 
-    -- And of edges that pass 8 and 9: refused, what reaches what is known all the same.
-    traced-refused : (k : Refusal) → Shape n (members g) → Reached n g (r .reach) → r .verdict ≡ Verdicts.Refused k → Traced n g r
-    traced-refused k shape reached e =
-        record { long = reached .long; reaches = reached-reaches shape reached; consistent = λ v h. absurd (given-not-refused (sym h ∙ ap verdict-of e)); serial = λ v h. absurd (given-not-refused (sym h ∙ ap verdict-of e)) }
+    -- And of edges that pass 8 and 9.
+    pub unweighed-11 : Reached n g (r .reach) → inconsistent n g ≡ true → r .verdict ≡ Verdicts.Refused Inconsistent → Blank r → Unweighed n g allow r
+    unweighed-11 reached h e blank =
+        record { long = reached .long; serialized = λ first. serialized-refused h e blank }
 
-    pub unweighed-11 : Shape n (members g) → Reached n g (r .reach) → inconsistent n g ≡ true → r .verdict ≡ Verdicts.Refused Inconsistent → Blank r → Unweighed n g allow r
-    unweighed-11 shape reached h e blank =
-        record { traced = traced-refused Inconsistent shape reached e; serialized = λ first. serialized-refused h e blank }
-
-    pub unweighed-28 : Shape n (members g) → Reached n g (r .reach) → inconsistent n g ≡ false → (judge-first n g ≡ given tt → unserializable n g ≡ true) → r .verdict ≡ Verdicts.Refused Unserializable → Blank r → Unweighed n g allow r
-    unweighed-28 shape reached h k e blank =
-        record { traced = traced-refused Unserializable shape reached e; serialized = λ first. serialized-clash h (k first) e blank }
+    pub unweighed-28 : Reached n g (r .reach) → inconsistent n g ≡ false → (judge-first n g ≡ given tt → unserializable n g ≡ true) → r .verdict ≡ Verdicts.Refused Unserializable → Blank r → Unweighed n g allow r
+    unweighed-28 reached h k e blank =
+        record { long = reached .long; serialized = λ first. serialized-clash h (k first) e blank }
 
     pub unweighed-found : inconsistent n g ≡ false → (judge-first n g ≡ given tt → unserializable n g ≡ false) → verdict-of (r .verdict) ≡ judge-waits n g allow → Serial n g r → Unweighed n g allow r
     unweighed-found h k e serial =
-        record { traced = record { long = serial .long; reaches = serial .reaches; consistent = λ v o. h; serial = λ v o. serial }; serialized = λ first. serialized-found h (k first) e serial }
+        record { long = serial .long; serialized = λ first. serialized-found h (k first) e serial }
 
     -- Nothing reaches further than the anchor sets say.
     pub unweighed-posed : {sets : List ℕ} → 1 ≤ n → n ≤ 64 → Shape n (members g) → AnchorSets n g sets → judge-order n g ≡ given tt → Reached n g (r .reach) → Stripped sets n (r .reach) → r .maps ≡ replicate 64 0 → r .verdict ≡ Verdicts.WellPosed → r .count ≡ 0 → Unweighed n g allow r
@@ -249,7 +238,7 @@ module _ (n : ℕ) (g : List Edge) where
           sorts = (λ t. absurd (both-ways t s), λ o. absurd (given-not-refused (sym o ∙ h)));
           refuses = λ l o. ap verdict-of e ∙ ap (λ (x : ℕ). refused x) (refused-same (sym h ∙ o));
           unsorted = λ f. analysed-refused allow r k (first-refused (number k) h) e blank;
-          traced = λ t. absurd (both-ways t s);
+          long = λ t. absurd (both-ways t s);
           feasible = λ f. absurd (given-not-refused (sym f ∙ first-refused (number k) h));
         }
 
@@ -259,6 +248,6 @@ module _ (n : ℕ) (g : List Edge) where
           sorts = (λ t. o, λ p. s);
           refuses = λ l h. absurd (given-not-refused (sym o ∙ h));
           unsorted = λ f. absurd (both-ways s f);
-          traced = λ t. u .traced;
+          long = λ t. u .long;
           feasible = λ f. analysed-rest allow r f (u .serialized f);
         }

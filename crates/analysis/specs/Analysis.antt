@@ -61,16 +61,9 @@ pub record Analysed (n : ℕ) (g : List Edge) (allow : Bool) (r : Analysis) : Ty
   pub found : (v : ℕ) → judge-edges n g true ≡ given v → Serial n g r
   pub blank : (k : ℕ) → judge-edges n g true ≡ refused k → Blank r
 
--- What holds where 8 and 9 do not apply, whether or not 10 does: what reaches what; and where the verdict is no refusal, that no step waits for its own end, the waits, and their count.
-pub record Traced (n : ℕ) (g : List Edge) (r : Analysis) : Type 0 where
-  pub long : length (r .reach) ≡ 64
-  pub reaches : Reaches n g (r .reach)
-  pub consistent : (v : ℕ) → verdict-of (r .verdict) ≡ given v → inconsistent n g ≡ false
-  pub serial : (v : ℕ) → verdict-of (r .verdict) ≡ given v → Serial n g r
-
 -- The analysis from 11 on, of edges that pass 8 and 9.
 pub record Unweighed (n : ℕ) (g : List Edge) (allow : Bool) (r : Analysis) : Type 0 where
-  pub traced : Traced n g r
+  pub long : length (r .reach) ≡ 64
   pub serialized : judge-first n g ≡ given tt → Serialized n g allow r
 
 -- The whole with 10 left out. Edges that do not pass 8 and 9 are refused by it, and those that also pass 10 are analysed.
@@ -78,5 +71,5 @@ pub record Presumed (n : ℕ) (g : List Edge) (allow sorted : Bool) (r : Analysi
   pub sorts : (sorted ≡ true) ↔ (judge-order n g ≡ given tt)
   pub refuses : (k : ℕ) → judge-order n g ≡ refused k → verdict-of (r .verdict) ≡ refused k
   pub unsorted : sorted ≡ false → Analysed n g allow r
-  pub traced : sorted ≡ true → Traced n g r
+  pub long : sorted ≡ true → length (r .reach) ≡ 64
   pub feasible : judge-first n g ≡ given tt → Analysed n g allow r

@@ -174,7 +174,7 @@ fn weigh(
 }
 
 // The analysis of the edges of a sheet of n steps, with their adjacency lists, into rows that are blank.
-pub fn judge(
+fn judge(
     es: &[u64],
     lists: &[u16],
     n: usize,

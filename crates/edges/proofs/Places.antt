@@ -4,12 +4,12 @@ use mathlib.Core.Bool.{Bool, true, false}
 use mathlib.Core.List.{List, List·Memᴰ, Memᴰ·map, Memᴰ·of-map}
 use Prim.Native.Nat.{ℕ, _<_}
 use lib.ListN.{length, getD}
-use Rattle.definitions.specs.Basics.{all, any}
+use Rattle.definitions.specs.Basics.{all}
 use Rattle.definitions.specs.Links.{Edge}
 use Rattle.edges.specs.Words.{EndsBelow, graph, unpack}
 use Rattle.laws.proofs.Bools.{both-ways, not-passing}
 use Rattle.laws.proofs.Lists.{mem-at, mem-place}
-use Rattle.laws.proofs.Tests.{all-by, all-each, any-by, none-any}
+use Rattle.laws.proofs.Tests.{all-by, all-each}
 use Rattle.edges.proofs.Digits.{to-small}
 
 pub graph-at : (es : List ℕ) (k : ℕ) → k < length es → List·Memᴰ (unpack (getD es k 0)) (graph es)
@@ -27,16 +27,10 @@ graph-place es e m =
 pub ends-below-64 : (es : List ℕ) → EndsBelow es 64
 ends-below-64 es k b = to-small (getD es k 0)
 
--- Every edge passes a test where every word's does, and fails it where one does; some edge passes it likewise.
+-- Every edge passes a test where every word's does, and not every one where one word's fails.
 module _ (test : Edge → Bool) (es : List ℕ) where
   pub graph-passes : ((k : ℕ) → k < length es → test (unpack (getD es k 0)) ≡ true) → all test (graph es) ≡ true
   graph-passes h = all-by test (graph es) (λ e m. let p = graph-place es e m in ap test (sym (p .2)) ∙ h (p .0) (p .1))
 
   pub graph-fails : (k : ℕ) → k < length es → test (unpack (getD es k 0)) ≡ false → all test (graph es) ≡ false
   graph-fails k b f = not-passing (all test (graph es)) (λ t. both-ways (all-each test (graph es) t (unpack (getD es k 0)) (graph-at es k b)) f)
-
-  pub graph-any : (k : ℕ) → k < length es → test (unpack (getD es k 0)) ≡ true → any test (graph es) ≡ true
-  graph-any k b t = any-by test (graph es) (graph-at es k b) t
-
-  pub graph-none : ((k : ℕ) → k < length es → test (unpack (getD es k 0)) ≡ false) → any test (graph es) ≡ false
-  graph-none h = none-any test (graph es) (λ e m. let p = graph-place es e m in ap test (sym (p .2)) ∙ h (p .0) (p .1))

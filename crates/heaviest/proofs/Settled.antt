@@ -1,6 +1,6 @@
 -- Sweeps below a column that is sought are those of the theory, and from the seeds they end at the offsets.
 use mathlib.Core.Path.{_≡_, refl, sym, ap, subst, _∙_}
-use mathlib.Core.Bool.{Bool, true, _&&_}
+use mathlib.Core.Bool.{true, _&&_}
 use mathlib.Core.Logic.{_⊎_, inl, inr}
 use mathlib.Core.List.{List, List·Memᴰ, _++_, List·Memᴰ·append-cases, Memᴰ·append-left, Memᴰ·append-right}
 use Prim.Native.Nat.{ℕ, zero, suc, _+_, _-_, _%_, _≤_, _<_}
@@ -22,7 +22,7 @@ use Rattle.laws.proofs.Bools.{and-join, and-split, both-ways}
 use Rattle.laws.proofs.Maps.{test-zero}
 use Rattle.relations.specs.Rows.{row-bit}
 use Rattle.lifting.specs.Tables.{Square, entry}
-use Rattle.relaxation.specs.Columns.{Covered, Numbers, Sought, WaitsFor, column}
+use Rattle.relaxation.specs.Columns.{Sought, WaitsFor, column}
 use Rattle.lifting.proofs.Tables.{square-then}
 use Rattle.seeding.specs.Seeds.{Prepared}
 use Rattle.sweeps.specs.Graphs.{Both, SweptBy}

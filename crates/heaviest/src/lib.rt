@@ -16,7 +16,7 @@ ghost use Rattle.definitions.specs.Links.{members};
 ghost use Rattle.definitions.specs.Plan.{offset-row};
 ghost use Rattle.definitions.specs.Rounds.{cell, rounds, source-row, stable};
 ghost use Rattle.edges.specs.Serial.{Within, wait-edges};
-ghost use Rattle.edges.specs.Words.{EndsBelow, graph, unpack};
+ghost use Rattle.edges.specs.Words.{EndsBelow, graph};
 ghost use Rattle.relations.specs.Rows.{row-bit};
 ghost use Rattle.lifting.specs.Tables.{Square, entry, value};
 ghost use Rattle.seeding.specs.Seeds.{Blank, Empty};

@@ -1,8 +1,8 @@
 -- The columns of the working table are numbered: column k is that of an anchor. Read as a column, a cell is 0 where no walk comes, w + 1 for the weight w. Marks, a map of steps: bit v stands where row v may have been raised since step v last handed on.
 use mathlib.Core.Path.{_≡_}
 use mathlib.Core.Bool.{Bool, true, false}
-use mathlib.Core.List.{List, []}
-use Prim.Native.Nat.{ℕ, suc, _-_, _≤_, _<_}
+use mathlib.Core.List.{List}
+use Prim.Native.Nat.{ℕ, _≤_, _<_}
 use lib.ListN.{length, getD}
 use Rattle.definitions.specs.Basics.{test-bit}
 use Rattle.definitions.specs.Links.{Edge, Graph}

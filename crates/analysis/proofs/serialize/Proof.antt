@@ -32,7 +32,7 @@ returns-2 c =
       u .2,
       λ shape sets gains passed.
           let reached = w .before .before .before .reach .ensures .0 sets in
-          unweighed-11 _ _ _ _ shape reached (sym (w .is-inconsistent .ensures .1 _ (reached-reaches shape reached)) ∙ c .before .if2 .taken) (u .0) (record { maps = w .before .before .before .before .before .before .before .pre .5; count = u .1 }),
+          unweighed-11 _ _ _ _ reached (sym (w .is-inconsistent .ensures .1 _ (reached-reaches shape reached)) ∙ c .before .if2 .taken) (u .0) (record { maps = w .before .before .before .before .before .before .before .pre .5; count = u .1 }),
     )
 
 wait-maps-requires : tie.Need-wait-maps-requires
@@ -59,7 +59,7 @@ returns-3 c =
           let maps = w .before .before .before .before .wait-maps .ensures .1 _ (record { shape = shape; reaches = reaches; anchors = sets }) in
           let count = w .before .before .count-waits .ensures .1 _ maps in
           let some = w .before .before .before .before .before .before .before .before .before .before .before .before .before .before .before .pre .0 in
-          unweighed-28 _ _ _ _ shape reached consistent (λ first. sym (w .waits-clash .ensures (passed-well _ _ some shape first consistent) (order-acyclic _ _ passed some shape) gains maps count) ∙ c .before .before .if3 .taken) (u .0) (record { maps = refl; count = u .1 }),
+          unweighed-28 _ _ _ _ reached consistent (λ first. sym (w .waits-clash .ensures (passed-well _ _ some shape first consistent) (order-acyclic _ _ passed some shape) gains maps count) ∙ c .before .before .if3 .taken) (u .0) (record { maps = refl; count = u .1 }),
     )
 
 waits-verdict-requires : tie.Need-waits-verdict-requires

@@ -80,7 +80,7 @@ returns-3 c gains =
     let pre = checked .before .before .before .before .before .before .before .before .before .before .before .before .before .before .before .pre in
     let presumed = checked .before .before .before .judge-assuming-feasible .ensures (pre .5) gains in
     let sorted = not-false _ (checked .before .if1 .left) in
-    plan-written presumed _ sorted (wrote .write-plan .ensures .1 .1 (pre .5) (sorted-rooted presumed (pre .0) (pre .5) sorted) gains (presumed .traced sorted .long)) (checked .with-room .ensures) (c .unless-infeasible2 .ensures) (pre .0) (pre .5) gains
+    plan-written presumed _ sorted (wrote .write-plan .ensures .1 .1 (pre .5) (sorted-rooted presumed (pre .0) (pre .5) sorted) gains (presumed .long sorted)) (checked .with-room .ensures) (c .unless-infeasible2 .ensures) (pre .0) (pre .5) gains
     (sym (tested .before .accepted .ensures) ∙ not-false _ (tested .if2 .left))
     (wrote .write-plan .ensures .0)
     (wrote .write-plan .ensures .1 .0)

@@ -76,7 +76,7 @@ returns-3 c gains os long map =
     let pre = checked .before .before .before .before .before .before .before .before .before .before .before .before .before .before .before .before .pre in
     let presumed = checked .before .before .before .judge-assuming-feasible .ensures (pre .5) gains in
     let sorted = not-false _ (checked .before .if1 .left) in
-    starts-written presumed os _ _ sorted (wrote .write-starts .ensures .1 .1 (pre .5) (sorted-rooted presumed (pre .0) (pre .5) sorted) gains (presumed .traced sorted .long)) (checked .with-list .ensures .0 os long map) (c .unless-infeasible2 .ensures) (pre .0) (pre .5) gains
+    starts-written presumed os _ _ sorted (wrote .write-starts .ensures .1 .1 (pre .5) (sorted-rooted presumed (pre .0) (pre .5) sorted) gains (presumed .long sorted)) (checked .with-list .ensures .0 os long map) (c .unless-infeasible2 .ensures) (pre .0) (pre .5) gains
     (sym (tested .before .accepted .ensures) ∙ not-false _ (tested .if2 .left))
     (λ t p right. wrote .write-starts .ensures .0 t p os long right)
     (wrote .write-starts .ensures .1 .0)
