@@ -1,4 +1,4 @@
-// Document 01's numbers for the answers that are enums: refusals, verdicts and the status of a call.
+// Document 01's numbers for the answers that are enums: refusals, verdicts and the status of a call; and whether a verdict accepts.
 use definitions::Refusal;
 use definitions::Status;
 use definitions::Verdict;
@@ -6,7 +6,7 @@ ghost use mathlib.Core.Path.{_≡_};
 ghost use Prim.Native.Nat.{_≤_};
 ghost use Rattle.definitions.specs.Dispatcher.{Progress};
 ghost use Rattle.definitions.specs.Numbers.{number, status-of, verdict-of};
-ghost use Rattle.numbers.specs.Codes.{call-code, code};
+ghost use Rattle.numbers.specs.Codes.{call-code, code, is-given};
 
 // The refusal's number.
 pub fn refusal_number(k: Refusal) -> u32
@@ -33,6 +33,17 @@ pub fn refusal_number(k: Refusal) -> u32
         Refusal::ClockEnd => 18,
         Refusal::Unsequenced => 26,
         Refusal::Unserializable => 28,
+    }
+}
+
+// Whether a sheet is accepted.
+pub fn accepted(verdict: Verdict) -> bool
+    ensures { λ r. ⌜ r ≡ is-given (verdict-of verdict) ⌝ }
+{
+    match verdict {
+        Verdict::WellPosed => true,
+        Verdict::Serialized => true,
+        Verdict::Refused(_) => false,
     }
 }
 

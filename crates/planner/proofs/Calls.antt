@@ -27,10 +27,11 @@ use Rattle.theory.specs.Graphs.{Gains, Shape}
 use Rattle.analysis.specs.declared.Analysis.{Analysis}
 use Rattle.planner.specs.declared.WaitMaps.{WaitMaps}
 use Rattle.analysis.specs.Analysis.{Analysed}
-use Rattle.planning.specs.Outcomes.{plan-outcome, starts-outcome}
+use Rattle.planning.specs.Outcomes.{plan-outcome}
+use Rattle.timing.specs.Outcomes.{starts-outcome}
 use Rattle.planner.specs.Answers.{Lists}
 use Rattle.planner.proofs.Held.{by-held, held-gains, held-shape}
-use Rattle.planning.proofs.Writing.{Answered}
+use Rattle.tabulation.proofs.Answers.{Answered}
 
 -- The elements of a list of bytes are below 256, from each place.
 pub bytes-by : (s : List ℕ) → ((i : ℕ) → getD s i 0 < 256) → Bytes s
@@ -82,20 +83,20 @@ module _ {q : Records} {words : List ℕ} {report : Report} (fits : Fits q) (hol
     unfolding plan-outcome plan-verdict judge-records serialized-of
     plan-records table after a = a
 
-    pub sheet-planned : (table : List ℕ) {after : List ℕ} → (Gains (members word-edges) 65535 → Answered (plan-outcome (report .n) word-edges allow table) (plan-table (report .n) (serialized (report .n) word-edges)) table r after) → Answered (plan-verdict q allow table) (plan-table (count-of q) (serialized-of q)) table r after
+    pub sheet-planned : (table : List ℕ) {after : List ℕ} → (Answered (plan-outcome (report .n) word-edges allow table) (plan-table (report .n) (serialized (report .n) word-edges)) table r after) → Answered (plan-verdict q allow table) (plan-table (count-of q) (serialized-of q)) table r after
     sheet-planned table {after} answer =
         plan-records table after
-        (by-held fits holds (λ n g. Answered (plan-outcome n g allow table) (plan-table n (serialized n g)) table r after) (answer (held-gains fits holds)))
+        (by-held fits holds (λ n g. Answered (plan-outcome n g allow table) (plan-table n (serialized n g)) table r after) answer)
 
     starts-records : (list out after : List ℕ) → Answered (starts-outcome (count-of q) (edges-of q) allow (q .steps) list out) (start-times (count-of q) (serialized (count-of q) (edges-of q)) (delays list)) out r after → Answered (starts-verdict q allow list out) (start-times (count-of q) (serialized-of q) (delays list)) out r after
     unfolding starts-outcome starts-verdict judge-records serialized-of
     starts-records list out after a = a
 
-    pub sheet-started : (list out : List ℕ) {after : List ℕ} → (Gains (members word-edges) 65535 → (os : List Operation) → length os ≡ report .n → ((i : ℕ) → i < report .n → test-bit (report .unbounded) i ≡ unbounded-at os i) → Answered (starts-outcome (report .n) word-edges allow os list out) (start-times (report .n) (serialized (report .n) word-edges) (delays list)) out r after) → Answered (starts-verdict q allow list out) (start-times (count-of q) (serialized-of q) (delays list)) out r after
+    pub sheet-started : (list out : List ℕ) {after : List ℕ} → ((os : List Operation) → length os ≡ report .n → ((i : ℕ) → i < report .n → test-bit (report .unbounded) i ≡ unbounded-at os i) → Answered (starts-outcome (report .n) word-edges allow os list out) (start-times (report .n) (serialized (report .n) word-edges) (delays list)) out r after) → Answered (starts-verdict q allow list out) (start-times (count-of q) (serialized-of q) (delays list)) out r after
     sheet-started list out {after} answer =
         starts-records list out after
         (by-held fits holds (λ n g. Answered (starts-outcome n g allow (q .steps) list out) (start-times n (serialized n g) (delays list)) out r after)
-        (answer (held-gains fits holds) (q .steps) (sym (holds .n)) (holds .opens)))
+        (answer (q .steps) (sym (holds .n)) (holds .opens)))
 
 -- The waits of the analysis, by whether it accepts.
 waits-when-lists : (q : Records) (found : Analysis) (o : Outcome ℕ) → judge-edges (count-of q) (edges-of q) true ≡ o → Analysed (count-of q) (edges-of q) true found → Lists (waits-when q o) (record { verdict = found .verdict; maps = found .maps; count = found .count })

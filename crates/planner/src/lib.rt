@@ -4,7 +4,7 @@ use analysis::analyse_edges;
 use definitions::Reading;
 use definitions::Verdict;
 use planning::plan_edges;
-use planning::starts_edges;
+use timing::starts_edges;
 ghost use mathlib.Core.Path.{_≡_};
 ghost use Prim.Native.Nat.{_*_, _≤_};
 ghost use lib.ListN.{length};

@@ -1,4 +1,2 @@
-pub mod Overriding
-pub mod Sourcing
-pub mod Tables
+mod Overriding
 pub mod Writing

@@ -1,17 +1,14 @@
--- `planning::plan_edges` meets its contract: there is room for the lists of few edges, and for those of any.
+-- `planning::plan_edges` meets its contract: a table of 16 rows is enough for 16 steps, one of 64 for any.
 use borrow.Author.Needs.{needs}
-use native.Mathlib.Omega.{arith}
-use Prim.Native.Nat.{ℕ}
-use lib.ListN.{length-replicate}
-use Rattle.adjacency.proofs.Linking.{zeros-empty}
+use Rattle.heaviest.proofs.Spreading.{empty-found}
 use Rattle.planning.proofs.plan_edges.Statement.{statement}
 use Rattle.planning.proofs.plan_edges.Tie as tie
 
-slice-aggregate-plan-listed : tie.Need-slice-aggregate-plan-listed
-slice-aggregate-plan-listed c = search needs
+slice-aggregate-plan-on : tie.Need-slice-aggregate-plan-on
+slice-aggregate-plan-on c = search needs
 
-plan-listed-requires : tie.Need-plan-listed-requires
-plan-listed-requires c κs = let p = c .before .before .before .before .before .pre in (p .0, p .1, p .2, omega (arith, length-replicate {A = ℕ} 320 0), zeros-empty 320 (omega arith), p .3)
+plan-on-requires : tie.Need-plan-on-requires
+plan-on-requires c κs = let p = c .before .before .before .before .before .pre in (p .0, p .1, search needs, p .2, empty-found 16, p .3, p .4)
 
 same-length : tie.Need-same-length
 same-length c = search needs
@@ -19,11 +16,11 @@ same-length c = search needs
 returns : tie.Need-returns
 returns c = search needs
 
-slice-aggregate-plan-listed-2 : tie.Need-slice-aggregate-plan-listed-2
-slice-aggregate-plan-listed-2 c = search needs
+slice-aggregate-plan-on-2 : tie.Need-slice-aggregate-plan-on-2
+slice-aggregate-plan-on-2 c = search needs
 
-plan-listed-requires-2 : tie.Need-plan-listed-requires-2
-plan-listed-requires-2 c κs = let p = c .before .before .before .before .before .pre in (p .0, p .1, p .2, omega (arith, p .2, length-replicate {A = ℕ} 2112 0), zeros-empty 2112 (omega arith), p .3)
+plan-on-requires-2 : tie.Need-plan-on-requires-2
+plan-on-requires-2 c κs = let p = c .before .before .before .before .before .pre in (p .0, p .1, search needs, p .2, empty-found 64, p .3, p .4)
 
 same-length-2 : tie.Need-same-length-2
 same-length-2 c = search needs
@@ -35,11 +32,11 @@ pub plan-edges-spec : {M : Type 1} → statement M
 plan-edges-spec =
     tie.close
     (tie.spec
-    slice-aggregate-plan-listed
-    plan-listed-requires
+    slice-aggregate-plan-on
+    plan-on-requires
     same-length
     returns
-    slice-aggregate-plan-listed-2
-    plan-listed-requires-2
+    slice-aggregate-plan-on-2
+    plan-on-requires-2
     same-length-2
     returns-2)

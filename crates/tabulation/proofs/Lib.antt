@@ -1,0 +1,4 @@
+pub mod Answers
+mod Sourcing
+mod Tables
+mod Verdicts
