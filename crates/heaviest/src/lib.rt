@@ -122,7 +122,18 @@ fn sweep_on(
     }
 }
 
-// All sweeps.
+// Whether no closed walk weighs more than 0: refusal 10. A first sweep that left no mark says so; else a search of its own does.
+fn possible(marks: u64, es: &[u64], lists: &[u16], order: &[u8; 64], n: usize) -> bool
+    requires { ⌜ (1 ≤ n) × (n ≤ 64) × (length (now es) ≤ 2048) × Lists (now es) (now lists) ⌝ }
+    ensures { λ r. ⌜ (Shape n (members (graph (now (es .entry)))) → Rooted n (members (graph (now (es .entry)))) → (marks ≡ 0 → stable (graph (now (es .entry))) (rounds (graph (now (es .entry))) n (source-row n 0)) ≡ true) → r ≡ stable (graph (now (es .entry))) (rounds (graph (now (es .entry))) n (source-row n 0))) ⌝ }
+{
+    if marks == 0 {
+        return true;
+    }
+    feasible(es, lists, order, n)
+}
+
+// All sweeps, where no closed walk over the edges weighs more than 0; else false, refusal 10. The first sweep mostly tells.
 fn settle(
     d: &mut [[u32; 64]],
     es: &[u64],
@@ -132,12 +143,17 @@ fn settle(
     number: &[u8; 64],
     width: usize,
     n: usize,
-)
+) -> bool
     requires { ⌜ (1 ≤ n) × (n ≤ 64) × (n ≤ length (now d)) × (width ≤ 64) × (length (now es) ≤ 2048) × Lists (now es) (now lists) × EndsBelow (now es) (length (now d)) × Within (length (now d)) (now waiting) × Square (length (now d)) (now d) ⌝ }
-    ensures { λ r. ⌜ SettledBy (now (es .entry)) (now (waiting .entry)) (now (number .entry)) width n (now (d .entry)) (now (d .exit)) ⌝ }
+    ensures square { λ r. ⌜ Square (length (now (d .entry))) (now (d .exit)) ⌝ }
+    ensures settled { λ r. ⌜ (r ≡ true → SettledBy (now (es .entry)) (now (waiting .entry)) (now (number .entry)) width n (now (d .entry)) (now (d .exit))) ⌝ }
+    ensures told { λ r. ⌜ (Shape n (members (graph (now (es .entry)))) → Rooted n (members (graph (now (es .entry)))) → ((d₁ : List (List ℕ)) (m : ℕ) → Opened (now (es .entry)) (now (waiting .entry)) (now (number .entry)) width n (now (d .entry)) d₁ m → m ≡ 0 → stable (graph (now (es .entry))) (rounds (graph (now (es .entry))) n (source-row n 0)) ≡ true) → r ≡ stable (graph (now (es .entry))) (rounds (graph (now (es .entry))) n (source-row n 0))) ⌝ }
 {
     let place = places(order, n);
     let marks = sweep_first(d, es, lists, waiting, order, &place, number, width, n);
+    if !possible(marks, es, lists, order, n) {
+        return false;
+    }
     sweep_on(
         d,
         marks,
@@ -150,6 +166,7 @@ fn settle(
         width,
         n,
     );
+    true
 }
 
 // What a cell says.
@@ -185,41 +202,8 @@ fn spread_rows(d: &mut [[u32; 64]], number: &[u8; 64], sets: &[u64; 64], n: usiz
     }
 }
 
-// At [v][a] the cell of step v for anchor a, over the edges and the waits that maps hold, where a is a member of row v of sets: for an anchor whose members in sets are the steps that its walks reach.
-// The order decides speed alone.
-pub fn walks(
-    d: &mut [[u32; 64]],
-    es: &[u64],
-    lists: &[u16],
-    maps: &[u64; 64],
-    sets: &[u64; 64],
-    order: &[u8; 64],
-    n: usize,
-)
-    requires { ⌜ (1 ≤ n) × (n ≤ 64) × (n ≤ length (now d)) × (length (now es) ≤ 2048) × Lists (now es) (now lists) × Empty (now d) × EndsBelow (now es) (length (now d)) ⌝ }
-    ensures square { λ r. ⌜ Square (length (now (d .entry))) (now (d .exit)) ⌝ }
-    ensures cells { λ r. ⌜ (Within n (now (maps .entry)) → Well n (members (graph (now (es .entry)) ++ wait-edges n (now (maps .entry)))) → WellPosed (members (graph (now (es .entry)) ++ wait-edges n (now (maps .entry)))) → Gains (members (graph (now (es .entry)) ++ wait-edges n (now (maps .entry)))) 65535 → (a : ℕ) → a < n → Supported n (graph (now (es .entry)) ++ wait-edges n (now (maps .entry))) (now (sets .entry)) a → (v : ℕ) → v < n → row-bit (now (sets .entry)) v a ≡ true → entry (now (d .exit)) v a ≡ cell (offset-row n (graph (now (es .entry)) ++ wait-edges n (now (maps .entry))) a) v) ⌝ }
-{
-    let mut waiting = [0u64; 64];
-    transpose(maps, n, &mut waiting);
-    let mut number = no_numbers();
-    let width = seed(d, &mut number, es, sets, n);
-    settle(d, es, lists, &waiting, order, &number, width, n);
-    spread_rows(d, &number, sets, n);
-}
-
-// Whether no closed walk weighs more than 0: refusal 10. A first sweep that left no mark says so; else a search of its own does.
-fn possible(marks: u64, es: &[u64], lists: &[u16], order: &[u8; 64], n: usize) -> bool
-    requires { ⌜ (1 ≤ n) × (n ≤ 64) × (length (now es) ≤ 2048) × Lists (now es) (now lists) ⌝ }
-    ensures { λ r. ⌜ (Shape n (members (graph (now (es .entry)))) → Rooted n (members (graph (now (es .entry)))) → (marks ≡ 0 → stable (graph (now (es .entry))) (rounds (graph (now (es .entry))) n (source-row n 0)) ≡ true) → r ≡ stable (graph (now (es .entry))) (rounds (graph (now (es .entry))) n (source-row n 0))) ⌝ }
-{
-    if marks == 0 {
-        return true;
-    }
-    feasible(es, lists, order, n)
-}
-
-// The same as `walks`, where no closed walk over the edges weighs more than 0; else false, refusal 10. The first sweep mostly tells.
+// Where no closed walk over the edges weighs more than 0: at [v][a] the cell of step v for anchor a, over the edges and the waits that maps hold, where a is a member of row v of sets; for an anchor whose members in sets are the steps that its walks reach.
+// Else false, refusal 10. The order decides speed alone.
 pub fn walks_if_possible(
     d: &mut [[u32; 64]],
     es: &[u64],
@@ -234,27 +218,13 @@ pub fn walks_if_possible(
     ensures cells { λ r. ⌜ (r ≡ true → Within n (now (maps .entry)) → Well n (members (graph (now (es .entry)) ++ wait-edges n (now (maps .entry)))) → WellPosed (members (graph (now (es .entry)) ++ wait-edges n (now (maps .entry)))) → Gains (members (graph (now (es .entry)) ++ wait-edges n (now (maps .entry)))) 65535 → (a : ℕ) → a < n → Supported n (graph (now (es .entry)) ++ wait-edges n (now (maps .entry))) (now (sets .entry)) a → (v : ℕ) → v < n → row-bit (now (sets .entry)) v a ≡ true → entry (now (d .exit)) v a ≡ cell (offset-row n (graph (now (es .entry)) ++ wait-edges n (now (maps .entry))) a) v) ⌝ }
     ensures told { λ r. ⌜ (Shape n (members (graph (now (es .entry)))) → Rooted n (members (graph (now (es .entry)))) → Gains (members (graph (now (es .entry)))) 65535 → ((v : ℕ) → v < n → row-bit (now (sets .entry)) v 0 ≡ true) → r ≡ stable (graph (now (es .entry))) (rounds (graph (now (es .entry))) n (source-row n 0))) ⌝ }
 {
-    let mut waiters = [0u64; 64];
-    transpose(maps, n, &mut waiters);
+    let mut waiting = [0u64; 64];
+    transpose(maps, n, &mut waiting);
     let mut number = no_numbers();
     let width = seed(d, &mut number, es, sets, n);
-    let place = places(order, n);
-    let marks = sweep_first(d, es, lists, &waiters, order, &place, &number, width, n);
-    if !possible(marks, es, lists, order, n) {
+    if !settle(d, es, lists, &waiting, order, &number, width, n) {
         return false;
     }
-    sweep_on(
-        d,
-        marks,
-        es,
-        lists,
-        &waiters,
-        order,
-        &place,
-        &number,
-        width,
-        n,
-    );
     spread_rows(d, &number, sets, n);
     true
 }

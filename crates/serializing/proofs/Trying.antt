@@ -42,7 +42,7 @@ pub record Tried (n : ℕ) (es : List Edge) (d : List (List ℕ)) : Type 0 where
 abbrev pub Offsets : ℕ → List Edge → List ℕ → List (List ℕ) → Type 0
 Offsets n es sets d = Well n (members es) → WellPosed (members es) → Gains (members es) 65535 → (a : ℕ) → a < n → Supported n es sets a → (v : ℕ) → v < n → row-bit sets v a ≡ true → entry d v a ≡ cell (offset-row n es a) v
 
--- The maps of waits hold no step at n or above; and the edges with the waits that they hold are the sheet with its waits in. So this is what `heaviest::walks` promises.
+-- The maps of waits hold no step at n or above; and the edges with the waits that they hold are the sheet with its waits in. So this is what `heaviest::walks_if_possible` promises.
 module _ {n : ℕ} {g : List Edge} {maps : List ℕ} (few : n ≤ 64) (shape : Shape n (members g)) (waits : maps ≡ wait-maps n g) where
   pub maps-within : Within n maps
   maps-within i a h = wait-anchor-below shape (wait-maps-iff few shape i a .0 (ap (λ (l : List ℕ). row-bit l i a) (sym waits) ∙ h))

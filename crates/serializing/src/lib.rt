@@ -69,14 +69,16 @@ fn uncut(d: &[[u32; 64]; 64], n: usize) -> bool
     true
 }
 
-// Whether start times keep edges and waits while no operation is delayed: whether the source's column of the working table is settled. The source is the only anchor.
+// Whether start times keep edges and waits while no operation is delayed: whether the source's column of the working table is settled. The source is the only anchor. Of edges to which 10 applies nothing is promised.
 fn leaves_times(es: &[u64], lists: &[u16], maps: &[u64; 64], order: &[u8; 64], n: usize) -> bool
     requires { ⌜ (1 ≤ n) × (n ≤ 64) × (length (now es) ≤ 2048) × Lists (now es) (now lists) ⌝ }
     ensures { λ r. ⌜ (Well n (members (graph (now (es .entry)))) → Gains (members (graph (now (es .entry)))) 65535 → now (maps .entry) ≡ wait-maps n (graph (now (es .entry))) → closes-circle n (serialized n (graph (now (es .entry)))) ≡ false → r ≡ not (infeasible n (serialized n (graph (now (es .entry)))))) ⌝ }
 {
     let mut d = [[0u32; 64]; 64];
     let sets = [1u64; 64];
-    heaviest::walks(&mut d, es, lists, maps, &sets, order, n);
+    if !heaviest::walks_if_possible(&mut d, es, lists, maps, &sets, order, n) {
+        return false;
+    }
     if d[0][0] == 0 {
         return false;
     }
