@@ -51,6 +51,13 @@ fn anchor_map(targets: &[u64; 64], n: usize) -> u64
     map
 }
 
+// Whether some number is a member of both.
+fn meets(a: u64, b: u64) -> bool
+    ensures { λ r. ⌜ r ≡ any-below (λ (k : ℕ). test-bit a k && test-bit b k) 64 ⌝ }
+{
+    (a & b) != 0
+}
+
 // The members of a map that have a target in another.
 fn anchor_row(before: u64, targets: &[u64; 64], map: u64) -> u64
     ensures { λ r. ⌜ ((a : ℕ) → test-bit r a ≡ (test-bit map a && any-below (λ w. row-bit (now (targets .entry)) a w && test-bit before w) 64)) ⌝ }
@@ -59,7 +66,7 @@ fn anchor_row(before: u64, targets: &[u64; 64], map: u64) -> u64
     let mut left = map;
     while left != 0 {
         let a = bitmaps::lowest(left);
-        let stands = bitmaps::meets(targets[a], before);
+        let stands = meets(targets[a], before);
         row = bitmaps::insert_if(row, a, stands);
         left = bitmaps::without_lowest(left);
     }

@@ -1,23 +1,10 @@
-// Sets of numbers below 64, each a u64: bit k stands where k is a member. Contracts say of every number whether it is a member.
+// Sets of numbers below 64 and their single members. A set is a u64: bit k stands where k is a member. Contracts say of every number whether it is a member.
 ghost use mathlib.Core.Path.{_≡_};
 ghost use mathlib.Core.Bool.{not, _&&_, _||_};
-ghost use Prim.Native.Nat.{ℕ, _<_, _≤_};
-ghost use lib.Dec.{eqb, ltb};
-ghost use lib.ListN.{length};
-ghost use Rattle.definitions.specs.Basics.{any-below, select-below, test-bit};
+ghost use Prim.Native.Nat.{ℕ, _<_};
+ghost use lib.Dec.{eqb};
+ghost use Rattle.definitions.specs.Basics.{test-bit};
 ghost use Rattle.bitmaps.specs.Members.{Lowest, Highest};
-
-// The numbers below n.
-pub fn below(n: usize) -> u64
-    requires { ⌜ n ≤ 64 ⌝ }
-    ensures { λ r. ⌜ ((k : ℕ) → test-bit r k ≡ ltb k n) ⌝ }
-{
-    if n < 64 {
-        (1 << n) - 1
-    } else {
-        18446744073709551615
-    }
-}
 
 // Whether k is a member.
 pub fn has(m: u64, k: usize) -> bool
@@ -52,41 +39,6 @@ pub fn remove(m: u64, k: usize) -> u64
     ensures { λ r. ⌜ ((j : ℕ) → test-bit r j ≡ (test-bit m j && not (eqb j k))) ⌝ }
 {
     m & !(1 << k)
-}
-
-// The members of either.
-pub fn union(a: u64, b: u64) -> u64
-    ensures { λ r. ⌜ ((j : ℕ) → test-bit r j ≡ (test-bit a j || test-bit b j)) ⌝ }
-{
-    a | b
-}
-
-// The members of both.
-pub fn both(a: u64, b: u64) -> u64
-    ensures { λ r. ⌜ ((j : ℕ) → test-bit r j ≡ (test-bit a j && test-bit b j)) ⌝ }
-{
-    a & b
-}
-
-// The members of a that are not in b.
-pub fn minus(a: u64, b: u64) -> u64
-    ensures { λ r. ⌜ ((j : ℕ) → test-bit r j ≡ (test-bit a j && not (test-bit b j))) ⌝ }
-{
-    a & !b
-}
-
-// Whether some number is a member of both.
-pub fn meets(a: u64, b: u64) -> bool
-    ensures { λ r. ⌜ r ≡ any-below (λ (k : ℕ). test-bit a k && test-bit b k) 64 ⌝ }
-{
-    (a & b) != 0
-}
-
-// The number of members.
-pub fn count(m: u64) -> u32
-    ensures { λ r. ⌜ r ≡ length (select-below (test-bit m) 64) ⌝ }
-{
-    u64::count_ones(m)
 }
 
 // The smallest member of a map that has one.

@@ -12,7 +12,7 @@ fn absorb(row: u64, k: usize, taken: u64) -> u64
     ensures { λ r. ⌜ ((u : ℕ) → test-bit r u ≡ (test-bit row u || test-bit row k && test-bit taken u)) ⌝ }
 {
     if bitmaps::has(row, k) {
-        return bitmaps::union(row, taken);
+        return set_operations::union(row, taken);
     }
     row
 }

@@ -2,10 +2,9 @@
 ghost use mathlib.Core.Path.{_≡_};
 ghost use mathlib.Core.Bool.{not, _&&_};
 ghost use Prim.Native.Nat.{ℕ, _<_};
-ghost use lib.Dec.{eqb};
 ghost use Rattle.definitions.specs.Basics.{test-bit};
 ghost use Rattle.definitions.specs.Links.{late-into};
-ghost use Rattle.edges.specs.Words.{edge, unpack};
+ghost use Rattle.edges.specs.Words.{unpack};
 
 // The fields of a word.
 pub fn edge_from(w: u64) -> usize
@@ -58,18 +57,4 @@ pub fn usable_by(m: u64, w: u64) -> u64
         return bitmaps::remove(m, edge_to(w));
     }
     m
-}
-
-// The word of an edge, from its seven digits.
-pub fn word(from: u64, to: u64, counted: u64, back: u64, gain: u64, loss: u64, late: u64) -> u64
-    requires { ⌜ (from < 64) × (to < 64) × (counted < 2) × (back < 2) × (gain < 16777216) × (loss < 16777216) × (late < 2) ⌝ }
-    ensures { λ r. ⌜ unpack r ≡ edge from to gain loss (eqb counted 1) (eqb back 1) (eqb late 1) ⌝ }
-{
-    from
-        + to * 64
-        + counted * 4096
-        + back * 8192
-        + gain * 16384
-        + loss * 274877906944
-        + late * 4611686018427387904
 }

@@ -14,13 +14,6 @@ ghost use Rattle.edges.specs.Words.{graph, unpack};
 ghost use Rattle.theory.specs.Graphs.{Rooted, Shape};
 ghost use Rattle.feasibility.specs.Search.{Circle, Only, Passed, Pushed, Room, ground};
 
-// A place in an adjacency list.
-fn index(x: u16) -> usize
-    ensures { λ r. ⌜ r ≡ x ⌝ }
-{
-    x as usize
-}
-
 // One edge, at place k of the lists, from a cell that holds own. Where it raises the cell at its end, a mark stands there and the place is noted. The marks after it.
 fn push_word(row: &mut [u64; 64], via: &mut [u16; 64], marks: u64, w: u64, k: u16, own: u64) -> u64
     requires { ⌜ (length (now row) ≡ 64) × (length (now via) ≡ 64) × (ground ≤ own) × (own + ground ≤ 18446744073709551615) ⌝ }
@@ -52,7 +45,7 @@ fn push_edges(
     let mut m = marks;
     let mut next = lists[u];
     while next != 0 {
-        let k = index(next);
+        let k = indices::index(next);
         m = push_word(row, via, m, es[k - 1], next, own);
         next = lists[63 + k];
     }
@@ -78,13 +71,6 @@ fn visit(
     push_edges(row, via, rest, es, lists, u)
 }
 
-// A number below 64.
-fn place(x: u8) -> usize
-    ensures { λ r. ⌜ r < 64 ⌝ }
-{
-    (x % 64) as usize
-}
-
 // The steps of an order, one after another. What the order is decides only how much is left to do.
 fn sweep_order(
     row: &mut [u64; 64],
@@ -101,7 +87,7 @@ fn sweep_order(
     let mut m = marks;
     let mut k = 0;
     while k < n {
-        let u = place(order[k]);
+        let u = indices::place(order[k]);
         m = visit(row, via, m, es, lists, u);
         k += 1;
     }
@@ -125,7 +111,7 @@ fn sweep_down(
     while left != 0 {
         last = bitmaps::highest(left);
         m = visit(row, via, m, es, lists, last);
-        left = bitmaps::both(m, bitmaps::below(last));
+        left = set_operations::both(m, set_operations::below(last));
     }
     m
 }
@@ -168,7 +154,7 @@ fn far_back(es: &[u64], via: &[u16; 64], x: usize, n: usize) -> usize
     let mut v = x;
     let mut k = 0;
     while k < n {
-        let i = index(via[v]);
+        let i = indices::index(via[v]);
         if i == 0 {
             return v;
         }
@@ -191,7 +177,7 @@ fn closes_above(es: &[u64], via: &[u16; 64], x: usize, n: usize) -> bool
     let mut losses = 0;
     let mut k = 0;
     while k < n {
-        let i = index(via[v]);
+        let i = indices::index(via[v]);
         if !enters(es, i, v) {
             return false;
         }
@@ -214,7 +200,7 @@ pub fn feasible(es: &[u64], lists: &[u16], order: &[u8; 64], n: usize) -> bool
 {
     let mut row = [16777216u64; 64];
     let mut via = [0u16; 64];
-    let mut marks = bitmaps::below(n);
+    let mut marks = set_operations::below(n);
     let mut k = 0;
     while k <= n {
         marks = sweep(&mut row, &mut via, marks, es, lists, order, n);

@@ -1,7 +1,6 @@
 // Heaviest walks for every anchor at once: the columns of the anchors are numbered and begun, steps hand on until nothing is left to hand on, and the columns go back to the places of their anchors.
 use feasibility::feasible;
 use relations::transpose;
-use seeding::column_of;
 use seeding::seed;
 use sweeps::sweep;
 ghost use mathlib.Core.Path.{_≡_};
@@ -30,13 +29,6 @@ fn no_numbers() -> [u8; 64]
     [64u8; 64]
 }
 
-// A number below 64.
-fn step_of(x: u8) -> usize
-    ensures { λ r. ⌜ r < 64 ⌝ }
-{
-    (x % 64) as usize
-}
-
 // The places of the steps of an order. They decide speed alone, so nothing is promised.
 fn places(order: &[u8; 64], n: usize) -> [u8; 64]
     requires { ⌜ n ≤ 64 ⌝ }
@@ -44,7 +36,7 @@ fn places(order: &[u8; 64], n: usize) -> [u8; 64]
     let mut place = [0u8; 64];
     let mut k = 0;
     while k < n {
-        let v = step_of(order[k]);
+        let v = indices::place(order[k]);
         place[v] = k as u8;
         k += 1;
     }
@@ -66,7 +58,7 @@ fn sweep_first(
     requires { ⌜ (1 ≤ n) × (n ≤ 64) × (n ≤ length (now d)) × (width ≤ 64) × (length (now es) ≤ 2048) × Lists (now es) (now lists) × EndsBelow (now es) (length (now d)) × Within (length (now d)) (now waiting) × Square (length (now d)) (now d) ⌝ }
     ensures { λ r. ⌜ Opened (now (es .entry)) (now (waiting .entry)) (now (number .entry)) width n (now (d .entry)) (now (d .exit)) r ⌝ }
 {
-    let marks = bitmaps::below(n);
+    let marks = set_operations::below(n);
     let most = n + 16;
     sweep(
         d,
@@ -184,7 +176,7 @@ fn spread_row(d: &mut [[u32; 64]], number: &[u8; 64], map: u64, v: usize)
     let mut left = map;
     while left != 0 {
         let a = bitmaps::highest(left);
-        let k = column_of(number[a]);
+        let k = indices::place(number[a]);
         d[v][a] = weight_of(d[v][k]);
         left = bitmaps::remove(left, a);
     }

@@ -75,7 +75,7 @@ fn without_covered(d: &[[u32; 64]], sets: &[u64; 64], v: usize, b: usize, map: u
     ensures { λ r. ⌜ (1 ≤ entry (now (d .entry)) v b → Full (now (d .entry)) v map → Full (now (d .entry)) b (getD (now (sets .entry)) b 0) → (a : ℕ) → test-bit r a ≡ (test-bit map a && not (covering (now (d .entry)) (now (sets .entry)) v a b))) ⌝ }
 {
     let behind = bitmaps::remove(sets[b], b);
-    let given = bitmaps::both(map, behind);
+    let given = set_operations::both(map, behind);
     without_reached(d, v, b, map, given)
 }
 
@@ -90,7 +90,7 @@ pub fn deciding_set(d: &[[u32; 64]], sets: &[u64; 64], v: usize) -> u64
         let b = bitmaps::highest(left);
         kept = without_covered(d, sets, v, b, kept);
         let less = bitmaps::remove(left, b);
-        left = bitmaps::both(less, kept);
+        left = set_operations::both(less, kept);
     }
     kept
 }

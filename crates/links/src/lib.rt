@@ -4,6 +4,7 @@ use fields::NumberRead;
 ghost use mathlib.Core.Path.{_≡_};
 ghost use mathlib.Core.Bool.{true, false};
 ghost use Prim.Native.Nat.{_+_, _<_, _≤_};
+ghost use lib.Dec.{eqb};
 ghost use lib.ListN.{length};
 ghost use Rattle.definitions.specs.Basics.{test-bit};
 ghost use Rattle.definitions.specs.Links.{sequencing-edge, finish-edge};
@@ -38,6 +39,20 @@ fn digits_of(x: u32) -> u64
     x as u64
 }
 
+// The word of an edge, from its seven digits.
+fn word(from: u64, to: u64, counted: u64, back: u64, gain: u64, loss: u64, late: u64) -> u64
+    requires { ⌜ (from < 64) × (to < 64) × (counted < 2) × (back < 2) × (gain < 16777216) × (loss < 16777216) × (late < 2) ⌝ }
+    ensures { λ r. ⌜ unpack r ≡ edge from to gain loss (eqb counted 1) (eqb back 1) (eqb late 1) ⌝ }
+{
+    from
+        + to * 64
+        + counted * 4096
+        + back * 8192
+        + gain * 16384
+        + loss * 274877906944
+        + late * 4611686018427387904
+}
+
 // The words of an after, an at-least and an at-most link on (from, to), and of one at most from the finish; `digits` are what `from` adds.
 fn sequencing_word(digits: u32, from: u8, to: u8) -> u64
     requires { ⌜ Fit from to ⌝ }
@@ -50,14 +65,14 @@ fn minimum_word(from: u8, to: u8, least: u16) -> u64
     requires { ⌜ Fit from to ⌝ }
     ensures { λ r. ⌜ unpack r ≡ edge from to least 0 false false false ⌝ }
 {
-    edges::word(wide(from), wide(to), 0, 0, ticks_of(least), 0, 0)
+    word(wide(from), wide(to), 0, 0, ticks_of(least), 0, 0)
 }
 
 fn maximum_word(from: u8, to: u8, most: u16) -> u64
     requires { ⌜ Fit from to ⌝ }
     ensures { λ r. ⌜ unpack r ≡ edge to from 0 most false true false ⌝ }
 {
-    edges::word(wide(to), wide(from), 0, 1, 0, ticks_of(most), 0)
+    word(wide(to), wide(from), 0, 1, 0, ticks_of(most), 0)
 }
 
 fn finish_word(digits: u32, from: u8, to: u8, most: u16) -> u64
@@ -65,7 +80,7 @@ fn finish_word(digits: u32, from: u8, to: u8, most: u16) -> u64
     ensures { λ r. ⌜ ((d : Delay) → digits ≡ leaving d from → unpack r ≡ finish-edge d from to most) ⌝ }
 {
     let d = digits_of(digits);
-    edges::word(
+    word(
         wide(to),
         wide(from),
         0,

@@ -15,13 +15,6 @@ ghost use Rattle.definitions.specs.Links.{UsableFrom, members};
 ghost use Rattle.edges.specs.Words.{graph, unpack};
 ghost use Rattle.reach.specs.Pushes.{Begun, HandedAll, HomedAll, Joined, Reached, Returned, Stripped, SweptAll};
 
-// A place in an adjacency list.
-fn index(x: u16) -> usize
-    ensures { λ r. ⌜ r ≡ x ⌝ }
-{
-    x as usize
-}
-
 // Of two maps the one that an edge starts from: all where it is counted.
 fn begun(m: u64, all: u64, w: u64) -> u64
     ensures { λ r. ⌜ r ≡ cond (unpack w .counted) all m ⌝ }
@@ -35,7 +28,7 @@ fn join(rows: &mut [u64; 64], marks: u64, v: usize, h: u64) -> u64
     ensures { λ r. ⌜ Joined v h (now (rows .entry)) (now (rows .exit)) marks r ⌝ }
 {
     let old = rows[v];
-    let new = bitmaps::union(old, h);
+    let new = set_operations::union(old, h);
     rows[v] = new;
     bitmaps::insert_if(marks, v, new != old)
 }
@@ -61,10 +54,10 @@ fn push_edges(rows: &mut [u64; 64], marks: u64, es: &[u64], lists: &[u16], u: us
 {
     let all = bitmaps::insert_if(m, u, u != 0);
     let mut left = marks;
-    let mut k = index(lists[u]);
+    let mut k = indices::index(lists[u]);
     while k != 0 {
         left = push_word(rows, left, es[k - 1], m, all);
-        k = index(lists[63 + k]);
+        k = indices::index(lists[63 + k]);
     }
     left
 }
@@ -82,13 +75,6 @@ fn visit(rows: &mut [u64; 64], marks: u64, es: &[u64], lists: &[u16], u: usize) 
     push_edges(rows, rest, es, lists, u, m)
 }
 
-// A number below 64.
-fn place(x: u8) -> usize
-    ensures { λ r. ⌜ r < 64 ⌝ }
-{
-    (x % 64) as usize
-}
-
 // The steps of an order, one after another. What the order is decides only how much is left to do.
 fn sweep_order(
     rows: &mut [u64; 64],
@@ -104,7 +90,7 @@ fn sweep_order(
     let mut left = marks;
     let mut k = 0;
     while k < n {
-        let u = place(order[k]);
+        let u = indices::place(order[k]);
         left = visit(rows, left, es, lists, u);
         k += 1;
     }

@@ -6,7 +6,7 @@ use edges::edge_to;
 use edges::is_counted;
 ghost use mathlib.Core.Path.{_≡_};
 ghost use mathlib.Core.Bool.{true, false};
-ghost use Prim.Native.Nat.{ℕ, _+_, _-_, _%_, _<_, _≤_};
+ghost use Prim.Native.Nat.{ℕ, _+_, _-_, _<_, _≤_};
 ghost use lib.ListN.{length};
 ghost use Rattle.definitions.specs.Basics.{any-below, test-bit};
 ghost use Rattle.definitions.specs.Links.{members};
@@ -24,7 +24,7 @@ fn all_members(sets: &[u64; 64], n: usize) -> u64
     let mut all = 0u64;
     let mut v = 0;
     while v < n {
-        all = bitmaps::union(all, sets[v]);
+        all = set_operations::union(all, sets[v]);
         v += 1;
     }
     all
@@ -46,13 +46,6 @@ fn number_members(all: u64, number: &mut [u8; 64]) -> usize
     width as usize
 }
 
-// The column of a number.
-pub fn column_of(x: u8) -> usize
-    ensures { λ r. ⌜ (r ≡ x % 64) × (r < 64) ⌝ }
-{
-    (x % 64) as usize
-}
-
 // The walk of weight 0 at step v, in the columns of the members of a map.
 fn seed_row(d: &mut [[u32; 64]], number: &[u8; 64], map: u64, v: usize)
     requires { ⌜ (v < length (now d)) × Square (length (now d)) (now d) ⌝ }
@@ -61,7 +54,7 @@ fn seed_row(d: &mut [[u32; 64]], number: &[u8; 64], map: u64, v: usize)
     let mut left = map;
     while left != 0 {
         let a = bitmaps::lowest(left);
-        let k = column_of(number[a]);
+        let k = indices::place(number[a]);
         d[v][k] = 1073741824;
         left = bitmaps::without_lowest(left);
     }
@@ -115,7 +108,7 @@ fn seed_edge(d: &mut [[u32; 64]], number: &[u8; 64], w: u64)
         return;
     }
     let c = seeded(edge_gain(w), edge_loss(w));
-    raise(d, edge_to(w), column_of(k), c);
+    raise(d, edge_to(w), indices::place(k), c);
 }
 
 // The same for any edge. One that gains nothing begins no walk that is not there.

@@ -22,7 +22,7 @@ fn has_late(es: &[u64]) -> bool
     let mut seen = 0;
     let mut k = 0;
     while k < es.len() {
-        seen = bitmaps::union(seen, es[k]);
+        seen = set_operations::union(seen, es[k]);
         k += 1;
     }
     bitmaps::has(seen, 62)
@@ -37,7 +37,7 @@ fn waited_rows(es: &[u64], maps: &[u64; 64], n: usize) -> [u64; 64]
     let mut rows = [0u64; 64];
     let mut v = 0;
     while v < n {
-        let row = bitmaps::union(before[v], maps[v]);
+        let row = set_operations::union(before[v], maps[v]);
         rows[v] = row;
         v += 1;
     }

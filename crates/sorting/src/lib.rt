@@ -21,13 +21,6 @@ struct Front {
     marks: u64,
 }
 
-// A place in an adjacency list.
-fn index(x: u16) -> usize
-    ensures { λ r. ⌜ r ≡ x ⌝ }
-{
-    x as usize
-}
-
 // Of two maps the one that an edge starts from: all where it is counted.
 fn begun(m: u64, all: u64, w: u64) -> u64
     ensures { λ r. ⌜ r ≡ cond (unpack w .counted) all m ⌝ }
@@ -40,7 +33,7 @@ fn join(rows: &mut [u64; 64], marks: u64, v: usize, h: u64) -> u64
     requires { ⌜ (length (now rows) ≡ 64) × (v < 64) ⌝ }
     ensures { λ r. ⌜ Joined v h (now (rows .entry)) (now (rows .exit)) marks r × (test-bit r v ≡ true) ⌝ }
 {
-    let new = bitmaps::union(rows[v], h);
+    let new = set_operations::union(rows[v], h);
     rows[v] = new;
     bitmaps::insert(marks, v)
 }
@@ -95,10 +88,10 @@ fn push_edges(
 {
     let all = bitmaps::insert_if(m, u, u != 0);
     let mut after = front;
-    let mut k = index(lists[u]);
+    let mut k = indices::index(lists[u]);
     while k != 0 {
         after = push_word(rows, left, after, es[k - 1], m, all);
-        k = index(lists[63 + k]);
+        k = indices::index(lists[63 + k]);
     }
     after
 }
@@ -171,7 +164,7 @@ pub fn sort(es: &[u64], lists: &[u16], n: usize, rows: &mut [u64; 64], order: &m
     entering(es, &mut left);
     rows[0] = 1;
     let ready = unentered(&left, n);
-    let marks = bitmaps::below(n);
+    let marks = set_operations::below(n);
     let mut front = Front {
         ready: ready,
         marks: marks,

@@ -18,13 +18,6 @@ ghost use Rattle.relaxation.specs.Columns.{HandedAll, WaitsFor};
 ghost use Rattle.lifting.specs.Lifts.{Clear, Ready, lent};
 ghost use Rattle.sweeps.specs.Graphs.{SweptBy};
 
-// A place in an adjacency list.
-fn index(x: u16) -> usize
-    ensures { λ r. ⌜ r ≡ x ⌝ }
-{
-    x as usize
-}
-
 // The edges out of u hand on a row.
 fn push_edges(
     d: &mut [[u32; 64]],
@@ -41,10 +34,10 @@ fn push_edges(
     ensures { λ r. ⌜ HandedAll (λ a. UsableFrom (members (graph (now (es .entry)))) a) (now (number .entry)) u (lent (now (row .entry)) width) (now (d .entry)) (now (d .exit)) marks r ⌝ }
 {
     let mut left = marks;
-    let mut k = index(lists[u]);
+    let mut k = indices::index(lists[u]);
     while k != 0 {
         left = push_word(d, row, left, es[k - 1], top, number, width);
-        k = index(lists[63 + k]);
+        k = indices::index(lists[63 + k]);
     }
     left
 }
@@ -89,20 +82,13 @@ fn visit(
     push_waits(d, row, left, waiting[u], own)
 }
 
-// A number below 64.
-fn place_of(x: u8) -> usize
-    ensures { λ r. ⌜ r < 64 ⌝ }
-{
-    (x % 64) as usize
-}
-
 // The places of steps, put to a map of places.
 fn noted(hint: u64, fresh: u64, place: &[u8; 64]) -> u64 {
     let mut all = hint;
     let mut left = fresh;
     while left != 0 {
         let v = bitmaps::lowest(left);
-        all = bitmaps::insert(all, place_of(place[v]));
+        all = bitmaps::insert(all, indices::place(place[v]));
         left = bitmaps::without_lowest(left);
     }
     all
@@ -127,7 +113,7 @@ fn next_step(k: usize, n: usize, hint: u64, left: u64, order: &[u8; 64]) -> usiz
     if hint == 0 {
         return step_below(bitmaps::lowest(left), n);
     }
-    step_below(place_of(order[bitmaps::lowest(hint)]), n)
+    step_below(indices::place(order[bitmaps::lowest(hint)]), n)
 }
 
 // A map without its smallest member, if it has one.
@@ -168,7 +154,7 @@ pub fn sweep(
         let u = next_step(k, n, hint, left, order);
         let before = left;
         left = visit(d, &mut row, before, es, lists, waiting, u, number, width);
-        hint = noted(rest_of(hint), bitmaps::minus(left, before), place);
+        hint = noted(rest_of(hint), set_operations::minus(left, before), place);
         k -= 1;
     }
     left

@@ -38,11 +38,11 @@ fn add_source(rows: &mut [u64; 64], n: usize)
     requires { ⌜ n ≤ 64 ⌝ }
     ensures { λ r. ⌜ (length (now (rows .entry)) ≡ 64 → (v a : ℕ) → v < n → row-bit (now (rows .exit)) v a ≡ ((row-bit (now (rows .entry)) v a || eqb a 0) && ltb a n)) ⌝ }
 {
-    let all = bitmaps::below(n);
+    let all = set_operations::below(n);
     let mut v = 0;
     while v < n {
         let set = bitmaps::insert(rows[v], 0);
-        rows[v] = bitmaps::both(set, all);
+        rows[v] = set_operations::both(set, all);
         v += 1;
     }
 }

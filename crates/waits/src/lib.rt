@@ -31,8 +31,8 @@ fn hold_up(maps: &mut [u64; 64], w: u64, reach: &[u64; 64], sets: &[u64; 64])
     let j = edges::edge_from(w);
     let i = edges::edge_to(w);
     let users = edges::usable_by(reach[j], w);
-    let held = bitmaps::minus(users, sets[i]);
-    let map = bitmaps::union(maps[i], held);
+    let held = set_operations::minus(users, sets[i]);
+    let map = set_operations::union(maps[i], held);
     maps[i] = map;
 }
 
@@ -58,7 +58,7 @@ pub fn count_waits(maps: &[u64; 64], n: usize) -> u32
     let mut total = 0;
     let mut i = 0;
     while i < n {
-        total += bitmaps::count(maps[i]);
+        total += set_operations::count(maps[i]);
         i += 1;
     }
     total

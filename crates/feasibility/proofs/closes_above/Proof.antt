@@ -14,7 +14,7 @@ use Rattle.edges.proofs.edge_from.Reads as edge-from-reads
 use Rattle.edges.proofs.edge_gain.Reads as edge-gain-reads
 use Rattle.edges.proofs.edge_loss.Reads as edge-loss-reads
 use Rattle.feasibility.proofs.enters.Reads as enters-reads
-use Rattle.feasibility.proofs.index.Reads as index-reads
+use Rattle.indices.proofs.index.Reads as index-reads
 
 abbrev Inv-loop : tie.InvT-loop
 Inv-loop es via x n v₀ gains₀ losses₀ k₀ v gains losses k = Back es x n k v gains losses

@@ -6,7 +6,7 @@ use Rattle.feasibility.proofs.far_back.Tie as tie
 use Rattle.feasibility.proofs.far_back.Reads as reads
 use Rattle.feasibility.proofs.far_back.Lts as lts
 use Rattle.edges.proofs.edge_from.Reads as edge-from-reads
-use Rattle.feasibility.proofs.index.Reads as index-reads
+use Rattle.indices.proofs.index.Reads as index-reads
 
 abbrev Inv-loop : tie.InvT-loop
 Inv-loop es via x n v₀ k₀ v k = v < 64

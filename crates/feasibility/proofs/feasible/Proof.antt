@@ -7,7 +7,7 @@ use Rattle.feasibility.proofs.feasible.Statement.{statement}
 use Rattle.feasibility.proofs.feasible.Tie as tie
 use Rattle.feasibility.proofs.feasible.Reads as reads
 use Rattle.feasibility.proofs.feasible.Lts as lts
-use Rattle.bitmaps.proofs.below.Reads as below-reads
+use Rattle.set_operations.proofs.below.Reads as below-reads
 use Rattle.bitmaps.proofs.lowest.Reads as lowest-reads
 use Rattle.feasibility.proofs.closes_above.Reads as closes-above-reads
 use Rattle.feasibility.proofs.far_back.Reads as far-back-reads

@@ -8,7 +8,7 @@ use Rattle.feasibility.proofs.push_edges.Statement.{statement}
 use Rattle.feasibility.proofs.push_edges.Tie as tie
 use Rattle.feasibility.proofs.push_edges.Reads as reads
 use Rattle.feasibility.proofs.push_edges.Lts as lts
-use Rattle.feasibility.proofs.index.Reads as index-reads
+use Rattle.indices.proofs.index.Reads as index-reads
 use Rattle.feasibility.proofs.push_word.Reads as push-word-reads
 
 abbrev Inv-loop : tie.InvT-loop

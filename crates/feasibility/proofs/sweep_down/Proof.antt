@@ -8,8 +8,8 @@ use Rattle.feasibility.proofs.sweep_down.Statement.{statement}
 use Rattle.feasibility.proofs.sweep_down.Tie as tie
 use Rattle.feasibility.proofs.sweep_down.Reads as reads
 use Rattle.feasibility.proofs.sweep_down.Lts as lts
-use Rattle.bitmaps.proofs.below.Reads as below-reads
-use Rattle.bitmaps.proofs.both.Reads as both-reads
+use Rattle.set_operations.proofs.below.Reads as below-reads
+use Rattle.set_operations.proofs.both.Reads as both-reads
 use Rattle.bitmaps.proofs.highest.Reads as highest-reads
 use Rattle.feasibility.proofs.visit.Reads as visit-reads
 

@@ -11,7 +11,7 @@ use Rattle.feasibility.proofs.sweep_order.Statement.{statement}
 use Rattle.feasibility.proofs.sweep_order.Tie as tie
 use Rattle.feasibility.proofs.sweep_order.Reads as reads
 use Rattle.feasibility.proofs.sweep_order.Lts as lts
-use Rattle.feasibility.proofs.place.Reads as place-reads
+use Rattle.indices.proofs.place.Reads as place-reads
 use Rattle.feasibility.proofs.visit.Reads as visit-reads
 
 abbrev Inv-loop : tie.InvT-loop
@@ -30,7 +30,7 @@ place-requires : tie.Need-place-requires Inv-loop μ-loop
 place-requires c κs = search needs
 
 visit-requires : tie.Need-visit-requires Inv-loop μ-loop
-visit-requires c κs = let p = c .before .before .before .before .before .before .before .before .pre in let s = c .before .before .before .before .before .loop in (c .before .before .place .ensures, p .1, p .2, passed-room (s .k) 1 64 (omega (arith, p .0)) (p .3) (s .inv .1), s .inv .1 .noted)
+visit-requires c κs = let p = c .before .before .before .before .before .before .before .before .pre in let s = c .before .before .before .before .before .loop in (c .before .before .place .ensures .1, p .1, p .2, passed-room (s .k) 1 64 (omega (arith, p .0)) (p .3) (s .inv .1), s .inv .1 .noted)
 
 add-k : tie.Need-add-k Inv-loop μ-loop
 add-k c = search needs

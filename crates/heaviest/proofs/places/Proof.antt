@@ -5,7 +5,7 @@ use Rattle.heaviest.proofs.places.Statement.{statement}
 use Rattle.heaviest.proofs.places.Tie as tie
 use Rattle.heaviest.proofs.places.Reads as reads
 use Rattle.heaviest.proofs.places.Lts as lts
-use Rattle.heaviest.proofs.step_of.Reads as step-of-reads
+use Rattle.indices.proofs.place.Reads as place-reads
 
 abbrev Inv-loop : tie.InvT-loop
 Inv-loop order n place₀ k₀ place k = k ≤ n
@@ -16,11 +16,11 @@ abbrev μ-loop : tie.MeasureT-loop
 loop-holds : tie.Need-loop-holds Inv-loop μ-loop
 loop-holds c = search needs
 
-element-copy-out-step-of : tie.Need-element-copy-out-step-of Inv-loop μ-loop
-element-copy-out-step-of c = search needs
+element-copy-out-place : tie.Need-element-copy-out-place Inv-loop μ-loop
+element-copy-out-place c = search needs
 
-step-of-requires : tie.Need-step-of-requires Inv-loop μ-loop
-step-of-requires c κs = search needs
+place-requires : tie.Need-place-requires Inv-loop μ-loop
+place-requires c κs = search needs
 
 cast-place : tie.Need-cast-place Inv-loop μ-loop
 cast-place c = search needs
@@ -47,8 +47,8 @@ places-spec =
     Inv-loop
     μ-loop
     loop-holds
-    element-copy-out-step-of
-    step-of-requires
+    element-copy-out-place
+    place-requires
     cast-place
     array-write-place
     add-k

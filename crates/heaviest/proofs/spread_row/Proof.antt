@@ -12,7 +12,7 @@ use Rattle.heaviest.proofs.spread_row.Lts as lts
 use Rattle.bitmaps.proofs.highest.Reads as highest-reads
 use Rattle.bitmaps.proofs.remove.Reads as remove-reads
 use Rattle.heaviest.proofs.weight_of.Reads as weight-of-reads
-use Rattle.seeding.proofs.column_of.Reads as column-of-reads
+use Rattle.indices.proofs.place.Reads as place-reads
 
 abbrev Inv-loop : tie.InvT-loop
 Inv-loop d₀ number map v left₀ d left = Spreading number v map left d₀ d
@@ -26,11 +26,11 @@ loop-holds c = spreading-start _ _ _ _ (c .pre .1)
 highest-requires : tie.Need-highest-requires Inv-loop μ-loop
 highest-requires c κs = omega arith
 
-element-copy-out-column-of : tie.Need-element-copy-out-column-of Inv-loop μ-loop
-element-copy-out-column-of c = search needs
+element-copy-out-place : tie.Need-element-copy-out-place Inv-loop μ-loop
+element-copy-out-place c = search needs
 
-column-of-requires : tie.Need-column-of-requires Inv-loop μ-loop
-column-of-requires c κs = search needs
+place-requires : tie.Need-place-requires Inv-loop μ-loop
+place-requires c κs = search needs
 
 mul-weight-of : tie.Need-mul-weight-of Inv-loop μ-loop
 mul-weight-of c = search needs
@@ -78,11 +78,11 @@ loop-again c =
     (s .loop .left)
     (c .remove .result)
     (c .before .before .before .before .before .highest .result)
-    (c .before .before .before .column-of .result)
+    (c .before .before .before .place .result)
     (c .before .weight-of .result)
     top
     (c .remove .ensures)
-    (c .before .before .before .column-of .ensures .0)
+    (c .before .before .before .place .ensures .0)
     (start .pre .2 (c .before .before .before .before .before .highest .result) (top .below) (s .loop .inv .within (c .before .before .before .before .before .highest .result) (top .member)))
     (c .before .weight-of .ensures)
     (s .loop .inv)
@@ -105,8 +105,8 @@ spread-row-spec =
     μ-loop
     loop-holds
     highest-requires
-    element-copy-out-column-of
-    column-of-requires
+    element-copy-out-place
+    place-requires
     mul-weight-of
     mul-weight-of-2
     index-1-weight-of

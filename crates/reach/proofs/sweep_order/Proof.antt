@@ -26,7 +26,7 @@ place-requires c κs = search needs
 visit-requires : tie.Need-visit-requires Inv-loop μ-loop
 visit-requires c κs =
     let p = c .before .before .before .before .before .before .before .pre in
-    (c .before .place .ensures, p .1, p .2, c .before .before .before .before .loop .inv .long)
+    (c .before .place .ensures .1, p .1, p .2, c .before .before .before .before .loop .inv .long)
 
 add-k : tie.Need-add-k Inv-loop μ-loop
 add-k c = search needs

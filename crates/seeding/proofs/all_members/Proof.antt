@@ -10,7 +10,7 @@ use Rattle.seeding.proofs.all_members.Statement.{statement}
 use Rattle.seeding.proofs.all_members.Tie as tie
 use Rattle.seeding.proofs.all_members.Reads as reads
 use Rattle.seeding.proofs.all_members.Lts as lts
-use Rattle.bitmaps.proofs.union.Reads as union-reads
+use Rattle.set_operations.proofs.union.Reads as union-reads
 
 abbrev Inv-loop : tie.InvT-loop
 Inv-loop sets n all₀ v₀ all v = (v ≤ n) × ((a : ℕ) → test-bit all a ≡ any-below (λ w. row-bit sets w a) v)

@@ -14,7 +14,7 @@ use Rattle.edges.proofs.edge_from.Reads as edge-from-reads
 use Rattle.edges.proofs.edge_gain.Reads as edge-gain-reads
 use Rattle.edges.proofs.edge_loss.Reads as edge-loss-reads
 use Rattle.edges.proofs.edge_to.Reads as edge-to-reads
-use Rattle.seeding.proofs.column_of.Reads as column-of-reads
+use Rattle.indices.proofs.place.Reads as place-reads
 use Rattle.seeding.proofs.raise.Reads as raise-reads
 use Rattle.seeding.proofs.seeded.Reads as seeded-reads
 
@@ -44,11 +44,11 @@ seeded-requires c κs = search needs
 edge-to-requires : tie.Need-edge-to-requires
 edge-to-requires c κs = search needs
 
-column-of-requires : tie.Need-column-of-requires
-column-of-requires c κs = search needs
+place-requires : tie.Need-place-requires
+place-requires c κs = search needs
 
 raise-requires : tie.Need-raise-requires
-raise-requires c κs = let p = c .before .before .before .before .before .before .before .before .before .before .pre in (omega (arith, c .before .edge-to .ensures .0, p .0), c .column-of .ensures .1, p .1)
+raise-requires c κs = let p = c .before .before .before .before .before .before .before .before .before .before .pre in (omega (arith, c .before .edge-to .ensures .0, p .0), c .place .ensures .1, p .1)
 
 same-length : tie.Need-same-length
 same-length c = search needs
@@ -61,7 +61,7 @@ returns-3 c =
     (s .args .number .now)
     (unpack (s .args .w))
     (c .before .before .before .edge-to .result)
-    (c .before .before .column-of .result)
+    (c .before .before .place .result)
     (c .before .before .before .before .before .seeded .result)
     (s .args .d .now)
     (c .before .raise .last .0)
@@ -69,7 +69,7 @@ returns-3 c =
     (s .pre .2)
     (λ z. c .before .before .before .before .before .before .before .before .before .before .if1 .left (from .0 ∙ z))
     (omega (arith, from .0, from .1))
-    (omega (arith, c .before .before .column-of .ensures .0, ap (λ (x : ℕ). getD (s .args .number .now) x 0) (from .0), c .before .before .before .before .before .before .before .before .if2 .left))
+    (omega (arith, c .before .before .place .ensures .0, ap (λ (x : ℕ). getD (s .args .number .now) x 0) (from .0), c .before .before .before .before .before .before .before .before .if2 .left))
     (omega (arith, c .before .before .before .before .before .seeded .ensures, c .before .before .before .before .before .before .before .edge-gain .ensures .0, c .before .before .before .before .before .before .edge-loss .ensures .0))
     (c .before .raise .ensures)
 
@@ -85,7 +85,7 @@ seed-edge-spec =
     edge-loss-requires
     seeded-requires
     edge-to-requires
-    column-of-requires
+    place-requires
     raise-requires
     same-length
     returns-3)

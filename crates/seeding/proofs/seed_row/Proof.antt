@@ -16,7 +16,7 @@ use Rattle.seeding.proofs.seed_row.Reads as reads
 use Rattle.seeding.proofs.seed_row.Lts as lts
 use Rattle.bitmaps.proofs.lowest.Reads as lowest-reads
 use Rattle.bitmaps.proofs.without_lowest.Reads as without-lowest-reads
-use Rattle.seeding.proofs.column_of.Reads as column-of-reads
+use Rattle.indices.proofs.place.Reads as place-reads
 
 abbrev Inv-loop : tie.InvT-loop
 Inv-loop d₀ number map v left₀ d left = ((j : ℕ) → test-bit left j ≡ true → test-bit map j ≡ true) × Seeded number (Sown v map left) d₀ d
@@ -30,11 +30,11 @@ loop-holds c = (λ j h. h, sown-start _ _ _ _ (c .pre .1))
 lowest-requires : tie.Need-lowest-requires Inv-loop μ-loop
 lowest-requires c κs = omega arith
 
-element-copy-out-column-of : tie.Need-element-copy-out-column-of Inv-loop μ-loop
-element-copy-out-column-of c = search needs
+element-copy-out-place : tie.Need-element-copy-out-place Inv-loop μ-loop
+element-copy-out-place c = search needs
 
-column-of-requires : tie.Need-column-of-requires Inv-loop μ-loop
-column-of-requires c κs = search needs
+place-requires : tie.Need-place-requires Inv-loop μ-loop
+place-requires c κs = search needs
 
 mul-d : tie.Need-mul-d Inv-loop μ-loop
 mul-d c = search needs
@@ -61,7 +61,7 @@ loop-again c =
     let leaves = c .without-lowest .ensures _ low in
     let args = s .before .args in (
       λ j h. s .loop .inv .0 j (still-left (s .loop .left) (c .without-lowest .result) (c .before .before .before .lowest .result) leaves j h .0),
-      sown-more (args .number .now) (args .v) (args .map) (s .loop .left) (c .without-lowest .result) (c .before .before .before .lowest .result) (c .before .column-of .result) (low .below) (s .loop .inv .0 _ (low .member)) (low .member) leaves (c .before .column-of .ensures .0) (s .loop .inv .1) (stored-cell (args .v) (c .before .column-of .result) 1073741824 (s .loop .d) (square-own (s .loop .inv .1 .square)) (omega (arith, s .before .pre .0, s .loop .inv .1 .square .rows)) (c .before .column-of .ensures .1)),
+      sown-more (args .number .now) (args .v) (args .map) (s .loop .left) (c .without-lowest .result) (c .before .before .before .lowest .result) (c .before .place .result) (low .below) (s .loop .inv .0 _ (low .member)) (low .member) leaves (c .before .place .ensures .0) (s .loop .inv .1) (stored-cell (args .v) (c .before .place .result) 1073741824 (s .loop .d) (square-own (s .loop .inv .1 .square)) (omega (arith, s .before .pre .0, s .loop .inv .1 .square .rows)) (c .before .place .ensures .1)),
     )
 
 same-length : tie.Need-same-length Inv-loop μ-loop
@@ -78,8 +78,8 @@ seed-row-spec =
     μ-loop
     loop-holds
     lowest-requires
-    element-copy-out-column-of
-    column-of-requires
+    element-copy-out-place
+    place-requires
     mul-d
     mul-d-2
     index-1-d

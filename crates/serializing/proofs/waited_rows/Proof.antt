@@ -12,7 +12,7 @@ use Rattle.serializing.proofs.waited_rows.Statement.{statement}
 use Rattle.serializing.proofs.waited_rows.Tie as tie
 use Rattle.serializing.proofs.waited_rows.Reads as reads
 use Rattle.serializing.proofs.waited_rows.Lts as lts
-use Rattle.bitmaps.proofs.union.Reads as union-reads
+use Rattle.set_operations.proofs.union.Reads as union-reads
 use Rattle.precedence.proofs.predecessors.Reads as predecessors-reads
 
 -- Row w holds what comes directly before w, and what it waits for.

@@ -17,11 +17,11 @@ loop-holds c = tt
 lowest-requires : tie.Need-lowest-requires Inv-loop μ-loop
 lowest-requires c κs = omega arith
 
-element-copy-out-place-of : tie.Need-element-copy-out-place-of Inv-loop μ-loop
-element-copy-out-place-of c = search needs
+element-copy-out-place : tie.Need-element-copy-out-place Inv-loop μ-loop
+element-copy-out-place c = search needs
 
-place-of-requires : tie.Need-place-of-requires Inv-loop μ-loop
-place-of-requires c κs = search needs
+place-requires : tie.Need-place-requires Inv-loop μ-loop
+place-requires c κs = search needs
 
 insert-requires : tie.Need-insert-requires Inv-loop μ-loop
 insert-requires c κs = search needs
@@ -46,8 +46,8 @@ noted-spec =
     μ-loop
     loop-holds
     lowest-requires
-    element-copy-out-place-of
-    place-of-requires
+    element-copy-out-place
+    place-requires
     insert-requires
     without-lowest-requires
     loop-less

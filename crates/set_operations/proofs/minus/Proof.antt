@@ -1,8 +1,8 @@
 -- By the law of the difference, at 64 bits. Assumes nothing.
 use borrow.Author.Needs.{needs}
 use Rattle.laws.proofs.Maps.{test-minus}
-use Rattle.bitmaps.proofs.minus.Statement.{statement}
-use Rattle.bitmaps.proofs.minus.Tie as tie
+use Rattle.set_operations.proofs.minus.Statement.{statement}
+use Rattle.set_operations.proofs.minus.Tie as tie
 
 returns : tie.Need-returns
 returns c j = test-minus 64 (c .args .a) (c .args .b) j (search needs) (search needs)

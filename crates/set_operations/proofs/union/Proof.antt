@@ -1,7 +1,7 @@
 -- By the law of the union. Assumes nothing.
 use Rattle.laws.proofs.Maps.{test-or}
-use Rattle.bitmaps.proofs.union.Statement.{statement}
-use Rattle.bitmaps.proofs.union.Tie as tie
+use Rattle.set_operations.proofs.union.Statement.{statement}
+use Rattle.set_operations.proofs.union.Tie as tie
 
 returns : tie.Need-returns
 returns c = test-or (c .args .a) (c .args .b)

@@ -1,9 +1,9 @@
--- `edges::word` meets its contract.
+-- `links::word` meets its contract.
 use borrow.Author.Needs.{needs}
 use mathlib.Core.Path.{refl}
 use Rattle.edges.proofs.Digits.{unpack-word}
-use Rattle.edges.proofs.word.Statement.{statement}
-use Rattle.edges.proofs.word.Tie as tie
+use Rattle.links.proofs.word.Statement.{statement}
+use Rattle.links.proofs.word.Tie as tie
 
 mul-result : tie.Need-mul-result
 mul-result c = search needs

@@ -1,4 +1,4 @@
--- `bitmaps::below` meets its contract: one less than a power of two has every bit below it.
+-- `set_operations::below` meets its contract: one less than a power of two has every bit below it.
 use borrow.Author.Needs.{needs}
 use native.Mathlib.Omega.{arith}
 use mathlib.Core.Path.{_≡_, ap, _∙_}
@@ -7,8 +7,8 @@ use Prim.Native.Nat.{ℕ, _+_, _^_}
 use lib.Dec.{ltb}
 use Rattle.definitions.specs.Basics.{test-bit}
 use Rattle.laws.proofs.Maps.{below-pow, one-shl, test-rest, test-zero}
-use Rattle.bitmaps.proofs.below.Statement.{statement}
-use Rattle.bitmaps.proofs.below.Tie as tie
+use Rattle.set_operations.proofs.below.Statement.{statement}
+use Rattle.set_operations.proofs.below.Tie as tie
 
 all-bits : (n x v : ℕ) → x + 1 ≡ 2 ^ n → test-bit x v ≡ ltb v n
 all-bits n x v h = test-rest n x 0 v h ∙ ap (λ (t : Bool). ltb v n && not t) (test-zero v) ∙ and-true (ltb v n)

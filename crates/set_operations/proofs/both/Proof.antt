@@ -1,7 +1,7 @@
 -- By the law of the intersection. Assumes nothing.
 use Rattle.laws.proofs.Maps.{test-and}
-use Rattle.bitmaps.proofs.both.Statement.{statement}
-use Rattle.bitmaps.proofs.both.Tie as tie
+use Rattle.set_operations.proofs.both.Statement.{statement}
+use Rattle.set_operations.proofs.both.Tie as tie
 
 returns : tie.Need-returns
 returns c = test-and (c .args .a) (c .args .b)

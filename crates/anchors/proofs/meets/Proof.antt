@@ -3,8 +3,8 @@ use mathlib.Core.Path.{sym}
 use borrow.Author.Needs.{needs}
 use lib.Bits.{and-lt}
 use Rattle.laws.proofs.Maps.{any-shared}
-use Rattle.bitmaps.proofs.meets.Statement.{statement}
-use Rattle.bitmaps.proofs.meets.Tie as tie
+use Rattle.anchors.proofs.meets.Statement.{statement}
+use Rattle.anchors.proofs.meets.Tie as tie
 
 returns : tie.Need-returns
 returns c = sym (any-shared 64 (c .args .a) (c .args .b) (and-lt 64 (c .args .a) (c .args .b) (search needs) (search needs)))

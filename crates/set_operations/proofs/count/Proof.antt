@@ -2,8 +2,8 @@
 use mathlib.Core.Path.{sym}
 use borrow.Author.Needs.{needs}
 use Rattle.laws.proofs.Maps.{count-members}
-use Rattle.bitmaps.proofs.count.Statement.{statement}
-use Rattle.bitmaps.proofs.count.Tie as tie
+use Rattle.set_operations.proofs.count.Statement.{statement}
+use Rattle.set_operations.proofs.count.Tie as tie
 
 returns : tie.Need-returns
 returns c = sym (count-members 64 (c .args .m) (search needs))
