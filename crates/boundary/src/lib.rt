@@ -1,5 +1,6 @@
 // The library for C and Rust: the planner's and the dispatcher's functions on numbers and slices. A verdict is returned as one number: 0 or 1 where the sheet is accepted, 256 + k where it is refused by k.
 // Each function is thin over one of theirs, and its answer is that of the definitions for every input.
+use definitions::Call;
 ghost use mathlib.Core.Path.{_≡_};
 ghost use Rattle.definitions.specs.Answers.{judged, planned, starts-answer, waits-answer};
 ghost use Rattle.definitions.specs.Dispatcher as Dispatcher;
@@ -61,9 +62,15 @@ pub extern "C" fn standplan_begin(
 ) -> u32
     ensures { λ r. ⌜ Leaves (λ st. Dispatcher.begin st n unbounded (now (table .entry))) (state-in (now (words .entry)) (now (tick .entry)) (now (start .entry)) (now (finish .entry))) r (now (words .exit)) (now (tick .exit)) (now (start .exit)) (now (finish .exit)) (now (map .exit)) ⌝ }
 {
-    let at_begin = storage::state_in(words, *tick, start, finish);
-    let begun = dispatcher::begin(at_begin, n, unbounded, table);
-    storage::store(begun, words, tick, start, finish, map)
+    storage::perform(
+        Call::Begin(n, unbounded),
+        words,
+        tick,
+        start,
+        finish,
+        map,
+        table,
+    )
 }
 
 // The tick grows by one.
@@ -78,9 +85,7 @@ pub extern "C" fn standplan_tick(
 ) -> u32
     ensures { λ r. ⌜ Leaves (λ st. Dispatcher.tick st (now (table .entry))) (state-in (now (words .entry)) (now (tick .entry)) (now (start .entry)) (now (finish .entry))) r (now (words .exit)) (now (tick .exit)) (now (start .exit)) (now (finish .exit)) (now (map .exit)) ⌝ }
 {
-    let at_tick = storage::state_in(words, *tick, start, finish);
-    let ticked = dispatcher::tick(at_tick, table);
-    storage::store(ticked, words, tick, start, finish, map)
+    storage::perform(Call::Tick, words, tick, start, finish, map, table)
 }
 
 // Open step s ends at this tick.
@@ -96,7 +101,5 @@ pub extern "C" fn standplan_finish(
 ) -> u32
     ensures { λ r. ⌜ Leaves (λ st. Dispatcher.finish st s (now (table .entry))) (state-in (now (words .entry)) (now (tick .entry)) (now (start .entry)) (now (finish .entry))) r (now (words .exit)) (now (tick .exit)) (now (start .exit)) (now (finish .exit)) (now (map .exit)) ⌝ }
 {
-    let at_finish = storage::state_in(words, *tick, start, finish);
-    let ended = dispatcher::finish(at_finish, s, table);
-    storage::store(ended, words, tick, start, finish, map)
+    storage::perform(Call::Finish(s), words, tick, start, finish, map, table)
 }

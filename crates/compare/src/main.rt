@@ -53,11 +53,16 @@ fn read_entries(list: &mut [u32]) {
     }
 }
 
+// The end of a line.
+fn end_line(out: &mut [u8], at: usize) -> usize {
+    console::put_word(b"\n", out, at)
+}
+
 // Lines of a word and a verdict.
 fn put_line(word: &[u8], verdict: definitions::Verdict, out: &mut [u8], at: usize) -> usize {
     let p = console::put_word(word, out, at);
     let q = console::put_verdict(verdict, out, p);
-    console::put_newline(out, q)
+    end_line(out, q)
 }
 
 // 1 where two numbers are equal, else 0.
@@ -110,7 +115,7 @@ fn put_numbers(numbers: &[u32], out: &mut [u8], at: usize) -> usize {
     let lent = occurrences(4294967294, numbers);
     let t = console::put_word(b" lent", out, s);
     let u = console::put_number(lent, out, t);
-    console::put_newline(out, u)
+    end_line(out, u)
 }
 
 // A map of waits, where it is not empty.
@@ -121,7 +126,7 @@ fn put_map(i: usize, map: u64, out: &mut [u8], at: usize) -> usize {
     let p = console::put_word(b"map", out, at);
     let q = console::put_number(i as u64, out, p);
     let r = console::put_number(map, out, q);
-    console::put_newline(out, r)
+    end_line(out, r)
 }
 
 fn put_maps(maps: &[u64; 64], out: &mut [u8], at: usize) -> usize {
@@ -142,7 +147,7 @@ fn put_waits(s: &[u8], out: &mut [u8], at: usize) -> usize {
     let p = console::put_word(b"waits", out, at);
     let q = console::put_verdict(verdict, out, p);
     let r = console::put_number(count as u64, out, q);
-    let t = console::put_newline(out, r);
+    let t = end_line(out, r);
     put_maps(&maps, out, t)
 }
 
@@ -245,7 +250,7 @@ fn put_lists(s: &[u8], out: &mut [u8], at: usize) -> usize {
 fn put_answers(s: &[u8], out: &mut [u8], at: usize) -> usize {
     let p = console::put_word(b"sheet", out, at);
     let q = console::put_number(s.len() as u64, out, p);
-    let r = console::put_newline(out, q);
+    let r = end_line(out, q);
     let t = put_judgements(s, out, r);
     let u = put_waits(s, out, t);
     let v = put_plan(s, out, u);

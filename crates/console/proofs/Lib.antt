@@ -1,2 +1,3 @@
 pub mod Buffering
 pub mod Digits
+pub mod Verdicts

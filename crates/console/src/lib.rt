@@ -3,7 +3,6 @@
 use definitions::Verdict;
 ghost use mathlib.Core.List.{[], _∷_};
 ghost use Rattle.definitions.specs.Numbers.{verdict-of};
-ghost use Rattle.definitions.specs.Output.{newline};
 ghost use Rattle.console.specs.Buffers.{Adds, number-text, verdict-text};
 
 // One byte.
@@ -52,24 +51,14 @@ pub fn put_number(x: u64, out: &mut [u8], at: usize) -> usize
     put_word(&digits[..k], out, p)
 }
 
-// The end of a line.
-pub fn put_newline(out: &mut [u8], at: usize) -> usize
-    ensures { λ r. ⌜ Adds newline at r (now (out .entry)) (now (out .exit)) ⌝ }
-{
-    put(b'\n', out, at)
-}
-
 // A space, then a verdict: its number, or `refused` and the refusal's number.
 pub fn put_verdict(verdict: Verdict, out: &mut [u8], at: usize) -> usize
     ensures { λ r. ⌜ Adds (verdict-text (verdict-of verdict)) at r (now (out .entry)) (now (out .exit)) ⌝ }
 {
-    match verdict {
-        Verdict::WellPosed => put_number(0, out, at),
-        Verdict::Serialized => put_number(1, out, at),
-        Verdict::Refused(k) => {
-            let number = numbers::refusal_number(k);
-            let p = put_word(b" refused", out, at);
-            put_number(number as u64, out, p)
-        }
+    let code = numbers::verdict_code(verdict);
+    if code < 256 {
+        return put_number(code as u64, out, at);
     }
+    let p = put_word(b" refused", out, at);
+    put_number((code - 256) as u64, out, p)
 }

@@ -10,6 +10,8 @@ use Rattle.definitions.specs.Basics.{any-below, all-below, test-bit, bit
 use Rattle.definitions.specs.Plan.{undecided}
 use Rattle.definitions.specs.Answers.{bad-count, too-short}
 use Rattle.definitions.specs.Numbers.{status-of}
+use Rattle.definitions.specs.declared.Call.{Call}
+use Rattle.definitions.specs.declared.Call.the-variants.{Begin, Tick, Finish}
 use Rattle.definitions.specs.declared.State.{State}
 use Rattle.definitions.specs.declared.Dispatch.{Dispatch}
 
@@ -83,15 +85,10 @@ finish st s table =
     refuse-if (not-running st) 15 (refuse-if (too-short table (st .n * st .n)) 14 (refuse-if (cannot-finish st s) 17 (given (sweep (ended st s) table))))
 
 -- A call, by its arguments.
-pub data Call : Type 0 where
-  beginning : ℕ → ℕ → Call
-  ticking : Call
-  finishing : ℕ → Call
-
 unfoldable pub called : State → List ℕ → Call → Outcome Progress
-called st table (beginning n unbounded) = begin st n unbounded table
-called st table ticking = tick st table
-called st table (finishing s) = finish st s table
+called st table (Begin n unbounded) = begin st n unbounded table
+called st table Tick = tick st table
+called st table (Finish s) = finish st s table
 
 -- What a call returns: on a refusal map 0 and the state as given.
 unfoldable pub state-after : State → Outcome Progress → State

@@ -13,7 +13,9 @@ use Rattle.definitions.specs.Anchors.{in-anchor-set}
 use Rattle.definitions.specs.Waits.{WaitPair, waits-for, waits-of, wait-list, wait-count, needs-waits, serialized}
 use Rattle.definitions.specs.Plan.{first-row, offset-row, offset, start-from, start-turns, start-times, overrides, decides, plan-entry, plan-row, plan-rows, plan-table, delay-limit, delay-wrong, delays-wrong}
 use Rattle.definitions.specs.Answers.{closes-circle, unreached, infeasible, inconsistent, unserializable, judge-edges, edges-of, serialized-of, judge-records, Written, written, too-short, starts-verdict, starts-read, starts-answer, plan-verdict, plan-read, planned, bad-count}
-use Rattle.definitions.specs.Dispatcher.{entry, names, due, ready, starting, start-ticks, Progress, sweep, begun, not-running, fresh, with-source, begin, ticked, tick, cannot-finish, ended, finish, state-after, Call, beginning, ticking, finishing, called}
+use Rattle.definitions.specs.Dispatcher.{entry, names, due, ready, starting, start-ticks, Progress, sweep, begun, not-running, fresh, with-source, begin, ticked, tick, cannot-finish, ended, finish, state-after, called}
+use Rattle.definitions.specs.declared.Call.{Call}
+use Rattle.definitions.specs.declared.Call.the-variants.{Begin, Tick, Finish}
 use Rattle.definitions.specs.declared.State.{State}
 use Rattle.definitions.specs.Output.{StartLine, Listing, lines-of, start-lines, list-records, listed, digits, decimal, field, wait-text, start-text, listing-text, standplan}
 
@@ -220,6 +222,6 @@ idle = record { n = 0; unbounded = 0; tick = 0; started = 0; finished = 0; start
 unfoldable pub stand-table : List ℕ
 stand-table = planned (stand 2) true (replicate 25 0) .numbers
 
-pub stand-run : run idle stand-table (beginning 5 4 ∷ finishing 2 ∷ ticking ∷ ticking ∷ ticking ∷ finishing 2 ∷ []) ≡ given 7 ∷ given 0 ∷ given 8 ∷ given 0 ∷ given 16 ∷ refused 17 ∷ []
+pub stand-run : run idle stand-table (Begin 5 4 ∷ Finish 2 ∷ Tick ∷ Tick ∷ Tick ∷ Finish 2 ∷ []) ≡ given 7 ∷ given 0 ∷ given 8 ∷ given 0 ∷ given 16 ∷ refused 17 ∷ []
 unfolding every-definition called map-or-refusal run stand-table
 stand-run = refl

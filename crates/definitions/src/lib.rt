@@ -87,6 +87,13 @@ pub enum Status {
     Refused(Refusal),
 }
 
+// A call of the dispatcher: a run of so many operations, with the map of those that are open, begins; the tick grows; an operation finishes.
+pub enum Call {
+    Begin(usize, u64),
+    Tick,
+    Finish(usize),
+}
+
 // What a call of the dispatcher returns: the state after it and the map of the operations that it started.
 pub struct Dispatch {
     pub status: Status,

@@ -16,11 +16,9 @@ fn put_example(
     let r = console::put_verdict(verdict, out, q);
     let answer = numbers::verdict_code(verdict);
     if answer == expected {
-        let s = console::put_word(b" as expected", out, r);
-        return console::put_newline(out, s);
+        return console::put_word(b" as expected\n", out, r);
     }
-    let t = console::put_word(b" DIFFERS", out, r);
-    console::put_newline(out, t)
+    console::put_word(b" DIFFERS\n", out, r)
 }
 
 // ---- sheets

@@ -2,8 +2,8 @@
 use mathlib.Core.Path.{_≡_}
 use mathlib.Core.List.{List, [], _++_}
 use Prim.Native.Nat.{ℕ, zero, suc, _+_}
-use lib.ListN.{length, take, drop}
-use Rattle.definitions.specs.Output.{field, newline, wait-text, start-text}
+use lib.ListN.{length, getD, take, drop}
+use Rattle.definitions.specs.Output.{field, newline}
 
 -- A list with a text written over it from position at on; all else stays.
 unfoldable pub overlay : {A : Type 0} → List A → ℕ → List A → List A
@@ -19,13 +19,13 @@ unfoldable pub texts : (ℕ → List ℕ) → ℕ → List ℕ
 texts f zero = []
 texts f (suc n) = texts f n ++ f n
 
--- A line of a word and a number.
-unfoldable pub heading : List ℕ → ℕ → List ℕ
-heading word x = word ++ field x ++ newline
+-- The field of number i, and the fields of all numbers, one after the other.
+abbrev pub field-at : List ℕ → ℕ → List ℕ
+field-at numbers i = field (getD numbers i 0)
 
--- A wait line and a start line.
-abbrev pub wait-line : ℕ → ℕ → List ℕ
-wait-line a i = wait-text (record { anchor = a; target = i })
+abbrev pub fields : List ℕ → List ℕ
+fields numbers = texts (field-at numbers) (length numbers)
 
-abbrev pub start-line : ℕ → ℕ → ℕ → List ℕ
-start-line v a ticks = start-text (record { step = v; decider = a; ticks = ticks })
+-- A line of a word and numbers.
+unfoldable pub line : List ℕ → List ℕ → List ℕ
+line word numbers = word ++ fields numbers ++ newline

@@ -3,7 +3,7 @@ ghost use mathlib.Core.List.{[], _∷_};
 ghost use Prim.Native.Nat.{_+_, _<_, _≤_};
 ghost use lib.ListN.{length};
 ghost use Rattle.definitions.specs.Output.{decimal, field, newline};
-ghost use Rattle.lines.specs.Texts.{Put, heading, wait-line, start-line};
+ghost use Rattle.lines.specs.Texts.{Put, fields, line};
 
 // One byte.
 fn put_byte(b: u8, out: &mut [u8], at: usize) -> usize
@@ -65,35 +65,26 @@ fn put_newline(out: &mut [u8], at: usize) -> usize
     put_byte(10, out, at)
 }
 
-// A line of a word and a number.
-pub fn put_heading(word: &[u8], x: u32, out: &mut [u8], at: usize) -> usize
-    requires { ⌜ at + length (heading (now word) x) ≤ length (now out) ⌝ }
-    ensures { λ r. ⌜ Put (heading (now (word .entry)) x) at r (now (out .entry)) (now (out .exit)) ⌝ }
+// The fields of numbers, one after the other.
+fn put_fields(numbers: &[u32], out: &mut [u8], at: usize) -> usize
+    requires { ⌜ at + length (fields (now numbers)) ≤ length (now out) ⌝ }
+    ensures { λ r. ⌜ Put (fields (now (numbers .entry))) at r (now (out .entry)) (now (out .exit)) ⌝ }
+{
+    let mut p = at;
+    let mut i = 0;
+    while i < numbers.len() {
+        p = put_field(numbers[i], out, p);
+        i += 1;
+    }
+    p
+}
+
+// A line of a word and numbers.
+pub fn put_line(word: &[u8], numbers: &[u32], out: &mut [u8], at: usize) -> usize
+    requires { ⌜ at + length (line (now word) (now numbers)) ≤ length (now out) ⌝ }
+    ensures { λ r. ⌜ Put (line (now (word .entry)) (now (numbers .entry))) at r (now (out .entry)) (now (out .exit)) ⌝ }
 {
     let p = put_word(word, out, at);
-    let q = put_field(x, out, p);
+    let q = put_fields(numbers, out, p);
     put_newline(out, q)
-}
-
-// A wait line: i waits for a.
-pub fn put_wait(a: u32, i: u32, out: &mut [u8], at: usize) -> usize
-    requires { ⌜ at + length (wait-line a i) ≤ length (now out) ⌝ }
-    ensures { λ r. ⌜ Put (wait-line a i) at r (now (out .entry)) (now (out .exit)) ⌝ }
-{
-    let p = put_word(b"wait", out, at);
-    let q = put_field(a, out, p);
-    let s = put_field(i, out, q);
-    put_newline(out, s)
-}
-
-// A start line: step v, deciding step a, and the offset.
-pub fn put_start(v: u32, a: u32, ticks: u32, out: &mut [u8], at: usize) -> usize
-    requires { ⌜ at + length (start-line v a ticks) ≤ length (now out) ⌝ }
-    ensures { λ r. ⌜ Put (start-line v a ticks) at r (now (out .entry)) (now (out .exit)) ⌝ }
-{
-    let p = put_word(b"start", out, at);
-    let q = put_field(v, out, p);
-    let s = put_field(a, out, q);
-    let t = put_field(ticks, out, s);
-    put_newline(out, t)
 }

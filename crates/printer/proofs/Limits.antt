@@ -9,8 +9,8 @@ use lib.ListN.{length, getD, length-append}
 use Rattle.definitions.specs.Basics.{test-bit}
 use Rattle.definitions.specs.Plan.{undecided}
 use Rattle.definitions.specs.Output.{field, newline, word-verdict, word-waits, word-wait, word-start, wait-text, start-text}
-use Rattle.lines.specs.Texts.{texts, heading, wait-line, start-line}
-use Rattle.printer.specs.Texts.{wait-cell, maps-row, maps-text, cell-at, start-cell, table-row, table-text, plan-text, plan-room}
+use Rattle.lines.specs.Texts.{texts}
+use Rattle.printer.specs.Texts.{heading, wait-line, start-line, wait-cell, maps-row, maps-text, cell-at, start-cell, table-row, table-text, plan-text, plan-room}
 use Rattle.lines.proofs.Digits.{field-length, field-short}
 
 -- n texts of at most m bytes.

@@ -20,8 +20,8 @@ use Rattle.definitions.specs.Output.{lines-of, start-lines, Listing, list-recor
 use Rattle.laws.proofs.Bools.{bool-cases, and-split, cond-true, cond-false}
 use Rattle.theory.proofs.PlanTables.{plan-table-length, plan-table-at}
 use Rattle.theory.proofs.WaitLists.{wait-map-bit, wait-maps-at}
-use Rattle.lines.specs.Texts.{texts, heading, wait-line, start-line}
-use Rattle.printer.specs.Texts.{wait-cell, maps-text, cell-at, start-cell, table-text, plan-text, refusal-text}
+use Rattle.lines.specs.Texts.{texts}
+use Rattle.printer.specs.Texts.{heading, wait-line, start-line, wait-cell, maps-text, cell-at, start-cell, table-text, plan-text, refusal-text}
 use Rattle.printer.proofs.Cells.{cell-below}
 use Rattle.printer.proofs.FlatMaps.{flatMap-append, flatMap-map, flatMap-flatMap}
 

@@ -7,13 +7,24 @@ use lib.Dec.{eqb}
 use lib.ListN.{length, getD, drop}
 use Rattle.definitions.specs.Basics.{test-bit}
 use Rattle.definitions.specs.Plan.{undecided}
-use Rattle.definitions.specs.Output.{word-verdict, word-waits, word-refused}
-use Rattle.lines.specs.Texts.{texts, heading, wait-line, start-line}
+use Rattle.definitions.specs.Output.{field, newline, word-verdict, word-waits, word-refused, wait-text, start-text}
+use Rattle.lines.specs.Texts.{texts}
 
 -- The promise of a function that writes from the front: what it returns is the text's length, and what lies past the text stays.
 pub record Printed (text : List ℕ) (size : ℕ) (old new : List ℕ) : Type 0 where
   pub long : size ≡ length text
   pub bytes : new ≡ text ++ drop (length text) old
+
+-- A line of a word and a number.
+unfoldable pub heading : List ℕ → ℕ → List ℕ
+heading word x = word ++ field x ++ newline
+
+-- A wait line and a start line.
+abbrev pub wait-line : ℕ → ℕ → List ℕ
+wait-line a i = wait-text (record { anchor = a; target = i })
+
+abbrev pub start-line : ℕ → ℕ → ℕ → List ℕ
+start-line v a ticks = start-text (record { step = v; decider = a; ticks = ticks })
 
 -- The wait lines of the maps: bit a of map i stands where i waits for a. By a, then by i.
 unfoldable pub wait-cell : List ℕ → ℕ → ℕ → List ℕ

@@ -2,7 +2,16 @@
 ghost use Prim.Native.Nat.{_+_, _*_, _<_, _≤_};
 ghost use lib.ListN.{length};
 ghost use Rattle.lines.specs.Texts.{Put};
-ghost use Rattle.printer.specs.Texts.{Printed, wait-cell, maps-row, maps-text, start-cell, table-row, table-text, plan-text, refusal-text, plan-room};
+ghost use Rattle.printer.specs.Texts.{Printed, heading, wait-cell, maps-row, maps-text, start-cell, table-row, table-text, plan-text, refusal-text, plan-room};
+
+// A line of a word and one number.
+fn put_heading(word: &[u8], x: u32, out: &mut [u8], at: usize) -> usize
+    requires { ⌜ at + length (heading (now word) x) ≤ length (now out) ⌝ }
+    ensures { λ r. ⌜ Put (heading (now (word .entry)) x) at r (now (out .entry)) (now (out .exit)) ⌝ }
+{
+    let number = [x];
+    lines::put_line(word, &number, out, at)
+}
 
 // The wait line of a and i, where bit a of map i stands.
 fn put_wait_at(maps: &[u64; 64], a: usize, i: usize, out: &mut [u8], at: usize) -> usize
@@ -10,7 +19,8 @@ fn put_wait_at(maps: &[u64; 64], a: usize, i: usize, out: &mut [u8], at: usize) 
     ensures { λ r. ⌜ Put (wait-cell (now (maps .entry)) a i) at r (now (out .entry)) (now (out .exit)) ⌝ }
 {
     if bitmaps::has(maps[i], a) {
-        return lines::put_wait(a as u32, i as u32, out, at);
+        let pair = [a as u32, i as u32];
+        return lines::put_line(b"wait", &pair, out, at);
     }
     at
 }
@@ -52,7 +62,8 @@ fn put_start_at(table: &[u32], n: usize, v: usize, a: usize, out: &mut [u8], at:
     if ticks == 4294967295 {
         return at;
     }
-    lines::put_start(v as u32, a as u32, ticks, out, at)
+    let numbers = [v as u32, a as u32, ticks];
+    lines::put_line(b"start", &numbers, out, at)
 }
 
 // The start lines of v.
@@ -95,8 +106,8 @@ pub fn print_plan(
     requires { ⌜ (n ≤ 64) × (n * n ≤ length (now table)) × (plan-room ≤ length (now out)) ⌝ }
     ensures { λ r. ⌜ Printed (plan-text verdict count (now (maps .entry)) (now (table .entry)) n) r (now (out .entry)) (now (out .exit)) ⌝ }
 {
-    let p = lines::put_heading(b"verdict", verdict, out, 0);
-    let q = lines::put_heading(b"waits", count, out, p);
+    let p = put_heading(b"verdict", verdict, out, 0);
+    let q = put_heading(b"waits", count, out, p);
     let s = put_waits(maps, n, out, q);
     put_starts(table, n, out, s)
 }
@@ -106,5 +117,5 @@ pub fn print_refusal(number: u32, out: &mut [u8]) -> usize
     requires { ⌜ 19 ≤ length (now out) ⌝ }
     ensures { λ r. ⌜ Printed (refusal-text number) r (now (out .entry)) (now (out .exit)) ⌝ }
 {
-    lines::put_heading(b"refused", number, out, 0)
+    put_heading(b"refused", number, out, 0)
 }

@@ -13,7 +13,8 @@ use Rattle.definitions.specs.Basics.{test-bit, Outcome, given, refused}
 use Rattle.definitions.specs.Bytes.{Records}
 use Rattle.definitions.specs.Links.{delay-at}
 use Rattle.definitions.specs.Answers.{count-of}
-use Rattle.definitions.specs.Dispatcher.{Progress, begun, fresh, with-source, begin, ticked, cannot-finish, ended, Call, called, state-after}
+use Rattle.definitions.specs.Dispatcher.{Progress, begun, fresh, with-source, begin, ticked, cannot-finish, ended, called, state-after}
+use Rattle.definitions.specs.declared.Call.{Call}
 use Rattle.definitions.specs.declared.State.{State}
 use Rattle.definitions.specs.declared.Delay.the-variants.{Open}
 use Rattle.laws.proofs.Bools.{bool-cases, both-ways, not-passing, same-or-not}

@@ -10,7 +10,9 @@ use lib.Seq.{getD-set-same, getD-set-other}
 use borrow.Author.Tests.{eqb-true, eqb-false, eq-eqb}
 use Rattle.definitions.specs.Basics.{test-bit, given}
 use Rattle.definitions.specs.Answers.{too-short, bad-count}
-use Rattle.definitions.specs.Dispatcher.{Progress, sweep, begun, not-running, fresh, with-source, begin, ticked, tick, cannot-finish, ended, finish, Call, beginning, ticking, finishing, called}
+use Rattle.definitions.specs.Dispatcher.{Progress, sweep, begun, not-running, fresh, with-source, begin, ticked, tick, cannot-finish, ended, finish, called}
+use Rattle.definitions.specs.declared.Call.{Call}
+use Rattle.definitions.specs.declared.Call.the-variants.{Begin, Tick, Finish}
 use Rattle.definitions.specs.declared.State.{State}
 use Rattle.laws.proofs.Bools.{or-split, or-left, or-right}
 use Rattle.laws.proofs.Maps.{test-insert}
@@ -45,9 +47,9 @@ module _ (st : State) (x : ℕ) where
 
 -- What a call gives that is not refused: the sweep of the changed state. The tests of its refusals fail.
 pub data Given (st : State) (table : List ℕ) (c : Call) (g : Progress) : Type 0 where
-  begins-anew : (n unbounded : ℕ) → c ≡ beginning n unbounded → begun st ≡ false → g ≡ with-source (sweep (fresh n unbounded) table) → Given st table c g
-  ticks-on : c ≡ ticking → st .tick ≢ 4294967295 → g ≡ sweep (ticked st) table → Given st table c g
-  ends : (x : ℕ) → c ≡ finishing x → cannot-finish st x ≡ false → g ≡ sweep (ended st x) table → Given st table c g
+  begins-anew : (n unbounded : ℕ) → c ≡ Begin n unbounded → begun st ≡ false → g ≡ with-source (sweep (fresh n unbounded) table) → Given st table c g
+  ticks-on : c ≡ Tick → st .tick ≢ 4294967295 → g ≡ sweep (ticked st) table → Given st table c g
+  ends : (x : ℕ) → c ≡ Finish x → cannot-finish st x ≡ false → g ≡ sweep (ended st x) table → Given st table c g
 
 pub begin-gives : (st : State) (n unbounded : ℕ) (table : List ℕ) (g : Progress) → begin st n unbounded table ≡ given g → g ≡ with-source (sweep (fresh n unbounded) table)
 unfolding begin
@@ -55,12 +57,12 @@ begin-gives st n unbounded table g h = three-pass (begun st) (bad-count n) (too-
 
 pub call-gives : (st : State) (table : List ℕ) (c : Call) (g : Progress) → called st table c ≡ given g → Given st table c g
 unfolding called begin tick finish
-call-gives st table (beginning n unbounded) g h =
+call-gives st table (Begin n unbounded) g h =
     let r = three-pass (begun st) (bad-count n) (too-short table (n * n)) 16 2 14 (with-source (sweep (fresh n unbounded) table)) g h in
     begins-anew n unbounded refl (r .0) (r .2)
-call-gives st table ticking g h =
+call-gives st table Tick g h =
     let r = three-pass (not-running st) (too-short table (st .n * st .n)) (eqb (st .tick) 4294967295) 15 14 18 (sweep (ticked st) table) g h in
     ticks-on refl (eqb-false (st .tick) 4294967295 (r .1)) (r .2)
-call-gives st table (finishing x) g h =
+call-gives st table (Finish x) g h =
     let r = three-pass (not-running st) (too-short table (st .n * st .n)) (cannot-finish st x) 15 14 17 (sweep (ended st x) table) g h in
     ends x refl (r .1) (r .2)

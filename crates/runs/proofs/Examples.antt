@@ -13,7 +13,9 @@ use Rattle.definitions.specs.Bytes.{Records, read}
 use Rattle.definitions.specs.Links.{delay-at}
 use Rattle.definitions.specs.Plan.{plan-table}
 use Rattle.definitions.specs.Answers.{count-of, serialized-of, judged}
-use Rattle.definitions.specs.Dispatcher.{Progress, begin, Call, beginning, ticking, finishing, called, state-after}
+use Rattle.definitions.specs.Dispatcher.{Progress, begin, called, state-after}
+use Rattle.definitions.specs.declared.Call.{Call}
+use Rattle.definitions.specs.declared.Call.the-variants.{Begin, Tick, Finish}
 use Rattle.definitions.specs.Worked.{every-definition, stand, two-hands, exposure, hand-over, held-back, idle}
 use Rattle.definitions.specs.declared.State.{State}
 use Rattle.definitions.specs.declared.Delay.{Delay}
@@ -59,7 +61,7 @@ record Computed (bytes : List ℕ) (verdict n unbounded : ℕ) : Type 0 where
   accepts : judged bytes true ≡ given verdict
   opens : all-below (says-open bytes unbounded) (count-of (records-of bytes)) ≡ true
   begin-given : begin idle (count-of (records-of bytes)) unbounded (table-of bytes n) ≡ given (begun-of bytes n unbounded)
-  begin-called : state-after idle (called idle (table-of bytes n) (beginning n unbounded)) ≡ begun-of bytes n unbounded .state
+  begin-called : state-after idle (called idle (table-of bytes n) (Begin n unbounded)) ≡ begun-of bytes n unbounded .state
   table : take (count-of (records-of bytes) * count-of (records-of bytes)) (table-of bytes n) ≡ plan-table (count-of (records-of bytes)) (serialized-of (records-of bytes))
 
 -- Calls that are all lent the sheet's table go on a run. Induction on the calls.
@@ -88,7 +90,7 @@ module _ {bytes : List ℕ} {verdict n unbounded : ℕ} (computed : Computed byt
               (λ t. r .0 (sym e ∙ t), λ o. e ∙ r .1 o)
 
   run : (cs : List Call) → Run (records-of bytes) (after-begin bytes n unbounded cs)
-  run = calls-go-on (table-of bytes n) lent (begins {st = state-after idle (called idle (table-of bytes n) (beginning n unbounded))} idle unbounded (table-of bytes n) (begun-of bytes n unbounded) open-map lent (computed .begin-given) (computed .begin-called))
+  run = calls-go-on (table-of bytes n) lent (begins {st = state-after idle (called idle (table-of bytes n) (Begin n unbounded))} idle unbounded (table-of bytes n) (begun-of bytes n unbounded) open-map lent (computed .begin-given) (computed .begin-called))
 
   worked-run : (cs : List Call) (starts : List ℕ) → all-below (test-bit (after-begin bytes n unbounded cs .started)) n ≡ true → take n (after-begin bytes n unbounded cs .start) ≡ starts → WorkedRun bytes verdict n unbounded cs starts
   worked-run cs starts started ticks = record { records = records-of bytes; accepted = accepted; lent = lent; run = run cs; all-started = started; ticks = ticks }
@@ -116,10 +118,10 @@ back-computed = record { small = refl; reads = refl; accepts = refl; opens = ref
 pub examples : RunsMet
 unfolding every-definition called
 examples = record {
-  stand-at-once = worked-run stand-computed (finishing 2 ∷ ticking ∷ ticking ∷ ticking ∷ finishing 2 ∷ []) (0 ∷ 0 ∷ 0 ∷ 1 ∷ 3 ∷ []) refl refl;
-  stand-hand-ten = worked-run stand-computed (ticking ∷ ticking ∷ ticking ∷ ticking ∷ ticking ∷ ticking ∷ ticking ∷ ticking ∷ ticking ∷ ticking ∷ finishing 2 ∷ ticking ∷ ticking ∷ []) (0 ∷ 0 ∷ 0 ∷ 10 ∷ 12 ∷ []) refl refl;
-  two-hands-wait = worked-run hands-computed (finishing 1 ∷ ticking ∷ ticking ∷ ticking ∷ finishing 2 ∷ []) (0 ∷ 0 ∷ 0 ∷ 3 ∷ 3 ∷ []) refl refl;
-  exposure-in-time = worked-run exposure-computed (ticking ∷ ticking ∷ ticking ∷ finishing 1 ∷ []) (0 ∷ 0 ∷ 3 ∷ []) refl refl;
-  hand-over-waits = worked-run over-computed (ticking ∷ ticking ∷ finishing 2 ∷ ticking ∷ ticking ∷ ticking ∷ finishing 1 ∷ []) (0 ∷ 2 ∷ 0 ∷ 5 ∷ []) refl refl;
-  held-back-in-time = worked-run back-computed (ticking ∷ ticking ∷ ticking ∷ ticking ∷ ticking ∷ ticking ∷ ticking ∷ finishing 1 ∷ ticking ∷ ticking ∷ ticking ∷ []) (0 ∷ 6 ∷ 10 ∷ []) refl refl;
+  stand-at-once = worked-run stand-computed (Finish 2 ∷ Tick ∷ Tick ∷ Tick ∷ Finish 2 ∷ []) (0 ∷ 0 ∷ 0 ∷ 1 ∷ 3 ∷ []) refl refl;
+  stand-hand-ten = worked-run stand-computed (Tick ∷ Tick ∷ Tick ∷ Tick ∷ Tick ∷ Tick ∷ Tick ∷ Tick ∷ Tick ∷ Tick ∷ Finish 2 ∷ Tick ∷ Tick ∷ []) (0 ∷ 0 ∷ 0 ∷ 10 ∷ 12 ∷ []) refl refl;
+  two-hands-wait = worked-run hands-computed (Finish 1 ∷ Tick ∷ Tick ∷ Tick ∷ Finish 2 ∷ []) (0 ∷ 0 ∷ 0 ∷ 3 ∷ 3 ∷ []) refl refl;
+  exposure-in-time = worked-run exposure-computed (Tick ∷ Tick ∷ Tick ∷ Finish 1 ∷ []) (0 ∷ 0 ∷ 3 ∷ []) refl refl;
+  hand-over-waits = worked-run over-computed (Tick ∷ Tick ∷ Finish 2 ∷ Tick ∷ Tick ∷ Tick ∷ Finish 1 ∷ []) (0 ∷ 2 ∷ 0 ∷ 5 ∷ []) refl refl;
+  held-back-in-time = worked-run back-computed (Tick ∷ Tick ∷ Tick ∷ Tick ∷ Tick ∷ Tick ∷ Tick ∷ Finish 1 ∷ Tick ∷ Tick ∷ Tick ∷ []) (0 ∷ 6 ∷ 10 ∷ []) refl refl;
 }

@@ -8,7 +8,9 @@ use native.Mathlib.Omega.{arith}
 use lib.ListN.{length, getD}
 use Rattle.definitions.specs.Basics.{test-bit, Outcome, given, refused}
 use Rattle.definitions.specs.Bytes.{Records}
-use Rattle.definitions.specs.Dispatcher.{Progress, sweep, begun, fresh, with-source, ticked, cannot-finish, ended, Call, ticking, finishing, called, state-after, map-after}
+use Rattle.definitions.specs.Dispatcher.{Progress, sweep, begun, fresh, with-source, ticked, cannot-finish, ended, called, state-after, map-after}
+use Rattle.definitions.specs.declared.Call.{Call}
+use Rattle.definitions.specs.declared.Call.the-variants.{Tick, Finish}
 use Rattle.definitions.specs.declared.State.{State}
 use Rattle.laws.proofs.Bools.{both-ways}
 use Rattle.laws.proofs.Maps.{test-zero}
@@ -49,7 +51,7 @@ module _ (st next : State) (table : List ℕ) (c : Call) (rule : SweepFor next t
   already : (v : ℕ) → Started st v → Started next v
   already v h = ap (λ (m : ℕ). test-bit m v) same-started ∙ h
 
-  swept-history : ((v : ℕ) → test-bit (st .finished) v ≡ false → Finished next v → (c ≡ finishing v) × (finish-tick next v ≡ next .tick)) → ((v : ℕ) → Finished st v → Finished next v × (finish-tick next v ≡ finish-tick st v)) → (next .tick ≡ st .tick) ⊎ ((c ≡ ticking) × (next .tick ≡ st .tick + 1)) → HistoryFor st c (sweep next table .map) (sweep next table .state)
+  swept-history : ((v : ℕ) → test-bit (st .finished) v ≡ false → Finished next v → (c ≡ Finish v) × (finish-tick next v ≡ next .tick)) → ((v : ℕ) → Finished st v → Finished next v × (finish-tick next v ≡ finish-tick st v)) → (next .tick ≡ st .tick) ⊎ ((c ≡ Tick) × (next .tick ≡ st .tick + 1)) → HistoryFor st c (sweep next table .map) (sweep next table .state)
   unfolding sweep
   swept-history now kept clock = record {
     named = λ v. (λ h. let S = rule .map v .0 h in (ap (λ (m : ℕ). test-bit m v) (sym same-started) ∙ S .not-yet, rule .started v .1 (inr S)), λ r. rule .map v .1 (not-yet v (r .0) (r .1)));
@@ -67,20 +69,20 @@ module _ {s : List ℕ} {allow : Bool} {q : Records} {w : ℕ} (accepted : Accep
   sized : st .n ≤ length (st .start)
   sized = omega (arith, invariant .timely .starts-size, facts .count, few-steps accepted)
 
-  ticked-history : (table : List ℕ) → HistoryFor st ticking (sweep (ticked st) table .map) (sweep (ticked st) table .state)
+  ticked-history : (table : List ℕ) → HistoryFor st Tick (sweep (ticked st) table .map) (sweep (ticked st) table .state)
   unfolding ticked
-  ticked-history table = swept-history st (ticked st) table ticking (sweep-for (ticked st) table sized) refl refl (λ v f t. absurd (both-ways t f)) (λ v h. (h, refl)) (inr (refl, refl))
+  ticked-history table = swept-history st (ticked st) table Tick (sweep-for (ticked st) table sized) refl refl (λ v f t. absurd (both-ways t f)) (λ v h. (h, refl)) (inr (refl, refl))
 
-  ended-history : (x : ℕ) → cannot-finish st x ≡ false → (table : List ℕ) → HistoryFor st (finishing x) (sweep (ended st x) table .map) (sweep (ended st x) table .state)
+  ended-history : (x : ℕ) → cannot-finish st x ≡ false → (table : List ℕ) → HistoryFor st (Finish x) (sweep (ended st x) table .map) (sweep (ended st x) table .state)
   unfolding ended
-  ended-history x can table = swept-history st (ended st x) table (finishing x) (sweep-for (ended st x) table sized) refl refl (λ v f t. now v f (ended-finished st x v t)) (λ v h. (ended-still st x v h, ended-other-tick st x v (other v h))) (inl refl)
+  ended-history x can table = swept-history st (ended st x) table (Finish x) (sweep-for (ended st x) table sized) refl refl (λ v f t. now v f (ended-finished st x v t)) (λ v h. (ended-still st x v h, ended-other-tick st x v (other v h))) (inl refl)
     where
       other : (v : ℕ) → Finished st v → v ≢ x
       other v h e = both-ways (subst (Finished st) e h) (can-finish accepted invariant x can .running)
 
-      now : (v : ℕ) → test-bit (st .finished) v ≡ false → Finished st v ⊎ (v ≡ x) → (finishing x ≡ finishing v) × (finish-tick (ended st x) v ≡ st .tick)
+      now : (v : ℕ) → test-bit (st .finished) v ≡ false → Finished st v ⊎ (v ≡ x) → (Finish x ≡ Finish v) × (finish-tick (ended st x) v ≡ st .tick)
       now v f (inl t) = absurd (both-ways t f)
-      now v f (inr e) = (ap finishing (sym e), ap (finish-tick (ended st x)) e ∙ ended-own-tick st x (omega (arith, can-finish accepted invariant x can .exists, invariant .timely .finishes-size, few-steps accepted)))
+      now v f (inr e) = (ap Finish (sym e), ap (finish-tick (ended st x)) e ∙ ended-own-tick st x (omega (arith, can-finish accepted invariant x can .exists, invariant .timely .finishes-size, few-steps accepted)))
 
   given-history : {c : Call} {table : List ℕ} {g : Progress} → Given st table c g → HistoryFor st c (g .map) (g .state)
   given-history (begins-anew n unbounded e f h) = absurd (both-ways (facts .source .0) (unfold begun in f))

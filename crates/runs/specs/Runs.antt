@@ -14,7 +14,9 @@ use Rattle.definitions.specs.Links.{Constraint, sequencing, minimum, maximum, f
 use Rattle.definitions.specs.Waits.{WaitPair}
 use Rattle.definitions.specs.Plan.{plan-table, undecided}
 use Rattle.definitions.specs.Answers.{count-of, serialized-of, planned}
-use Rattle.definitions.specs.Dispatcher.{entry, Progress, sweep, begin, ticked, tick, ended, finish, Call, beginning, ticking, finishing, called, state-after, map-after}
+use Rattle.definitions.specs.Dispatcher.{entry, Progress, sweep, begin, ticked, tick, ended, finish, called, state-after, map-after}
+use Rattle.definitions.specs.declared.Call.{Call}
+use Rattle.definitions.specs.declared.Call.the-variants.{Begin, Tick, Finish}
 use Rattle.definitions.specs.Worked.{stand, two-hands, exposure, hand-over, held-back, idle}
 use Rattle.definitions.specs.declared.State.{State}
 use Rattle.definitions.specs.declared.Delay.{Delay}
@@ -139,9 +141,9 @@ pub record HistoryFor (st : State) (c : Call) (map : ℕ) (after : State) : Type
   pub named : (v : ℕ) → (test-bit map v ≡ true) ↔ ((test-bit (st .started) v ≡ false) × Started after v)
   pub starts-now : (v : ℕ) → test-bit (st .started) v ≡ false → Started after v → start-tick after v ≡ after .tick
   pub starts-kept : (v : ℕ) → Started st v → Started after v × (start-tick after v ≡ start-tick st v)
-  pub finishes-now : (v : ℕ) → test-bit (st .finished) v ≡ false → Finished after v → (c ≡ finishing v) × (finish-tick after v ≡ after .tick)
+  pub finishes-now : (v : ℕ) → test-bit (st .finished) v ≡ false → Finished after v → (c ≡ Finish v) × (finish-tick after v ≡ after .tick)
   pub finishes-kept : (v : ℕ) → Finished st v → Finished after v × (finish-tick after v ≡ finish-tick st v)
-  pub clock : (after .tick ≡ st .tick) ⊎ ((c ≡ ticking) × (after .tick ≡ st .tick + 1))
+  pub clock : (after .tick ≡ st .tick) ⊎ ((c ≡ Tick) × (after .tick ≡ st .tick + 1))
 
 abbrev pub HistoryKept : Type 0
 HistoryKept =
@@ -217,7 +219,7 @@ table-of bytes n = planned bytes true (replicate (n * n) 0) .numbers
 
 -- The sheet is accepted with the verdict; a run of it, begun with n and the map on a state that has not begun and lent its table at each of the calls, starts all n steps, at the ticks given.
 abbrev pub after-begin : List ℕ → ℕ → ℕ → List Call → State
-after-begin bytes n unbounded calls = after-calls idle (table-of bytes n) (beginning n unbounded ∷ calls)
+after-begin bytes n unbounded calls = after-calls idle (table-of bytes n) (Begin n unbounded ∷ calls)
 
 pub record WorkedRun (bytes : List ℕ) (verdict n unbounded : ℕ) (calls : List Call) (starts : List ℕ) : Type 0 where
   pub records : Records
@@ -231,9 +233,9 @@ pub record WorkedRun (bytes : List ℕ) (verdict n unbounded : ℕ) (calls : Lis
 -- waits for hand 2. Of request L11: the exposure starts when the hand is done, 3 ticks in; of the hand-over, hand 1 starts when hand 2 is done, and step 3 when hand 1 is; and
 -- the hand that is held back is done at 7, while step 2 waits for tick 10. Proof: runs-met.
 pub record RunsMet : Type 0 where
-  pub stand-at-once : WorkedRun (stand 2) 0 5 4 (finishing 2 ∷ ticking ∷ ticking ∷ ticking ∷ finishing 2 ∷ []) (0 ∷ 0 ∷ 0 ∷ 1 ∷ 3 ∷ [])
-  pub stand-hand-ten : WorkedRun (stand 2) 0 5 4 (ticking ∷ ticking ∷ ticking ∷ ticking ∷ ticking ∷ ticking ∷ ticking ∷ ticking ∷ ticking ∷ ticking ∷ finishing 2 ∷ ticking ∷ ticking ∷ []) (0 ∷ 0 ∷ 0 ∷ 10 ∷ 12 ∷ [])
-  pub two-hands-wait : WorkedRun two-hands 1 5 6 (finishing 1 ∷ ticking ∷ ticking ∷ ticking ∷ finishing 2 ∷ []) (0 ∷ 0 ∷ 0 ∷ 3 ∷ 3 ∷ [])
-  pub exposure-in-time : WorkedRun exposure 0 3 2 (ticking ∷ ticking ∷ ticking ∷ finishing 1 ∷ []) (0 ∷ 0 ∷ 3 ∷ [])
-  pub hand-over-waits : WorkedRun hand-over 1 4 6 (ticking ∷ ticking ∷ finishing 2 ∷ ticking ∷ ticking ∷ ticking ∷ finishing 1 ∷ []) (0 ∷ 2 ∷ 0 ∷ 5 ∷ [])
-  pub held-back-in-time : WorkedRun held-back 0 3 2 (ticking ∷ ticking ∷ ticking ∷ ticking ∷ ticking ∷ ticking ∷ ticking ∷ finishing 1 ∷ ticking ∷ ticking ∷ ticking ∷ []) (0 ∷ 6 ∷ 10 ∷ [])
+  pub stand-at-once : WorkedRun (stand 2) 0 5 4 (Finish 2 ∷ Tick ∷ Tick ∷ Tick ∷ Finish 2 ∷ []) (0 ∷ 0 ∷ 0 ∷ 1 ∷ 3 ∷ [])
+  pub stand-hand-ten : WorkedRun (stand 2) 0 5 4 (Tick ∷ Tick ∷ Tick ∷ Tick ∷ Tick ∷ Tick ∷ Tick ∷ Tick ∷ Tick ∷ Tick ∷ Finish 2 ∷ Tick ∷ Tick ∷ []) (0 ∷ 0 ∷ 0 ∷ 10 ∷ 12 ∷ [])
+  pub two-hands-wait : WorkedRun two-hands 1 5 6 (Finish 1 ∷ Tick ∷ Tick ∷ Tick ∷ Finish 2 ∷ []) (0 ∷ 0 ∷ 0 ∷ 3 ∷ 3 ∷ [])
+  pub exposure-in-time : WorkedRun exposure 0 3 2 (Tick ∷ Tick ∷ Tick ∷ Finish 1 ∷ []) (0 ∷ 0 ∷ 3 ∷ [])
+  pub hand-over-waits : WorkedRun hand-over 1 4 6 (Tick ∷ Tick ∷ Finish 2 ∷ Tick ∷ Tick ∷ Tick ∷ Finish 1 ∷ []) (0 ∷ 2 ∷ 0 ∷ 5 ∷ [])
+  pub held-back-in-time : WorkedRun held-back 0 3 2 (Tick ∷ Tick ∷ Tick ∷ Tick ∷ Tick ∷ Tick ∷ Tick ∷ Finish 1 ∷ Tick ∷ Tick ∷ Tick ∷ []) (0 ∷ 6 ∷ 10 ∷ [])

@@ -5,8 +5,6 @@ use Prim.Native.Nat.{ℕ}
 use lib.ListN.{getD}
 use Rattle.definitions.specs.Basics.{Outcome}
 use Rattle.definitions.specs.Dispatcher.{Progress, map-after, state-after}
-use Rattle.definitions.specs.Numbers.{status-of}
-use Rattle.definitions.specs.declared.Dispatch.{Dispatch}
 use Rattle.definitions.specs.declared.State.{State}
 use Rattle.numbers.specs.Codes.{call-code}
 
@@ -16,15 +14,6 @@ state-in words tick start finish = record { n = getD words 0 0; unbounded = getD
 
 abbrev pub words-of : State → List ℕ
 words-of st = st .n ∷ st .unbounded ∷ st .started ∷ st .finished ∷ []
-
--- What a call of the dispatcher returns stands in the memory, and its status is the number r.
-pub record Stores (d : Dispatch) (r : ℕ) (words′ : List ℕ) (tick′ : ℕ) (start′ finish′ : List ℕ) (map′ : ℕ) : Type 0 where
-  pub answer : (g : Progress) → r ≡ call-code (status-of (d .status) g)
-  pub words : words′ ≡ words-of (d .state)
-  pub tick : tick′ ≡ d .state .tick
-  pub start : start′ ≡ d .state .start
-  pub finish : finish′ ≡ d .state .finish
-  pub map : map′ ≡ d .map
 
 -- A call on the state st that is lent returns r, and leaves the state after it in the memory, and the map of the steps that it started: on a refusal the state as lent, and map 0.
 pub record Leaves (call : State → Outcome Progress) (st : State) (r : ℕ) (words′ : List ℕ) (tick′ : ℕ) (start′ finish′ : List ℕ) (map′ : ℕ) : Type 0 where

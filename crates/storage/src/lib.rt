@@ -1,23 +1,35 @@
-// The dispatcher's state in memory that C lends: taken from it before a call, stored in it after.
+// The dispatcher's calls on memory that C lends: the state is taken from it, and what the call returns is stored in it.
+use definitions::Call;
 use definitions::Dispatch;
 use definitions::State;
 ghost use mathlib.Core.Path.{_≡_};
-ghost use Rattle.storage.specs.Memory.{Stores, state-in, words-of};
+ghost use Rattle.definitions.specs.Dispatcher as Dispatcher;
+ghost use Rattle.definitions.specs.Dispatcher.{Returns};
+ghost use Rattle.storage.specs.Memory.{Leaves, state-in, words-of};
 
-// The state in the memory that is lent.
-pub fn state_in(words: &[u64; 4], tick: u32, start: &[u32; 64], finish: &[u32; 64]) -> State
-    ensures { λ r. ⌜ r ≡ state-in (now (words .entry)) tick (now (start .entry)) (now (finish .entry)) ⌝ }
+// The state that the lent memory holds.
+fn state_in(words: [u64; 4], tick: u32, start: [u32; 64], finish: [u32; 64]) -> State
+    ensures { λ r. ⌜ r ≡ state-in words tick start finish ⌝ }
 {
-    let starts = *start;
-    let ends = *finish;
     State {
         n: words[0] as usize,
         unbounded: words[1],
         tick: tick,
         started: words[2],
         finished: words[3],
-        start: starts,
-        finish: ends,
+        start: start,
+        finish: finish,
+    }
+}
+
+// The dispatcher's call on a state, by its arguments.
+fn called(st: State, call: Call, table: &[u32]) -> Dispatch
+    ensures { λ r. ⌜ Returns st (Dispatcher.called st (now (table .entry)) call) r ⌝ }
+{
+    match call {
+        Call::Begin(n, unbounded) => dispatcher::begin(st, n, unbounded, table),
+        Call::Tick => dispatcher::tick(st, table),
+        Call::Finish(s) => dispatcher::finish(st, s, table),
     }
 }
 
@@ -33,17 +45,23 @@ fn words_of(st: State) -> [u64; 4]
     words
 }
 
-// Stores what a call of the dispatcher returns in the memory that is lent.
-pub fn store(
-    done: Dispatch,
+// Makes a call of the dispatcher on the state in the memory that is lent.
+pub fn perform(
+    call: Call,
     words: &mut [u64; 4],
     tick: &mut u32,
     start: &mut [u32; 64],
     finish: &mut [u32; 64],
     map: &mut u64,
+    table: &[u32],
 ) -> u32
-    ensures { λ r. ⌜ Stores done r (now (words .exit)) (now (tick .exit)) (now (start .exit)) (now (finish .exit)) (now (map .exit)) ⌝ }
+    ensures { λ r. ⌜ Leaves (λ st. Dispatcher.called st (now (table .entry)) call) (state-in (now (words .entry)) (now (tick .entry)) (now (start .entry)) (now (finish .entry))) r (now (words .exit)) (now (tick .exit)) (now (start .exit)) (now (finish .exit)) (now (map .exit)) ⌝ }
 {
+    let held = *words;
+    let starts = *start;
+    let ends = *finish;
+    let lent = state_in(held, *tick, starts, ends);
+    let done = called(lent, call, table);
     let next = done.state;
     let new_words = words_of(next);
     let new_starts = next.start;

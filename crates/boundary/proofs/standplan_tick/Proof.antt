@@ -1,26 +1,15 @@
 -- `boundary::standplan_tick` meets its contract: the dispatcher's call on the state that is lent.
-use denote.Ref.{now}
-use Rattle.definitions.specs.Dispatcher.{tick}
-use Rattle.definitions.specs.declared.State.{State}
-use Rattle.storage.proofs.Calls.{leaves}
-use Rattle.storage.specs.Memory.{state-in}
+use Rattle.definitions.specs.Dispatcher.{called}
 use borrow.Author.Needs.{needs}
 use Rattle.boundary.proofs.standplan_tick.Statement.{statement}
 use Rattle.boundary.proofs.standplan_tick.Tie as tie
 
-state-in-requires : tie.Need-state-in-requires
-state-in-requires c κs = search needs
-
-tick-requires : tie.Need-tick-requires
-tick-requires c κs = search needs
-
-store-requires : tie.Need-store-requires
-store-requires c κs = search needs
+perform-requires : tie.Need-perform-requires
+perform-requires c κs = search needs
 
 returns : tie.Need-returns
-returns c =
-    let s = c .before .before .before .before .before .before .before .before .before .before .before .before .before in
-    leaves (c .store .ensures) (λ (st : State). tick st (now (s .args .table))) {lent = state-in (now (s .args .words)) (now (s .args .tick)) (now (s .args .start)) (now (s .args .finish))} (c .before .before .before .before .before .before .before .state-in .ensures) (c .before .before .before .before .before .before .tick .ensures)
+unfolding called
+returns c = c .perform .ensures
 
 pub standplan-tick-spec : {M : Type 1} → statement M
-standplan-tick-spec = tie.close (tie.spec state-in-requires tick-requires store-requires returns)
+standplan-tick-spec = tie.close (tie.spec perform-requires returns)

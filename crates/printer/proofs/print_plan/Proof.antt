@@ -1,8 +1,7 @@
 -- The two headings, the waits and the starts, from the front; the room is enough for all of them. Assumes nothing.
 use native.Mathlib.Omega.{arith}
 use Rattle.definitions.specs.Output.{word-verdict, word-waits}
-use Rattle.lines.specs.Texts.{heading}
-use Rattle.printer.specs.Texts.{maps-text, table-text, plan-text}
+use Rattle.printer.specs.Texts.{heading, maps-text, table-text, plan-text}
 use Rattle.printer.proofs.Limits.{heading-limit, headings-room, waits-room, starts-room}
 use Rattle.lines.proofs.Writing.{put-then, put-room}
 use Rattle.printer.proofs.Fronts.{put-printed}

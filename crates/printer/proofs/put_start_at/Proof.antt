@@ -25,24 +25,32 @@ returns c =
     let s = c .before .before .before .before in
     put-as (start-absent (s .args .n) (s .args .table .now) (s .args .v) (s .args .a) (c .if1 .taken)) (put-none _ _)
 
-cast-put-start : tie.Need-cast-put-start
-cast-put-start c = search needs
+cast-t14 : tie.Need-cast-t14
+cast-t14 c = search needs
 
-cast-put-start-2 : tie.Need-cast-put-start-2
-cast-put-start-2 c = search needs
+cast-t16 : tie.Need-cast-t16
+cast-t16 c = search needs
 
-put-start-requires : tie.Need-put-start-requires
-put-start-requires c κs =
-    let s = c .before .before .before .before .before in
-    omega (arith, ap length (start-stands (s .args .n) (s .args .table .now) (s .args .v) (s .args .a) (c .before .if1 .left)))
+slice-aggregate-put-line : tie.Need-slice-aggregate-put-line
+slice-aggregate-put-line c = search needs
+
+slice-aggregate-put-line-2 : tie.Need-slice-aggregate-put-line-2
+slice-aggregate-put-line-2 c = search needs
+
+put-line-requires : tie.Need-put-line-requires
+put-line-requires c κs =
+    let t = c .before .before .before in
+    let s = t .before .before .before .before in
+    omega (arith, ap length (start-stands (s .args .n) (s .args .table .now) (s .args .v) (s .args .a) (t .if1 .left)))
 
 same-length : tie.Need-same-length
 same-length c = search needs
 
 returns-2 : tie.Need-returns-2
 returns-2 c =
-    let s = c .before .before .before .before .before .before .before .before in
-    put-as (start-stands (s .args .n) (s .args .table .now) (s .args .v) (s .args .a) (c .before .before .before .before .if1 .left)) (c .before .before .put-start .ensures)
+    let t = c .before .before .before .before .before .before in
+    let s = t .before .before .before .before in
+    put-as (start-stands (s .args .n) (s .args .table .now) (s .args .v) (s .args .a) (t .if1 .left)) (c .before .before .put-line .ensures)
 
 pub put-start-at-spec : {M : Type 1} → statement M
 put-start-at-spec =
@@ -53,8 +61,10 @@ put-start-at-spec =
     mul-ticks-2
     shared-slice-read-ticks
     returns
-    cast-put-start
-    cast-put-start-2
-    put-start-requires
+    cast-t14
+    cast-t16
+    slice-aggregate-put-line
+    slice-aggregate-put-line-2
+    put-line-requires
     same-length
     returns-2)

@@ -17,25 +17,32 @@ element-copy-out-has c = search needs
 has-requires : tie.Need-has-requires
 has-requires c κs = search needs
 
-cast-put-wait : tie.Need-cast-put-wait
-cast-put-wait c = search needs
+cast-t13 : tie.Need-cast-t13
+cast-t13 c = search needs
 
-cast-put-wait-2 : tie.Need-cast-put-wait-2
-cast-put-wait-2 c = search needs
+cast-t14 : tie.Need-cast-t14
+cast-t14 c = search needs
 
-put-wait-requires : tie.Need-put-wait-requires
-put-wait-requires c κs =
-    let s = c .before .before .before .before .before in
-    let e = wait-stands (s .args .maps .now) (s .args .a) (s .args .i) (sym (c .before .if1 .taken) ∙ c .before .before .has .ensures) in
-    omega (arith, ap length e)
+slice-aggregate-put-line : tie.Need-slice-aggregate-put-line
+slice-aggregate-put-line c = search needs
+
+slice-aggregate-put-line-2 : tie.Need-slice-aggregate-put-line-2
+slice-aggregate-put-line-2 c = search needs
+
+put-line-requires : tie.Need-put-line-requires
+put-line-requires c κs =
+    let t = c .before .before .before in
+    let s = t .before .before .before .before in
+    omega (arith, ap length (wait-stands (s .args .maps .now) (s .args .a) (s .args .i) (sym (t .if1 .taken) ∙ t .before .has .ensures)))
 
 same-length : tie.Need-same-length
 same-length c = search needs
 
 returns : tie.Need-returns
 returns c =
-    let s = c .before .before .before .before .before .before .before .before in
-    put-as (wait-stands (s .args .maps .now) (s .args .a) (s .args .i) (sym (c .before .before .before .before .if1 .taken) ∙ c .before .before .before .before .before .has .ensures)) (c .before .before .put-wait .ensures)
+    let t = c .before .before .before .before .before .before in
+    let s = t .before .before .before .before in
+    put-as (wait-stands (s .args .maps .now) (s .args .a) (s .args .i) (sym (t .if1 .taken) ∙ t .before .has .ensures)) (c .before .before .put-line .ensures)
 
 returns-2 : tie.Need-returns-2
 returns-2 c =
@@ -49,9 +56,11 @@ put-wait-at-spec =
     mul-has
     element-copy-out-has
     has-requires
-    cast-put-wait
-    cast-put-wait-2
-    put-wait-requires
+    cast-t13
+    cast-t14
+    slice-aggregate-put-line
+    slice-aggregate-put-line-2
+    put-line-requires
     same-length
     returns
     returns-2)
