@@ -24,8 +24,7 @@ use Rattle.laws.proofs.Bools.{bool-cases, both-ways, or-left, or-right}
 use Rattle.theory.specs.Graphs.{Gains, Rooted, Shape}
 use Rattle.theory.proofs.PlanTables.{plan-table-length}
 use Rattle.theory.proofs.StartTimes.{start-times-length}
-use Rattle.analysis.specs.declared.Analysis.{Analysis}
-use Rattle.analysis.specs.Analysis.{Analysed, Presumed, judge-order}
+use Rattle.analysis.specs.Analysis.{Analysed, Analysis, Presumed, judge-order}
 use Rattle.analysis.proofs.Judging.{all-rooted, first-done, order-infeasible}
 use Rattle.planning.specs.Outcomes.{Plannable, is-given, plan-outcome, starts-outcome}
 

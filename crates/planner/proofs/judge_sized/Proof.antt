@@ -1,10 +1,10 @@
--- `planner::judge` meets its contract: there is room for the edges of a brief sheet, and for those of any.
+-- `planner::judge_sized` meets its contract: there is room for the edges of a brief sheet, and for those of any.
 use mathlib.Core.Path.{sym, _∙_}
 use denote.Ref.{now}
 use borrow.Author.Needs.{needs}
 use Rattle.reader.proofs.Parts.{room-brief, room-any}
-use Rattle.planner.proofs.judge.Statement.{statement}
-use Rattle.planner.proofs.judge.Tie as tie
+use Rattle.planner.proofs.judge_sized.Statement.{statement}
+use Rattle.planner.proofs.judge_sized.Tie as tie
 
 is-brief-requires : tie.Need-is-brief-requires
 is-brief-requires c κs = search needs
@@ -39,8 +39,8 @@ judge-with-requires-3 c κs = room-any (now (c .before .before .before .before .
 returns-3 : tie.Need-returns-3
 returns-3 c = search needs
 
-pub judge-spec : {M : Type 1} → statement M
-judge-spec =
+pub judge-sized-spec : {M : Type 1} → statement M
+judge-sized-spec =
     tie.close
     (tie.spec
     is-brief-requires
