@@ -5,7 +5,7 @@ use mathlib.Core.List.{List}
 use mathlib.Core.Logic.{_≢_}
 use Prim.Native.Nat.{ℕ, _<_, _≤_}
 use lib.Dec.{eqb, ltb}
-use lib.ListN.{length, replicate}
+use lib.ListN.{replicate}
 use borrow.Author.Tests.{lt-ltb}
 use Rattle.anchors.specs.Sets.{AnchorSets}
 use Rattle.definitions.specs.Answers.{closes-circle, unreached, infeasible, inconsistent, unserializable, judge-edges}
@@ -45,7 +45,7 @@ stripped-within {n} {sets} S a v t =
     and-split (column sets a v) (not (eqb a 0)) (p .1) .0
 
 module _ (n : ℕ) (g : List Edge) where
-  pub judge-split : (allow : Bool) → judge-edges n g allow ≡ when-given (judge-first n g) (λ u. judge-rest n g allow)
+  judge-split : (allow : Bool) → judge-edges n g allow ≡ when-given (judge-first n g) (λ u. judge-rest n g allow)
   unfolding judge-edges judge-first judge-rest judge-serial judge-waits
   judge-split allow = split (closes-circle n g) (unreached n g) (infeasible n g) 8 9 10 (judge-rest n g allow)
 

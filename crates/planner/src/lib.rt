@@ -48,13 +48,11 @@ fn plan_with(s: &[u8], allow: bool, table: &mut [u32], words: &mut [u64]) -> Ver
 {
     let report = reader::read(s, words);
     let reading = report.reading;
-    match reading {
-        Reading::Refused(k) => Verdict::Refused(k),
-        Reading::Whole => {
-            let count = report.count;
-            plan_edges(&words[..count], report.n, allow, table)
-        }
+    if let Reading::Refused(k) = reading {
+        return Verdict::Refused(k);
     }
+    let count = report.count;
+    plan_edges(&words[..count], report.n, allow, table)
 }
 
 fn starts_with(s: &[u8], allow: bool, list: &[u32], out: &mut [u32], words: &mut [u64]) -> Verdict
@@ -63,14 +61,12 @@ fn starts_with(s: &[u8], allow: bool, list: &[u32], out: &mut [u32], words: &mut
 {
     let report = reader::read(s, words);
     let reading = report.reading;
-    match reading {
-        Reading::Refused(k) => Verdict::Refused(k),
-        Reading::Whole => {
-            let count = report.count;
-            let unbounded = report.unbounded;
-            starts_edges(&words[..count], report.n, allow, unbounded, list, out)
-        }
+    if let Reading::Refused(k) = reading {
+        return Verdict::Refused(k);
     }
+    let count = report.count;
+    let unbounded = report.unbounded;
+    starts_edges(&words[..count], report.n, allow, unbounded, list, out)
 }
 
 // ---- the library, over bytes: fewer words are cleared where few are needed

@@ -20,7 +20,7 @@ judge-requires : tie.Need-judge-requires
 judge-requires c κs = search needs
 
 returns : tie.Need-returns
-returns c = search needs
+returns c = c .judge .ensures
 
 pub analyse-edges-spec : {M : Type 1} → statement M
 analyse-edges-spec =

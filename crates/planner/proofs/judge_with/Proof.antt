@@ -1,6 +1,5 @@
 -- `planner::judge_with` meets its contract.
 use mathlib.Core.Path.{sym, ap}
-use native.Mathlib.Omega.{arith}
 use lib.Seq.{length-take-le}
 use denote.Ref.{now}
 use Rattle.definitions.specs.Numbers.{verdict-of}
@@ -13,7 +12,7 @@ use Rattle.planner.proofs.judge_with.Tie as tie
 
 -- What was read: the sheet, held in the report and the words.
 read-whole : (s : tie.After-enum-told) → Whole (now (s .before .before .before .before .before .before .before .before .args .s)) (s .before .before .before .before .read .last .1 .0) (s .before .before .before .before .read .result)
-read-whole s = whole (now (s .before .before .before .before .before .before .before .before .args .s)) _ _ (λ i. omega (arith, s .before .before .before .before .before .before .before .shared-slice-known .given i)) (s .before .before .before .before .read .ensures) (s .enum-told .given .1)
+read-whole s = whole (now (s .before .before .before .before .before .before .before .before .args .s)) _ _ (λ i. s .before .before .before .before .before .before .before .shared-slice-known .given i .fits) (s .before .before .before .before .read .ensures) (s .enum-told .given .1)
 
 read-requires : tie.Need-read-requires
 read-requires c κs = search needs
@@ -45,7 +44,7 @@ analyse-edges-requires : tie.Need-analyse-edges-requires
 analyse-edges-requires c κs =
     let w = read-whole (c .before) in
     let b = held-within (w .fits) (w .found .holds) in
-    (omega (arith, b .0), omega (arith, b .1), b .2)
+    (b .0, b .1, b .2)
 
 same-length-2 : tie.Need-same-length-2
 same-length-2 c = search needs
