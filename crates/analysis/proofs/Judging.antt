@@ -1,6 +1,6 @@
 -- Judging in two parts, as the code goes: each answer from the tests behind it, and the whole from the parts.
 use mathlib.Core.Path.{_≡_, refl, sym, ap, _∙_}
-use mathlib.Core.Bool.{Bool, true, false, cond, not, _&&_}
+use mathlib.Core.Bool.{Bool, true, false, cond, not, _&&_, _||_}
 use mathlib.Core.List.{List}
 use mathlib.Core.Logic.{_≢_}
 use Prim.Native.Nat.{ℕ, _<_, _≤_}
@@ -12,21 +12,19 @@ use Rattle.definitions.specs.Answers.{closes-circle, unreached, infeasible, inc
 use Rattle.definitions.specs.Basics.{Outcome, given, refused, refuse-if, when-given}
 use Rattle.definitions.specs.Links.{Edge, members}
 use Rattle.definitions.specs.Rounds.{rounds, stable, source-row}
-use Rattle.definitions.specs.Numbers.{verdict-of, number}
-use Rattle.definitions.specs.Waits.{needs-waits, wait-count}
-use Rattle.definitions.specs.declared.Refusal.{Refusal}
-use Rattle.definitions.specs.declared.Refusal.the-variants.{ForwardCycle, Inconsistent, Unreachable, Unserializable}
-use Rattle.definitions.specs.declared.Status.the-variants as Statuses
-use Rattle.definitions.specs.declared.Verdict.the-variants as Verdicts
+use Rattle.definitions.specs.Numbers.{verdict-of}
+use Rattle.definitions.specs.Waits.{needs-waits, wait-count, wait-maps}
+use Rattle.definitions.specs.declared.Verdict.{Verdict}
 use Rattle.demands.proofs.Sheets.{not-8, not-9, not-10-11, unneeded-serializable}
+use Rattle.forward_order.specs.Sorting.{Sorting}
+use Rattle.forward_order.specs.declared.Sorted.{Sorted}
 use Rattle.laws.proofs.Bools.{and-split, both-ways}
 use Rattle.laws.proofs.Outcomes.{given-not-refused, refused-same}
 use Rattle.reach.specs.Pushes.{Reached, Stripped, column}
 use Rattle.theory.specs.Graphs.{ForwardAcyclic, Rooted, Shape, Well}
 use Rattle.waits.specs.Reaching.{Known, Reaches}
 use Rattle.waits.proofs.Posed.{unwaited-consistent, unwaited-count, unwaited-maps}
-use Rattle.analysis.specs.declared.Analysis.{Analysis}
-use Rattle.analysis.specs.Analysis.{judge-order, judge-first, judge-waits, judge-rest, Sorting, Serial, Blank, Serialized, Analysed, Unweighed, Presumed}
+use Rattle.analysis.specs.Analysis.{judge-order, judge-first, judge-waits, judge-serial, judge-rest, Analysis, Analysed, Listed, Unweighed, Presumed}
 
 -- Refusals in a row are the first of them, and then the rest.
 split : {A : Type 0} (a b c : Bool) (i j k : ℕ) (rest : Outcome A) → refuse-if a i (refuse-if b j (refuse-if c k rest)) ≡ when-given {A = Unit {0}} (refuse-if a i (refuse-if b j (refuse-if c k (given tt)))) (λ u. rest)
@@ -47,33 +45,21 @@ stripped-within {n} {sets} S a v t =
     and-split (column sets a v) (not (eqb a 0)) (p .1) .0
 
 module _ (n : ℕ) (g : List Edge) where
-  pub judge-split : (allow : Bool) → judge-edges n g allow ≡ when-given (judge-first n g) (λ u. judge-rest n g allow)
-  unfolding judge-edges judge-first judge-rest judge-waits
+  judge-split : (allow : Bool) → judge-edges n g allow ≡ when-given (judge-first n g) (λ u. judge-rest n g allow)
+  unfolding judge-edges judge-first judge-rest judge-serial judge-waits
   judge-split allow = split (closes-circle n g) (unreached n g) (infeasible n g) 8 9 10 (judge-rest n g allow)
 
-  -- 8 and 9, by their tests.
-  order-8 : closes-circle n g ≡ true → judge-order n g ≡ refused 8
-  unfolding judge-order refuse-if
-  order-8 h = rw h
+  -- 8 and 9, by what sorting found.
+  by-tests : (a b : Bool) → cond (not (a || b)) (given tt) (refused (cond a 8 9)) ≡ refuse-if {A = Unit {0}} a 8 (refuse-if b 9 (given tt))
+  unfolding refuse-if
+  by-tests true b = refl
+  by-tests false true = refl
+  by-tests false false = refl
 
-  order-9 : closes-circle n g ≡ false → unreached n g ≡ true → judge-order n g ≡ refused 9
-  unfolding judge-order refuse-if
-  order-9 h k = rw (h, k)
-
-  order-done : closes-circle n g ≡ false → unreached n g ≡ false → judge-order n g ≡ given tt
-  unfolding judge-order refuse-if
-  order-done h k = rw (h, k)
-
-  -- What is found for them.
-  module _ (sets : List ℕ) where
-    pub sorting-8 : closes-circle n g ≡ true → Sorting n g sets (Statuses.Refused ForwardCycle)
-    sorting-8 h = record { judges = sym (order-8 h); found = λ f. absurd (given-not-refused (sym f ∙ order-8 h)) }
-
-    pub sorting-9 : closes-circle n g ≡ false → unreached n g ≡ true → Sorting n g sets (Statuses.Refused Unreachable)
-    sorting-9 h k = record { judges = sym (order-9 h k); found = λ f. absurd (given-not-refused (sym f ∙ order-9 h k)) }
-
-    pub sorting-done : closes-circle n g ≡ false → unreached n g ≡ false → AnchorSets n g sets → Sorting n g sets Statuses.Done
-    sorting-done h k a = record { judges = sym (order-done h k); found = λ f. a }
+  pub sorting-order : {sets : List ℕ} {s : Sorted} → Sorting n g sets s → {passes : Bool} → s .passes ≡ passes → judge-order n g ≡ cond passes (given tt) (refused (cond (s .circle) 8 9))
+  unfolding judge-order
+  sorting-order {s = s} sorting {passes} e =
+      sym (by-tests (closes-circle n g) (unreached n g)) ∙ ap (λ (b : Bool). cond b (given tt) (refused (cond (closes-circle n g) 8 9))) (sym (sorting .passes) ∙ e) ∙ ap (λ (b : Bool). cond passes (given tt) (refused (cond b 8 9))) (sym (sorting .circle))
 
   order-by : (a b : Bool) → refuse-if {A = Unit {0}} a 8 (refuse-if b 9 (given tt)) ≡ given tt → (a ≡ false) × (b ≡ false)
   unfolding refuse-if
@@ -155,17 +141,21 @@ module _ (n : ℕ) (g : List Edge) where
   passed-well some shape h k = let r = first-passed h in not-10-11 some shape (not-9 some shape (r .1)) (r .2) k
 
   -- From 11 on.
-  pub rest-11 : inconsistent n g ≡ true → (allow : Bool) → judge-rest n g allow ≡ refused 11
+  rest-11 : inconsistent n g ≡ true → (allow : Bool) → judge-rest n g allow ≡ refused 11
   unfolding judge-rest refuse-if
   rest-11 h allow = rw h
 
-  pub rest-28 : inconsistent n g ≡ false → unserializable n g ≡ true → (allow : Bool) → judge-rest n g allow ≡ refused 28
+  rest-serial : inconsistent n g ≡ false → (allow : Bool) → judge-rest n g allow ≡ judge-serial n g allow
   unfolding judge-rest refuse-if
-  rest-28 h k allow = rw (h, k)
+  rest-serial h allow = rw h
 
-  pub rest-waits : inconsistent n g ≡ false → unserializable n g ≡ false → (allow : Bool) → judge-rest n g allow ≡ judge-waits n g allow
-  unfolding judge-rest refuse-if
-  rest-waits h k allow = rw (h, k)
+  serial-28 : unserializable n g ≡ true → (allow : Bool) → judge-serial n g allow ≡ refused 28
+  unfolding judge-serial refuse-if
+  serial-28 h allow = rw h
+
+  serial-waits : unserializable n g ≡ false → (allow : Bool) → judge-serial n g allow ≡ judge-waits n g allow
+  unfolding judge-serial refuse-if
+  serial-waits h allow = rw h
 
   -- Where waits are allowed, 12 is not given.
   allowed : (k : ℕ) → judge-waits n g true ≢ refused k
@@ -176,78 +166,91 @@ module _ (n : ℕ) (g : List Edge) where
       go true h = absurd (given-not-refused h)
       go false h = absurd (given-not-refused h)
 
-  -- The analysis from 11 on, of edges that pass 8 to 10.
-  module _ (allow : Bool) (r : Analysis) where
-    refused-by : (k : Refusal) → ((b : Bool) → judge-rest n g b ≡ refused (number k)) → r .verdict ≡ Verdicts.Refused k → Blank r → Serialized n g allow r
-    refused-by k h e blank =
-        record { judges = ap verdict-of e ∙ sym (h allow); found = λ v f. absurd (given-not-refused (sym f ∙ h true)); blank = λ l f. blank }
+  -- What refuses 8, 9 or 10 refuses the whole; what passes them goes on with the rest.
+  edges-refused : (k : ℕ) → judge-first n g ≡ refused k → (allow : Bool) → judge-edges n g allow ≡ refused k
+  unfolding when-given
+  edges-refused k e allow = judge-split allow ∙ ap (λ (o : Outcome (Unit {0})). when-given o (λ u. judge-rest n g allow)) e
 
-    serialized-refused : inconsistent n g ≡ true → r .verdict ≡ Verdicts.Refused Inconsistent → Blank r → Serialized n g allow r
-    serialized-refused h = refused-by Inconsistent (rest-11 h)
+  edges-rest : judge-first n g ≡ given tt → (allow : Bool) → judge-edges n g allow ≡ judge-rest n g allow
+  unfolding when-given
+  edges-rest e allow = judge-split allow ∙ ap (λ (o : Outcome (Unit {0})). when-given o (λ u. judge-rest n g allow)) e
 
-    serialized-clash : inconsistent n g ≡ false → unserializable n g ≡ true → r .verdict ≡ Verdicts.Refused Unserializable → Blank r → Serialized n g allow r
-    serialized-clash h k = refused-by Unserializable (rest-28 h k)
+  module _ (allow : Bool) (verdict : Verdict) (maps : List ℕ) (count : ℕ) where
+    -- A way of judging that refuses in any case lists nothing; two that agree list the same.
+    refused-lists : (judge : Bool → Outcome ℕ) (k : ℕ) → ((b : Bool) → judge b ≡ refused k) → verdict-of verdict ≡ refused k → maps ≡ replicate 64 0 → count ≡ 0 → Listed n g judge allow verdict maps count
+    refused-lists judge k h e m c =
+        record { judges = e ∙ sym (h allow); found = λ v f. absurd (given-not-refused (sym f ∙ h true)); blank = λ l f. (m, c) }
 
-    serialized-found : inconsistent n g ≡ false → unserializable n g ≡ false → verdict-of (r .verdict) ≡ judge-waits n g allow → Serial n g r → Serialized n g allow r
-    serialized-found h k e serial =
-        record { judges = e ∙ sym (rest-waits h k allow); found = λ v f. serial; blank = λ l f. absurd (allowed l (sym (rest-waits h k true) ∙ f)) }
+    same-lists : (judge other : Bool → Outcome ℕ) → ((b : Bool) → judge b ≡ other b) → Listed n g other allow verdict maps count → Listed n g judge allow verdict maps count
+    same-lists judge other h l =
+        record { judges = l .judges ∙ sym (h allow); found = λ v f. l .found v (sym (h true) ∙ f); blank = λ k f. l .blank k (sym (h true) ∙ f) }
 
-    -- And of edges that pass 8 and 9.
-    pub unweighed-11 : Reached n g (r .reach) → inconsistent n g ≡ true → r .verdict ≡ Verdicts.Refused Inconsistent → Blank r → Unweighed n g allow r
-    unweighed-11 reached h e blank =
-        record { long = reached .long; serialized = λ first. serialized-refused h e blank }
+    -- The analysis from 28 on.
+    pub serial-refused : unserializable n g ≡ true → verdict-of verdict ≡ refused 28 → maps ≡ replicate 64 0 → count ≡ 0 → Listed n g (judge-serial n g) allow verdict maps count
+    serial-refused h = refused-lists (judge-serial n g) 28 (serial-28 h)
 
-    pub unweighed-28 : Reached n g (r .reach) → inconsistent n g ≡ false → (judge-first n g ≡ given tt → unserializable n g ≡ true) → r .verdict ≡ Verdicts.Refused Unserializable → Blank r → Unweighed n g allow r
-    unweighed-28 reached h k e blank =
-        record { long = reached .long; serialized = λ first. serialized-clash h (k first) e blank }
+    pub serial-found : unserializable n g ≡ false → verdict-of verdict ≡ judge-waits n g allow → maps ≡ wait-maps n g → count ≡ wait-count n g → Listed n g (judge-serial n g) allow verdict maps count
+    serial-found h e m c =
+        same-lists (judge-serial n g) (judge-waits n g) (serial-waits h)
+        (record { judges = e; found = λ v f. (m, c); blank = λ k f. absurd (allowed k f) })
 
-    pub unweighed-found : inconsistent n g ≡ false → (judge-first n g ≡ given tt → unserializable n g ≡ false) → verdict-of (r .verdict) ≡ judge-waits n g allow → Serial n g r → Unweighed n g allow r
-    unweighed-found h k e serial =
-        record { long = serial .long; serialized = λ first. serialized-found h (k first) e serial }
+    -- The whole.
+    pub edges-refuse : (k : ℕ) → judge-first n g ≡ refused k → verdict-of verdict ≡ refused k → maps ≡ replicate 64 0 → count ≡ 0 → Listed n g (judge-edges n g) allow verdict maps count
+    edges-refuse k h = refused-lists (judge-edges n g) k (edges-refused k h)
 
-    -- Nothing reaches further than the anchor sets say.
-    pub unweighed-posed : {sets : List ℕ} → 1 ≤ n → n ≤ 64 → Shape n (members g) → AnchorSets n g sets → judge-order n g ≡ given tt → Reached n g (r .reach) → Stripped sets n (r .reach) → r .maps ≡ replicate 64 0 → r .verdict ≡ Verdicts.WellPosed → r .count ≡ 0 → Unweighed n g allow r
-    unfolding needs-waits
-    unweighed-posed {sets} some few shape anchors passed reached stripped maps verdict count =
-        let known : Known n g (r .reach) sets = record { shape = shape; reaches = reached-reaches shape reached; anchors = anchors } in
-        let within = stripped-within stripped in
-        let once = order-acyclic passed some shape in
-        let consistent = unwaited-consistent known within once in
-        let none = unwaited-count known within in
-        unweighed-found consistent (λ first. unneeded-serializable (passed-well some shape first consistent) once (ap (ltb 0) none)) (ap verdict-of verdict ∙ sym (waits-none none allow)) (record { long = reached .long; reaches = known .reaches; maps = maps ∙ sym (unwaited-maps known within few); count = count ∙ sym none })
+    pub edges-go-on : judge-first n g ≡ given tt → Listed n g (judge-rest n g) allow verdict maps count → Listed n g (judge-edges n g) allow verdict maps count
+    edges-go-on h = same-lists (judge-edges n g) (judge-rest n g) (edges-rest h)
 
-  -- The analysis is refused by the first part, or goes on with the rest.
-  module _ (allow : Bool) (r : Analysis) where
-    pub analysed-refused : (k : Refusal) → judge-first n g ≡ refused (number k) → r .verdict ≡ Verdicts.Refused k → Blank r → Analysed n g allow r
-    unfolding when-given
-    analysed-refused k e h blank =
-        let whole : (b : Bool) → judge-edges n g b ≡ refused (number k) = λ b. judge-split b ∙ ap (λ (o : Outcome (Unit {0})). when-given o (λ u. judge-rest n g b)) e in
-        record { judges = ap verdict-of h ∙ sym (whole allow); found = λ v given-is. absurd (given-not-refused (sym given-is ∙ whole true)); blank = λ l e. blank }
+    -- The analysis from 11 on, of edges that pass 8 and 9.
+    module _ {reach : List ℕ} (shape : Shape n (members g)) (reached : Reached n g reach) where
+      pub unweighed-11 : inconsistent n g ≡ true → verdict-of verdict ≡ refused 11 → maps ≡ replicate 64 0 → count ≡ 0 → Unweighed n g allow verdict reach maps count
+      unweighed-11 h e m c =
+          record { long = reached .long; reaches = reached-reaches shape reached; serialized = λ first. refused-lists (judge-rest n g) 11 (rest-11 h) e m c }
 
-    pub analysed-rest : judge-first n g ≡ given tt → Serialized n g allow r → Analysed n g allow r
-    unfolding when-given
-    analysed-rest e s =
-        let whole : (b : Bool) → judge-edges n g b ≡ judge-rest n g b = λ b. judge-split b ∙ ap (λ (o : Outcome (Unit {0})). when-given o (λ u. judge-rest n g b)) e in
-        record { judges = s .judges ∙ sym (whole allow); found = λ v h. s .found v (sym (whole true) ∙ h); blank = λ k h. s .blank k (sym (whole true) ∙ h) }
+      pub unweighed-rest : inconsistent n g ≡ false → (judge-first n g ≡ given tt → Listed n g (judge-serial n g) allow verdict maps count) → Unweighed n g allow verdict reach maps count
+      unweighed-rest h l =
+          record { long = reached .long; reaches = reached-reaches shape reached; serialized = λ first. same-lists (judge-rest n g) (judge-serial n g) (rest-serial h) (l first) }
 
-  -- The analysis with 10 left out, likewise.
+      -- Nothing reaches further than the anchor sets say.
+      pub unweighed-posed : {sets : List ℕ} → 1 ≤ n → n ≤ 64 → AnchorSets n g sets → judge-order n g ≡ given tt → Stripped sets n reach → maps ≡ replicate 64 0 → count ≡ 0 → (count ≡ wait-count n g → verdict-of verdict ≡ judge-waits n g allow) → Unweighed n g allow verdict reach maps count
+      unfolding needs-waits
+      unweighed-posed {sets} some few anchors passed stripped m c judges =
+          let known : Known n g reach sets = record { shape = shape; reaches = reached-reaches shape reached; anchors = anchors } in
+          let within = stripped-within stripped in
+          let once = order-acyclic passed some shape in
+          let consistent = unwaited-consistent known within once in
+          let none = unwaited-count known within in
+          let counted = c ∙ sym none in
+          unweighed-rest consistent
+          (λ first. serial-found (unneeded-serializable (passed-well some shape first consistent) once (ap (ltb 0) none)) (judges counted) (m ∙ sym (unwaited-maps known within few)) counted)
+
+  -- The analysis with 10 left out is refused by 8 or 9, or goes on with the rest.
   module _ (allow sorted : Bool) (r : Analysis) where
-    pub presumed-refused : (k : Refusal) → judge-order n g ≡ refused (number k) → sorted ≡ false → r .verdict ≡ Verdicts.Refused k → Blank r → Presumed n g allow sorted r
-    presumed-refused k h s e blank =
+    pub presumed-refused : (k : ℕ) → judge-order n g ≡ refused k → sorted ≡ false → verdict-of (r .verdict) ≡ refused k → r .maps ≡ replicate 64 0 → r .count ≡ 0 → Presumed n g allow sorted r
+    presumed-refused k h s e m c =
+        let whole = edges-refused k (first-refused k h) in
         record {
           sorts = (λ t. absurd (both-ways t s), λ o. absurd (given-not-refused (sym o ∙ h)));
-          refuses = λ l o. ap verdict-of e ∙ ap (λ (x : ℕ). refused x) (refused-same (sym h ∙ o));
-          unsorted = λ f. analysed-refused allow r k (first-refused (number k) h) e blank;
+          refuses = λ l o. e ∙ ap (λ (x : ℕ). refused x) (refused-same (sym h ∙ o));
+          unsorted = λ f. record { judges = e ∙ sym (whole allow); found = λ v p. absurd (given-not-refused (sym p ∙ whole true)); blank = λ l p. record { maps = m; count = c } };
           long = λ t. absurd (both-ways t s);
-          feasible = λ f. absurd (given-not-refused (sym f ∙ first-refused (number k) h));
+          feasible = λ f. absurd (given-not-refused (sym f ∙ first-refused k h));
         }
 
-    pub presumed-rest : judge-order n g ≡ given tt → sorted ≡ true → Unweighed n g allow r → Presumed n g allow sorted r
+    pub presumed-rest : judge-order n g ≡ given tt → sorted ≡ true → Unweighed n g allow (r .verdict) (r .reach) (r .maps) (r .count) → Presumed n g allow sorted r
     presumed-rest o s u =
         record {
           sorts = (λ t. o, λ p. s);
           refuses = λ l h. absurd (given-not-refused (sym o ∙ h));
           unsorted = λ f. absurd (both-ways s f);
           long = λ t. u .long;
-          feasible = λ f. analysed-rest allow r f (u .serialized f);
+          feasible = λ f. analysed (edges-go-on allow (r .verdict) (r .maps) (r .count) f (u .serialized f));
         }
+      where
+        analysed : Listed n g (judge-edges n g) allow (r .verdict) (r .maps) (r .count) → Analysed n g allow r
+        analysed l =
+            record {
+              judges = l .judges;
+              found = λ v h. record { long = u .long; reaches = u .reaches; maps = l .found v h .0; count = l .found v h .1 };
+              blank = λ k h. record { maps = l .blank k h .0; count = l .blank k h .1 };
+            }

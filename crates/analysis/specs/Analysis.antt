@@ -5,15 +5,13 @@ use mathlib.Core.Logic.{_↔_}
 use mathlib.Core.List.{List}
 use Prim.Native.Nat.{ℕ}
 use lib.ListN.{length, replicate}
-use Rattle.anchors.specs.Sets.{AnchorSets}
 use Rattle.definitions.specs.Answers.{closes-circle, unreached, infeasible, inconsistent, unserializable, judge-edges}
 use Rattle.definitions.specs.Basics.{Outcome, given, refused, refuse-if}
 use Rattle.definitions.specs.Links.{Edge}
-use Rattle.definitions.specs.Numbers.{status-of, verdict-of}
-use Rattle.definitions.specs.declared.Status.{Status}
+use Rattle.definitions.specs.Numbers.{verdict-of}
+use Rattle.definitions.specs.declared.Verdict.{Verdict}
 use Rattle.definitions.specs.Waits.{wait-maps, wait-count, needs-waits}
 use Rattle.waits.specs.Reaching.{Reaches}
-use Rattle.analysis.specs.declared.Analysis.{Analysis}
 use Rattle.analysis.specs.declared.Found.{Found}
 
 -- Judging in parts: 8 and 9, with 10, and from 11 on.
@@ -26,13 +24,25 @@ judge-first n g = refuse-if (closes-circle n g) 8 (refuse-if (unreached n g) 9 (
 unfoldable pub judge-waits : ℕ → List Edge → Bool → Outcome ℕ
 judge-waits n g allow = refuse-if (needs-waits n g && not allow) 12 (given (cond (needs-waits n g) 1 0))
 
-unfoldable pub judge-rest : ℕ → List Edge → Bool → Outcome ℕ
-judge-rest n g allow = refuse-if (inconsistent n g) 11 (refuse-if (unserializable n g) 28 (judge-waits n g allow))
+unfoldable pub judge-serial : ℕ → List Edge → Bool → Outcome ℕ
+judge-serial n g allow = refuse-if (unserializable n g) 28 (judge-waits n g allow)
 
--- What is found for 8 and 9: where neither applies, the rows are the anchor sets.
-pub record Sorting (n : ℕ) (g : List Edge) (sets : List ℕ) (r : Status) : Type 0 where
-  pub judges : status-of r tt ≡ judge-order n g
-  pub found : judge-order n g ≡ given tt → AnchorSets n g sets
+unfoldable pub judge-rest : ℕ → List Edge → Bool → Outcome ℕ
+judge-rest n g allow = refuse-if (inconsistent n g) 11 (judge-serial n g allow)
+
+-- The verdict, by a way of judging, and the waits with their count: where it refuses though waits are allowed, none are listed.
+pub record Listed (n : ℕ) (g : List Edge) (judge : Bool → Outcome ℕ) (allow : Bool) (verdict : Verdict) (maps : List ℕ) (count : ℕ) : Type 0 where
+  pub judges : verdict-of verdict ≡ judge allow
+  pub found : (v : ℕ) → judge true ≡ given v → (maps ≡ wait-maps n g) × (count ≡ wait-count n g)
+  pub blank : (k : ℕ) → judge true ≡ refused k → (maps ≡ replicate 64 0) × (count ≡ 0)
+
+-- An analysis: the verdict; an order of the steps, for speed alone; what reaches what, bit a of row v; the waits, bit a of map i, and their count.
+pub record Analysis : Type 0 where
+  pub verdict : Verdict
+  pub order : List ℕ
+  pub reach : List ℕ
+  pub maps : List ℕ
+  pub count : ℕ
 
 -- An analysis from its parts.
 abbrev pub whole : Found → List ℕ → List ℕ → List ℕ → Analysis
@@ -50,21 +60,17 @@ pub record Blank (r : Analysis) : Type 0 where
   pub maps : r .maps ≡ replicate 64 0
   pub count : r .count ≡ 0
 
--- The analysis from 11 on, and the whole: where waits are allowed and the edges are refused all the same, none are listed.
-pub record Serialized (n : ℕ) (g : List Edge) (allow : Bool) (r : Analysis) : Type 0 where
-  pub judges : verdict-of (r .verdict) ≡ judge-rest n g allow
-  pub found : (v : ℕ) → judge-rest n g true ≡ given v → Serial n g r
-  pub blank : (k : ℕ) → judge-rest n g true ≡ refused k → Blank r
-
+-- The whole: where waits are allowed and the edges are refused all the same, none are listed.
 pub record Analysed (n : ℕ) (g : List Edge) (allow : Bool) (r : Analysis) : Type 0 where
   pub judges : verdict-of (r .verdict) ≡ judge-edges n g allow
   pub found : (v : ℕ) → judge-edges n g true ≡ given v → Serial n g r
   pub blank : (k : ℕ) → judge-edges n g true ≡ refused k → Blank r
 
 -- The analysis from 11 on, of edges that pass 8 and 9.
-pub record Unweighed (n : ℕ) (g : List Edge) (allow : Bool) (r : Analysis) : Type 0 where
-  pub long : length (r .reach) ≡ 64
-  pub serialized : judge-first n g ≡ given tt → Serialized n g allow r
+pub record Unweighed (n : ℕ) (g : List Edge) (allow : Bool) (verdict : Verdict) (reach maps : List ℕ) (count : ℕ) : Type 0 where
+  pub long : length reach ≡ 64
+  pub reaches : Reaches n g reach
+  pub serialized : judge-first n g ≡ given tt → Listed n g (judge-rest n g) allow verdict maps count
 
 -- The whole with 10 left out. Edges that do not pass 8 and 9 are refused by it, and those that also pass 10 are analysed.
 pub record Presumed (n : ℕ) (g : List Edge) (allow sorted : Bool) (r : Analysis) : Type 0 where

@@ -1,5 +1,5 @@
 -- The answers of the calls over bytes, from what reading gives.
-use mathlib.Core.Path.{_≡_, refl, sym, ap, _∙_}
+use mathlib.Core.Path.{_≡_, refl, sym, ap, subst, _∙_}
 use mathlib.Core.Bool.{Bool, true}
 use mathlib.Core.Logic.{_⊎_, inl, inr}
 use mathlib.Core.List.{List, [], _∷_, List·Memᴰ, List·Memᴰ·not-nil, List·Memᴰ·cases-cons}
@@ -17,6 +17,7 @@ use Rattle.definitions.specs.declared.Operation.{Operation}
 use Rattle.definitions.specs.declared.Reading.the-variants as Readings
 use Rattle.definitions.specs.declared.Verdict.{Verdict}
 use Rattle.demands.specs.Demands.{Bytes}
+use Rattle.demands.proofs.Judging.{judged-edges}
 use Rattle.demands.proofs.Reading.{Fits, read-fits}
 use Rattle.edges.specs.Words.{graph}
 use Rattle.reader.specs.Answers.{Holds, Reports}
@@ -24,12 +25,11 @@ use Rattle.reader.specs.declared.Report.{Report}
 use Rattle.reader.proofs.Reports.{Found, report-given}
 use Rattle.operation_records.specs.Leaving.{unbounded-at}
 use Rattle.theory.specs.Graphs.{Gains, Shape}
-use Rattle.analysis.specs.declared.Analysis.{Analysis}
-use Rattle.planner.specs.declared.WaitMaps.{WaitMaps}
-use Rattle.analysis.specs.Analysis.{Analysed}
+use Rattle.analysis.specs.declared.WaitMaps.{WaitMaps}
+use Rattle.analysis.specs.Analysis.{Listed}
 use Rattle.planning.specs.Outcomes.{plan-outcome}
 use Rattle.timing.specs.Outcomes.{starts-outcome}
-use Rattle.planner.specs.Answers.{Lists}
+use Rattle.planner.specs.Answers.{Judges, Lists}
 use Rattle.planner.proofs.Held.{by-held, held-gains, held-shape}
 use Rattle.tabulation.proofs.Answers.{Answered}
 
@@ -54,13 +54,16 @@ whole s words report small reports e =
 
 -- Where reading refuses, each call does, and leaves the lent numbers.
 module _ (s : List ℕ) {k : ℕ} (e : read s ≡ refused k) where
-  pub judged-refused : (allow : Bool) → judged s allow ≡ refused k
+  judged-refused : (allow : Bool) → judged s allow ≡ refused k
   unfolding judged when-given
   judged-refused allow = rw e
 
-  pub lists-refused : {r : WaitMaps} → verdict-of (r .verdict) ≡ refused k → r .maps ≡ replicate 64 0 → r .count ≡ 0 → Lists (waits-answer s) r
+  lists-refused : {r : WaitMaps} → verdict-of (r .verdict) ≡ refused k → r .maps ≡ replicate 64 0 → r .count ≡ 0 → Lists (waits-answer s) r
   unfolding waits-answer waits-read no-waits
   lists-refused v m n = rw e (record { verdict = v; maps = m; count = n })
+
+  pub judges-refused : (allow : Bool) {r : WaitMaps} → verdict-of (r .verdict) ≡ refused k → r .maps ≡ replicate 64 0 → r .count ≡ 0 → Judges s allow r
+  judges-refused allow v m n = record { verdict = v ∙ sym (judged-refused allow); waits = λ t. lists-refused v m n }
 
   pub plan-refused : (allow : Bool) (table : List ℕ) → (refused k ≡ planned s allow table .verdict) × (table ≡ planned s allow table .numbers)
   unfolding planned plan-read
@@ -75,8 +78,9 @@ module _ {q : Records} {words : List ℕ} {report : Report} (fits : Fits q) (hol
   abbrev word-edges : List Edge
   word-edges = graph (take (report .count) words)
 
-  pub sheet-analysed : (allow : Bool) {r : Analysis} → (Shape (report .n) (members word-edges) → Gains (members word-edges) 65535 → Analysed (report .n) word-edges allow r) → Analysed (count-of q) (edges-of q) allow r
-  sheet-analysed allow {r} answer = by-held fits holds (λ n g. Analysed n g allow r) (answer (held-shape fits holds) (held-gains fits holds))
+  pub sheet-listed : (allow : Bool) {verdict : Verdict} {maps : List ℕ} {count : ℕ} → (Shape (report .n) (members word-edges) → Gains (members word-edges) 65535 → Listed (report .n) word-edges (judge-edges (report .n) word-edges) allow verdict maps count) → Listed (count-of q) (edges-of q) (judge-edges (count-of q) (edges-of q)) allow verdict maps count
+  sheet-listed allow {verdict} {maps} {count} answer =
+      by-held fits holds (λ n g. Listed n g (judge-edges n g) allow verdict maps count) (answer (held-shape fits holds) (held-gains fits holds))
 
   module _ (allow : Bool) (r : Verdict) where
     plan-records : (table after : List ℕ) → Answered (plan-outcome (count-of q) (edges-of q) allow table) (plan-table (count-of q) (serialized (count-of q) (edges-of q))) table r after → Answered (plan-verdict q allow table) (plan-table (count-of q) (serialized-of q)) table r after
@@ -99,14 +103,10 @@ module _ {q : Records} {words : List ℕ} {report : Report} (fits : Fits q) (hol
         (answer (q .steps) (sym (holds .n)) (holds .opens)))
 
 -- The waits of the analysis, by whether it accepts.
-waits-when-lists : (q : Records) (found : Analysis) (o : Outcome ℕ) → judge-edges (count-of q) (edges-of q) true ≡ o → Analysed (count-of q) (edges-of q) true found → Lists (waits-when q o) (record { verdict = found .verdict; maps = found .maps; count = found .count })
+waits-when-lists : (q : Records) (r : WaitMaps) (o : Outcome ℕ) → judge-edges (count-of q) (edges-of q) true ≡ o → Listed (count-of q) (edges-of q) (judge-edges (count-of q) (edges-of q)) true (r .verdict) (r .maps) (r .count) → Lists (waits-when q o) r
 unfolding waits-when no-waits
-waits-when-lists q found (given v) h analysed =
-    let serial = analysed .found v h in
-    record { verdict = analysed .judges ∙ h; maps = serial .maps; count = serial .count }
-waits-when-lists q found (refused k) h analysed =
-    let blank = analysed .blank k h in
-    record { verdict = analysed .judges ∙ h; maps = blank .maps; count = blank .count }
+waits-when-lists q r (given v) h listed = let found = listed .found v h in record { verdict = listed .judges ∙ h; maps = found .0; count = found .1 }
+waits-when-lists q r (refused k) h listed = let blank = listed .blank k h in record { verdict = listed .judges ∙ h; maps = blank .0; count = blank .1 }
 
 -- Where the sheet is read, each call answers by its records.
 module _ (s : List ℕ) {q : Records} (e : read s ≡ given q) where
@@ -119,6 +119,13 @@ module _ (s : List ℕ) {q : Records} (e : read s ≡ given q) where
   starts-given allow list out r {after} (v, w) =
       (v ∙ ap (λ (o : Outcome Records). starts-read o allow list out .verdict) (sym e), w ∙ ap (λ (o : Outcome Records). starts-read o allow list out .numbers) (sym e))
 
-  pub waits-given : {found : Analysis} → Analysed (count-of q) (edges-of q) true found → Lists (waits-answer s) (record { verdict = found .verdict; maps = found .maps; count = found .count })
+  waits-given : {r : WaitMaps} → Listed (count-of q) (edges-of q) (judge-edges (count-of q) (edges-of q)) true (r .verdict) (r .maps) (r .count) → Lists (waits-answer s) r
   unfolding waits-answer waits-read judge-records
-  waits-given {found} analysed = rw e (waits-when-lists q found (judge-edges (count-of q) (edges-of q) true) refl analysed)
+  waits-given {r} listed = rw e (waits-when-lists q r (judge-edges (count-of q) (edges-of q) true) refl listed)
+
+  pub judges-given : (allow : Bool) {r : WaitMaps} → Listed (count-of q) (edges-of q) (judge-edges (count-of q) (edges-of q)) allow (r .verdict) (r .maps) (r .count) → Judges s allow r
+  judges-given allow {r} listed =
+      record {
+        verdict = listed .judges ∙ sym (judged-edges s e allow);
+        waits = λ t. waits-given {r = r} (subst (λ (b : Bool). Listed (count-of q) (edges-of q) (judge-edges (count-of q) (edges-of q)) b (r .verdict) (r .maps) (r .count)) t listed);
+      }

@@ -1,70 +1,45 @@
 // The planner's library over bytes: judging a sheet, listing its waits, planning it, working out start times. The crate rows has a row of a plan.
 // Each answer is that of the definitions, for every input.
+use analysis::WaitMaps;
 use analysis::analyse_edges;
 use definitions::Reading;
+use definitions::Refusal;
 use definitions::Verdict;
 use planning::plan_edges;
 use timing::starts_edges;
 ghost use mathlib.Core.Path.{_≡_};
 ghost use Prim.Native.Nat.{_*_, _≤_};
-ghost use lib.ListN.{length};
+ghost use lib.ListN.{length, replicate};
 ghost use Rattle.definitions.specs.Answers.{judged, planned, starts-answer, waits-answer};
 ghost use Rattle.definitions.specs.Numbers.{verdict-of};
+ghost use Rattle.definitions.specs.declared.Verdict.the-variants.{Refused};
 ghost use Rattle.reader.specs.Parts.{link-count};
-ghost use Rattle.planner.specs.Answers.{Lists};
+ghost use Rattle.planner.specs.Answers.{Judges, Lists};
 
-// The waits of a sheet, bit a of map i, and their count, beside the verdict: none on a refusal.
-pub struct WaitMaps {
-    pub verdict: Verdict,
-    pub maps: [u64; 64],
-    pub count: u32,
+// No waits, beside a refusal.
+fn no_waits(k: Refusal) -> WaitMaps
+    ensures { λ r. ⌜ (r .verdict ≡ Refused k) × (r .maps ≡ replicate 64 0) × (r .count ≡ 0) ⌝ }
+{
+    WaitMaps {
+        verdict: Verdict::Refused(k),
+        maps: [0u64; 64],
+        count: 0,
+    }
 }
 
 // ---- over bytes, and words with room for the sheet's edges
 
-fn judge_with(s: &[u8], allow: bool, words: &mut [u64]) -> Verdict
+fn judge_with(s: &[u8], allow: bool, words: &mut [u64]) -> WaitMaps
     requires { ⌜ 4 * link-count (now s) ≤ length (now words) ⌝ }
-    ensures { λ r. ⌜ verdict-of r ≡ judged (now (s .entry)) allow ⌝ }
+    ensures { λ r. ⌜ Judges (now (s .entry)) allow r ⌝ }
 {
     let report = reader::read(s, words);
     let reading = report.reading;
-    match reading {
-        Reading::Refused(k) => Verdict::Refused(k),
-        Reading::Whole => {
-            let count = report.count;
-            let found = analyse_edges(&words[..count], report.n, allow);
-            found.verdict
-        }
+    if let Reading::Refused(k) = reading {
+        return no_waits(k);
     }
-}
-
-fn waits_with(s: &[u8], words: &mut [u64]) -> WaitMaps
-    requires { ⌜ 4 * link-count (now s) ≤ length (now words) ⌝ }
-    ensures { λ r. ⌜ Lists (waits-answer (now (s .entry))) r ⌝ }
-{
-    let report = reader::read(s, words);
-    let reading = report.reading;
-    match reading {
-        Reading::Refused(k) => {
-            let blank = [0u64; 64];
-            WaitMaps {
-                verdict: Verdict::Refused(k),
-                maps: blank,
-                count: 0,
-            }
-        }
-        Reading::Whole => {
-            let count = report.count;
-            let found = analyse_edges(&words[..count], report.n, true);
-            let verdict = found.verdict;
-            let maps = found.maps;
-            WaitMaps {
-                verdict: verdict,
-                maps: maps,
-                count: found.count,
-            }
-        }
-    }
+    let count = report.count;
+    analyse_edges(&words[..count], report.n, allow)
 }
 
 fn plan_with(s: &[u8], allow: bool, table: &mut [u32], words: &mut [u64]) -> Verdict
@@ -73,13 +48,11 @@ fn plan_with(s: &[u8], allow: bool, table: &mut [u32], words: &mut [u64]) -> Ver
 {
     let report = reader::read(s, words);
     let reading = report.reading;
-    match reading {
-        Reading::Refused(k) => Verdict::Refused(k),
-        Reading::Whole => {
-            let count = report.count;
-            plan_edges(&words[..count], report.n, allow, table)
-        }
+    if let Reading::Refused(k) = reading {
+        return Verdict::Refused(k);
     }
+    let count = report.count;
+    plan_edges(&words[..count], report.n, allow, table)
 }
 
 fn starts_with(s: &[u8], allow: bool, list: &[u32], out: &mut [u32], words: &mut [u64]) -> Verdict
@@ -88,21 +61,19 @@ fn starts_with(s: &[u8], allow: bool, list: &[u32], out: &mut [u32], words: &mut
 {
     let report = reader::read(s, words);
     let reading = report.reading;
-    match reading {
-        Reading::Refused(k) => Verdict::Refused(k),
-        Reading::Whole => {
-            let count = report.count;
-            let unbounded = report.unbounded;
-            starts_edges(&words[..count], report.n, allow, unbounded, list, out)
-        }
+    if let Reading::Refused(k) = reading {
+        return Verdict::Refused(k);
     }
+    let count = report.count;
+    let unbounded = report.unbounded;
+    starts_edges(&words[..count], report.n, allow, unbounded, list, out)
 }
 
 // ---- the library, over bytes: fewer words are cleared where few are needed
 
-// Judges a sheet. `allow` says whether waits are allowed.
-pub fn judge(s: &[u8], allow: bool) -> Verdict
-    ensures { λ r. ⌜ verdict-of r ≡ judged (now (s .entry)) allow ⌝ }
+// The verdict of a sheet, and its waits where they are allowed.
+fn judge_sized(s: &[u8], allow: bool) -> WaitMaps
+    ensures { λ r. ⌜ Judges (now (s .entry)) allow r ⌝ }
 {
     if reader::is_brief(s, 32) {
         let mut words = [0u64; 128];
@@ -116,20 +87,19 @@ pub fn judge(s: &[u8], allow: bool) -> Verdict
     judge_with(s, allow, &mut words)
 }
 
+// Judges a sheet. `allow` says whether waits are allowed.
+pub fn judge(s: &[u8], allow: bool) -> Verdict
+    ensures { λ r. ⌜ verdict-of r ≡ judged (now (s .entry)) allow ⌝ }
+{
+    let found = judge_sized(s, allow);
+    found.verdict
+}
+
 // Lists the waits of a sheet. Whoever asks for them allows them.
 pub fn waits(s: &[u8]) -> WaitMaps
     ensures { λ r. ⌜ Lists (waits-answer (now (s .entry))) r ⌝ }
 {
-    if reader::is_brief(s, 32) {
-        let mut words = [0u64; 128];
-        return waits_with(s, &mut words);
-    }
-    if reader::is_brief(s, 128) {
-        let mut words = [0u64; 512];
-        return waits_with(s, &mut words);
-    }
-    let mut words = [0u64; 2048];
-    waits_with(s, &mut words)
+    judge_sized(s, true)
 }
 
 // Plans a sheet: on acceptance the first n × n numbers of the table are its plan. All other numbers stay as lent.

@@ -16,8 +16,7 @@ use Rattle.demands.proofs.Sheets.{passes-well, serializable-iff}
 use Rattle.laws.proofs.Bools.{bool-cases, both-ways}
 use Rattle.numbers.specs.Codes.{is-given}
 use Rattle.theory.specs.Graphs.{Gains, Rooted, Shape}
-use Rattle.analysis.specs.declared.Analysis.{Analysis}
-use Rattle.analysis.specs.Analysis.{Analysed, Presumed, judge-order}
+use Rattle.analysis.specs.Analysis.{Analysed, Analysis, Presumed, judge-order}
 use Rattle.analysis.proofs.Judging.{all-rooted, first-done, order-infeasible}
 use Rattle.tabulation.specs.Tables.{Plannable}
 

@@ -1,9 +1,9 @@
 -- `analysis::analyse_edges` meets its contract.
-use borrow.Author.Needs.{needs}
-use native.Mathlib.Omega.{arith}
 use Prim.Native.Nat.{ℕ}
+use native.Mathlib.Omega.{arith}
 use lib.ListN.{length-replicate}
 use Rattle.adjacency.proofs.Linking.{zeros-empty}
+use borrow.Author.Needs.{needs}
 use Rattle.analysis.proofs.analyse_edges.Statement.{statement}
 use Rattle.analysis.proofs.analyse_edges.Tie as tie
 
@@ -20,7 +20,9 @@ judge-requires : tie.Need-judge-requires
 judge-requires c κs = search needs
 
 returns : tie.Need-returns
-returns c = search needs
+returns c = c .judge .ensures
 
 pub analyse-edges-spec : {M : Type 1} → statement M
-analyse-edges-spec = tie.close (tie.spec slice-aggregate-list list-requires slice-aggregate-judge judge-requires returns)
+analyse-edges-spec =
+    tie.close
+    (tie.spec slice-aggregate-list list-requires slice-aggregate-judge judge-requires returns)

@@ -1,25 +1,35 @@
 -- `planner::judge_with` meets its contract.
-use mathlib.Core.Path.{sym, _∙_}
-use native.Mathlib.Omega.{arith}
+use mathlib.Core.Path.{sym, ap}
 use lib.Seq.{length-take-le}
 use denote.Ref.{now}
-use borrow.Author.Needs.{needs}
+use Rattle.definitions.specs.Numbers.{verdict-of}
 use Rattle.reader.proofs.Reports.{report-refused}
 use Rattle.planner.proofs.Held.{held-within}
-use Rattle.demands.proofs.Judging.{judged-edges}
-use Rattle.planner.proofs.Calls.{Whole, whole, judged-refused, sheet-analysed}
+use Rattle.planner.proofs.Calls.{Whole, whole, judges-given, judges-refused, sheet-listed}
+use borrow.Author.Needs.{needs}
 use Rattle.planner.proofs.judge_with.Statement.{statement}
 use Rattle.planner.proofs.judge_with.Tie as tie
 
 -- What was read: the sheet, held in the report and the words.
 read-whole : (s : tie.After-enum-told) → Whole (now (s .before .before .before .before .before .before .before .before .args .s)) (s .before .before .before .before .read .last .1 .0) (s .before .before .before .before .read .result)
-read-whole s = whole (now (s .before .before .before .before .before .before .before .before .args .s)) _ _ (λ i. omega (arith, s .before .before .before .before .before .before .before .shared-slice-known .given i)) (s .before .before .before .before .read .ensures) (s .enum-told .given .1)
+read-whole s = whole (now (s .before .before .before .before .before .before .before .before .args .s)) _ _ (λ i. s .before .before .before .before .before .before .before .shared-slice-known .given i .fits) (s .before .before .before .before .read .ensures) (s .enum-told .given .1)
 
 read-requires : tie.Need-read-requires
 read-requires c κs = search needs
 
 enum-known-reading : tie.Need-enum-known-reading
 enum-known-reading c = search needs
+
+no-waits-requires : tie.Need-no-waits-requires
+no-waits-requires c κs = search needs
+
+same-length : tie.Need-same-length
+same-length c = search needs
+
+returns : tie.Need-returns
+returns c =
+    let u = c .no-waits .ensures in
+    judges-refused (now (c .before .before .before .before .before .before .before .before .before .before .args .s)) (report-refused _ _ _ _ (c .before .before .before .before .before .before .read .ensures) (c .before .before .reading .given .1)) _ (ap verdict-of (u .0)) (u .1) (u .2)
 
 enum-told : tie.Need-enum-told
 enum-told c = search needs
@@ -34,13 +44,7 @@ analyse-edges-requires : tie.Need-analyse-edges-requires
 analyse-edges-requires c κs =
     let w = read-whole (c .before) in
     let b = held-within (w .fits) (w .found .holds) in
-    (omega (arith, b .0), omega (arith, b .1), b .2)
-
-same-length : tie.Need-same-length
-same-length c = search needs
-
-returns : tie.Need-returns
-returns c = sym (judged-refused (now (c .before .before .before .before .before .before .before .before .before .args .s)) (report-refused _ _ _ _ (c .before .before .before .before .before .read .ensures) (c .before .reading .given .1)) _)
+    (b .0, b .1, b .2)
 
 same-length-2 : tie.Need-same-length-2
 same-length-2 c = search needs
@@ -48,7 +52,7 @@ same-length-2 c = search needs
 returns-2 : tie.Need-returns-2
 returns-2 c =
     let w = read-whole (c .before .before) in
-    sheet-analysed (w .fits) (w .found .holds) _ (c .analyse-edges .ensures) .judges ∙ sym (judged-edges (now (c .before .before .before .before .before .before .before .before .before .before .args .s)) (w .found .is-given) _)
+    judges-given (now (c .before .before .before .before .before .before .before .before .before .before .args .s)) (w .found .is-given) _ (sheet-listed (w .fits) (w .found .holds) _ (c .analyse-edges .ensures))
 
 pub judge-with-spec : {M : Type 1} → statement M
 judge-with-spec =
@@ -56,11 +60,12 @@ judge-with-spec =
     (tie.spec
     read-requires
     enum-known-reading
+    no-waits-requires
+    same-length
+    returns
     enum-told
     slice-reshare-prefix-analyse-edges
     slice-aggregate-analyse-edges
     analyse-edges-requires
-    same-length
-    returns
     same-length-2
     returns-2)

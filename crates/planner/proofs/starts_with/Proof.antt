@@ -1,6 +1,5 @@
 -- `planner::starts_with` meets its contract.
 use mathlib.Core.Path.{sym}
-use native.Mathlib.Omega.{arith}
 use lib.Seq.{length-take-le}
 use denote.Ref.{now}
 use borrow.Author.Needs.{needs}
@@ -12,13 +11,19 @@ use Rattle.planner.proofs.starts_with.Tie as tie
 
 -- What was read: the sheet, held in the report and the words.
 read-whole : (s : tie.After-enum-told) → Whole (now (s .before .before .before .before .before .before .before .before .before .before .args .s)) (s .before .before .before .before .read .last .1 .0) (s .before .before .before .before .read .result)
-read-whole s = whole (now (s .before .before .before .before .before .before .before .before .before .before .args .s)) _ _ (λ i. omega (arith, s .before .before .before .before .before .before .before .before .before .shared-slice-known .given i)) (s .before .before .before .before .read .ensures) (s .enum-told .given .1)
+read-whole s = whole (now (s .before .before .before .before .before .before .before .before .before .before .args .s)) _ _ (λ i. s .before .before .before .before .before .before .before .before .before .shared-slice-known .given i .fits) (s .before .before .before .before .read .ensures) (s .enum-told .given .1)
 
 read-requires : tie.Need-read-requires
 read-requires c κs = search needs
 
 enum-known-reading : tie.Need-enum-known-reading
 enum-known-reading c = search needs
+
+same-length : tie.Need-same-length
+same-length c = search needs
+
+returns : tie.Need-returns
+returns c = starts-refused (now (c .before .before .before .before .before .before .before .before .before .before .before .args .s)) (report-refused _ _ _ _ (c .before .before .before .before .before .read .ensures) (c .before .reading .given .1)) _ _ _
 
 enum-told : tie.Need-enum-told
 enum-told c = search needs
@@ -33,13 +38,7 @@ starts-edges-requires : tie.Need-starts-edges-requires
 starts-edges-requires c κs =
     let w = read-whole (c .before .before) in
     let b = held-within (w .fits) (w .found .holds) in
-    (omega (arith, b .0), omega (arith, b .1), b .2, held-shape (w .fits) (w .found .holds), held-gains (w .fits) (w .found .holds))
-
-same-length : tie.Need-same-length
-same-length c = search needs
-
-returns : tie.Need-returns
-returns c = starts-refused (now (c .before .before .before .before .before .before .before .before .before .before .before .args .s)) (report-refused _ _ _ _ (c .before .before .before .before .before .read .ensures) (c .before .reading .given .1)) _ _ _
+    (b .0, b .1, b .2, held-shape (w .fits) (w .found .holds), held-gains (w .fits) (w .found .holds))
 
 same-length-2 : tie.Need-same-length-2
 same-length-2 c = search needs
@@ -58,12 +57,12 @@ starts-with-spec =
     (tie.spec
     read-requires
     enum-known-reading
+    same-length
+    returns
     enum-told
     slice-reshare-prefix-starts-edges
     slice-aggregate-starts-edges
     starts-edges-requires
-    same-length
-    returns
     same-length-2
     same-length-3
     returns-2)

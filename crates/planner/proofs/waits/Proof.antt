@@ -1,56 +1,14 @@
--- `planner::waits` meets its contract: there is room for the edges of a brief sheet, and for those of any.
-use mathlib.Core.Path.{sym, _∙_}
-use denote.Ref.{now}
+-- `planner::waits` meets its contract.
+use mathlib.Core.Path.{refl}
 use borrow.Author.Needs.{needs}
-use Rattle.reader.proofs.Parts.{room-brief, room-any}
 use Rattle.planner.proofs.waits.Statement.{statement}
 use Rattle.planner.proofs.waits.Tie as tie
 
-is-brief-requires : tie.Need-is-brief-requires
-is-brief-requires c κs = search needs
-
-slice-aggregate-waits-with : tie.Need-slice-aggregate-waits-with
-slice-aggregate-waits-with c = search needs
-
-waits-with-requires : tie.Need-waits-with-requires
-waits-with-requires c κs = room-brief (now (c .before .before .before .before .args .s)) 32 (sym (c .before .before .is-brief .ensures) ∙ c .before .if1 .taken)
+judge-sized-requires : tie.Need-judge-sized-requires
+judge-sized-requires c κs = search needs
 
 returns : tie.Need-returns
-returns c = search needs
-
-is-brief-requires-2 : tie.Need-is-brief-requires-2
-is-brief-requires-2 c κs = search needs
-
-slice-aggregate-waits-with-2 : tie.Need-slice-aggregate-waits-with-2
-slice-aggregate-waits-with-2 c = search needs
-
-waits-with-requires-2 : tie.Need-waits-with-requires-2
-waits-with-requires-2 c κs = room-brief (now (c .before .before .before .before .before .before .args .s)) 128 (sym (c .before .before .is-brief2 .ensures) ∙ c .before .if2 .taken)
-
-returns-2 : tie.Need-returns-2
-returns-2 c = search needs
-
-slice-aggregate-waits-with-3 : tie.Need-slice-aggregate-waits-with-3
-slice-aggregate-waits-with-3 c = search needs
-
-waits-with-requires-3 : tie.Need-waits-with-requires-3
-waits-with-requires-3 c κs = room-any (now (c .before .before .before .before .before .before .args .s))
-
-returns-3 : tie.Need-returns-3
-returns-3 c = search needs
+returns c = c .judge-sized .ensures .waits refl
 
 pub waits-spec : {M : Type 1} → statement M
-waits-spec =
-    tie.close
-    (tie.spec
-    is-brief-requires
-    slice-aggregate-waits-with
-    waits-with-requires
-    returns
-    is-brief-requires-2
-    slice-aggregate-waits-with-2
-    waits-with-requires-2
-    returns-2
-    slice-aggregate-waits-with-3
-    waits-with-requires-3
-    returns-3)
+waits-spec = tie.close (tie.spec judge-sized-requires returns)
