@@ -58,10 +58,10 @@ fn end_line(out: &mut [u8], at: usize) -> usize {
     console::put_word(b"\n", out, at)
 }
 
-// Lines of a word and a verdict.
-fn put_line(word: &[u8], verdict: definitions::Verdict, out: &mut [u8], at: usize) -> usize {
+// Lines of a word and a verdict, by its number.
+fn put_line(word: &[u8], code: u32, out: &mut [u8], at: usize) -> usize {
     let p = console::put_word(word, out, at);
-    let q = console::put_verdict(verdict, out, p);
+    let q = console::put_code(code, out, p);
     end_line(out, q)
 }
 
@@ -139,29 +139,46 @@ fn put_maps(maps: &[u64; 64], out: &mut [u8], at: usize) -> usize {
     p
 }
 
+// What listing waits hands back.
+fn put_listed(code: u32, maps: &[u64; 64], count: u32, out: &mut [u8], at: usize) -> usize {
+    let p = console::put_word(b"waits", out, at);
+    let q = console::put_code(code, out, p);
+    let r = console::put_number(count as u64, out, q);
+    let t = end_line(out, r);
+    put_maps(maps, out, t)
+}
+
 fn put_waits(s: &[u8], out: &mut [u8], at: usize) -> usize {
     let listed = planner::waits(s);
     let verdict = listed.verdict;
     let maps = listed.maps;
-    let count = listed.count;
-    let p = console::put_word(b"waits", out, at);
-    let q = console::put_verdict(verdict, out, p);
-    let r = console::put_number(count as u64, out, q);
-    let t = end_line(out, r);
-    put_maps(&maps, out, t)
+    put_listed(numbers::verdict_code(verdict), &maps, listed.count, out, at)
+}
+
+// The numbers of verdicts.
+fn judge_code(s: &[u8], allow: bool) -> u32 {
+    numbers::verdict_code(planner::judge(s, allow))
+}
+
+fn plan_code(s: &[u8], table: &mut [u32]) -> u32 {
+    numbers::verdict_code(planner::plan(s, true, table))
+}
+
+fn starts_code(s: &[u8], allow: bool, list: &[u32], times: &mut [u32]) -> u32 {
+    numbers::verdict_code(planner::starts(s, allow, list, times))
 }
 
 fn put_judgements(s: &[u8], out: &mut [u8], at: usize) -> usize {
-    let strict = planner::judge(s, false);
+    let strict = judge_code(s, false);
     let p = put_line(b"judge 0", strict, out, at);
-    let free = planner::judge(s, true);
+    let free = judge_code(s, true);
     put_line(b"judge 1", free, out, p)
 }
 
 // The plan, into the table that is lent.
 fn put_plan_into(s: &[u8], table: &mut [u32], out: &mut [u8], at: usize) -> usize {
-    let verdict = planner::plan(s, true, table);
-    let p = put_line(b"plan", verdict, out, at);
+    let code = plan_code(s, table);
+    let p = put_line(b"plan", code, out, at);
     put_numbers(table, out, p)
 }
 
@@ -189,8 +206,8 @@ fn put_starts_into(
     at: usize,
 ) -> usize {
     read_entries(list);
-    let verdict = planner::starts(s, allow, list, times);
-    let p = put_line(b"starts", verdict, out, at);
+    let code = starts_code(s, allow, list, times);
+    let p = put_line(b"starts", code, out, at);
     put_numbers(times, out, p)
 }
 

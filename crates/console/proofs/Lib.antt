@@ -1,3 +1,3 @@
+mod Codes
 pub mod Buffering
 pub mod Digits
-pub mod Verdicts

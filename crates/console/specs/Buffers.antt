@@ -2,10 +2,9 @@
 use mathlib.Core.Path.{_≡_}
 use mathlib.Core.Bool.{cond}
 use mathlib.Core.List.{List, [], _∷_, _++_}
-use Prim.Native.Nat.{ℕ, _≤_}
+use Prim.Native.Nat.{ℕ, _-_, _≤_}
 use lib.Dec.{ltb}
 use lib.ListN.{length, take}
-use Rattle.definitions.specs.Basics.{Outcome, given, refused}
 use Rattle.definitions.specs.Output.{digits, word-refused}
 
 -- The bytes that wait in a buffer with this room, after one byte more: behind those that wait, or at the front of a buffer that was full and has been written out. A buffer without room holds nothing.
@@ -27,7 +26,6 @@ pub record Adds (text : List ℕ) (at next : ℕ) (old new : List ℕ) : Type 0 
 unfoldable pub number-text : ℕ → List ℕ
 number-text x = 32 ∷ digits 20 x
 
--- A space, then a verdict: its number, or `refused` and the refusal's number.
-abbrev pub verdict-text : Outcome ℕ → List ℕ
-verdict-text (given v) = number-text v
-verdict-text (refused k) = (32 ∷ word-refused) ++ number-text k
+-- A space, then a verdict that is given by its number: that number below 256, else `refused` and the refusal's, which is 256 less.
+unfoldable pub code-text : ℕ → List ℕ
+code-text code = cond (ltb code 256) (number-text code) ((32 ∷ word-refused) ++ number-text (code - 256))

@@ -1,9 +1,7 @@
 // Text for the test programs, put into a lent buffer that is written to standard output whenever it is full.
 // Each function takes the next position in the buffer and returns the one after. What waits in the buffer is proved; that it is written out is tested, not proved, because no contract of io says what it writes.
-use definitions::Verdict;
 ghost use mathlib.Core.List.{[], _∷_};
-ghost use Rattle.definitions.specs.Numbers.{verdict-of};
-ghost use Rattle.console.specs.Buffers.{Adds, number-text, verdict-text};
+ghost use Rattle.console.specs.Buffers.{Adds, code-text, number-text};
 
 // One byte.
 fn put(b: u8, out: &mut [u8], at: usize) -> usize
@@ -51,11 +49,10 @@ pub fn put_number(x: u64, out: &mut [u8], at: usize) -> usize
     put_word(&digits[..k], out, p)
 }
 
-// A space, then a verdict: its number, or `refused` and the refusal's number.
-pub fn put_verdict(verdict: Verdict, out: &mut [u8], at: usize) -> usize
-    ensures { λ r. ⌜ Adds (verdict-text (verdict-of verdict)) at r (now (out .entry)) (now (out .exit)) ⌝ }
+// A space, then a verdict that is given by its number (crate numbers): that number below 256, else `refused` and the refusal's.
+pub fn put_code(code: u32, out: &mut [u8], at: usize) -> usize
+    ensures { λ r. ⌜ Adds (code-text code) at r (now (out .entry)) (now (out .exit)) ⌝ }
 {
-    let code = numbers::verdict_code(verdict);
     if code < 256 {
         return put_number(code as u64, out, at);
     }

@@ -1,20 +1,18 @@
 // Runs the examples of document 01 that are not proved, but the run, and compares: the limits on N, on R and on durations.
 ghost use Prim.Native.Nat.{_<_};
-use definitions::Verdict;
 
 // The line of an example: its name, its number, what was answered, and whether document 01 says so.
 fn put_example(
     name: &[u8],
     number: u64,
-    verdict: Verdict,
+    answer: u32,
     expected: u32,
     out: &mut [u8],
     at: usize,
 ) -> usize {
     let p = console::put_word(name, out, at);
     let q = console::put_number(number, out, p);
-    let r = console::put_verdict(verdict, out, q);
-    let answer = numbers::verdict_code(verdict);
+    let r = console::put_code(answer, out, q);
     if answer == expected {
         return console::put_word(b" as expected\n", out, r);
     }
@@ -79,16 +77,21 @@ fn put_all_links(n: u8, s: &mut [u8], at: usize) -> usize {
     p
 }
 
+// Judges a sheet: the number of its verdict.
+fn judge_code(s: &[u8]) -> u32 {
+    numbers::verdict_code(planner::judge(s, false))
+}
+
 // Judges the first `size` bytes.
-fn judge(s: &[u8], size: usize) -> Verdict {
+fn judge(s: &[u8], size: usize) -> u32 {
     if size <= s.len() {
-        return planner::judge(&s[..size], false);
+        return judge_code(&s[..size]);
     }
-    planner::judge(s, false)
+    judge_code(s)
 }
 
 // A sheet of n steps, each after step 0.
-fn judge_steps(n: u8) -> Verdict {
+fn judge_steps(n: u8) -> u32 {
     let mut s = io::buffer();
     let p = put_counts(n, 63, 0, &mut s);
     let q = put_steps(n, &mut s, p);
@@ -97,7 +100,7 @@ fn judge_steps(n: u8) -> Verdict {
 }
 
 // A sheet of 33 steps and as many after links as the two bytes say. It has `size` bytes; links for more pairs follow.
-fn judge_links(low: u8, high: u8, size: usize) -> Verdict {
+fn judge_links(low: u8, high: u8, size: usize) -> u32 {
     let mut s = io::buffer();
     let p = put_counts(33, low, high, &mut s);
     let q = put_steps(33, &mut s, p);
@@ -106,15 +109,16 @@ fn judge_links(low: u8, high: u8, size: usize) -> Verdict {
 }
 
 // Start times of an open step after step 0, for a duration of the former.
-fn starts(duration: u32) -> Verdict {
+fn starts(duration: u32) -> u32 {
     let list = [0, duration];
     let mut times = [0u32; 2];
-    planner::starts(
+    let verdict = planner::starts(
         b"\x02\x01\x00\x01\x01\x01\x00\x01",
         false,
         &list,
         &mut times,
-    )
+    );
+    numbers::verdict_code(verdict)
 }
 
 // ---- the examples

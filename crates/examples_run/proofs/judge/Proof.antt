@@ -5,21 +5,21 @@ use borrow.Author.Needs.{needs}
 use Rattle.examples_run.proofs.judge.Statement.{statement}
 use Rattle.examples_run.proofs.judge.Tie as tie
 
-slice-aggregate-judge : tie.Need-slice-aggregate-judge
-slice-aggregate-judge c = sym (length-take-le _ _ (c .before .if1 .taken))
+slice-aggregate-judge-code : tie.Need-slice-aggregate-judge-code
+slice-aggregate-judge-code c = sym (length-take-le _ _ (c .before .if1 .taken))
 
-judge-requires : tie.Need-judge-requires
-judge-requires c κs = search needs
+judge-code-requires : tie.Need-judge-code-requires
+judge-code-requires c κs = search needs
 
 returns : tie.Need-returns
 returns c = search needs
 
-judge-requires-2 : tie.Need-judge-requires-2
-judge-requires-2 c κs = search needs
+judge-code-requires-2 : tie.Need-judge-code-requires-2
+judge-code-requires-2 c κs = search needs
 
 returns-2 : tie.Need-returns-2
 returns-2 c = search needs
 
 pub judge-spec : {M : Type 1} → statement M
 judge-spec =
-    tie.close (tie.spec slice-aggregate-judge judge-requires returns judge-requires-2 returns-2)
+    tie.close (tie.spec slice-aggregate-judge-code judge-code-requires returns judge-code-requires-2 returns-2)
