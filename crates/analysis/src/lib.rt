@@ -1,6 +1,7 @@
 // The analysis of a sheet's edges: its verdict and its waits, by the kernels in document 01's order of refusals. Words stand for edges, as in the crate edges.
 use definitions::Refusal;
 use definitions::Verdict;
+use definitions::WaitMaps;
 use forward_order::sort;
 ghost use mathlib.Core.Path.{_≡_};
 ghost use mathlib.Core.Bool.{true, false, cond};
@@ -18,13 +19,6 @@ ghost use Rattle.adjacency.specs.Lists.{Lists};
 ghost use Rattle.edges.specs.Words.{graph};
 ghost use Rattle.theory.specs.Graphs.{ForwardAcyclic, Gains, Shape, Well};
 ghost use Rattle.analysis.specs.Analysis.{Listed, Presumed, Unweighed, judge-order, judge-serial, judge-waits, whole};
-
-// The verdict, and the waits, bit a of map i, with their count: none on a refusal other than 12.
-pub struct WaitMaps {
-    pub verdict: Verdict,
-    pub maps: [u64; 64],
-    pub count: u32,
-}
 
 // Whether the edges pass 8 and 9, the verdict, and the count of the waits: the rest of an analysis is lent.
 pub struct Found {

@@ -87,6 +87,13 @@ pub enum Status {
     Refused(Refusal),
 }
 
+// The verdict, and the waits, bit a of map i, with their count: none on a refusal other than 12.
+pub struct WaitMaps {
+    pub verdict: Verdict,
+    pub maps: [u64; 64],
+    pub count: u32,
+}
+
 // A call of the dispatcher: a run of so many operations, with the map of those that are open, begins; the tick grows; an operation finishes.
 pub enum Call {
     Begin(usize, u64),

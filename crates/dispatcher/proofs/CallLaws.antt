@@ -3,7 +3,6 @@ use mathlib.Core.Path.{_≡_, refl, ap, ap₂, _∙_, subst}
 use mathlib.Core.Bool.{Bool, true, false, not, _||_}
 use mathlib.Core.List.{List}
 use Prim.Native.Nat.{ℕ, _*_, _^_, _≤_, _<_}
-use native.Mathlib.Nat.{mul-le-mul}
 use lib.Bits.{bitOr}
 use lib.Dec.{eqb, leb, ltb}
 use lib.ListN.{length, set}
@@ -46,10 +45,6 @@ count-high n h = rw (le-leb 1 n h) (go (leb n 64) refl)
 pub count-fits : (n : ℕ) → bad-count n ≡ false → n ≤ 64
 unfolding bad-count
 count-fits n h = leb-true n 64 (and-split (leb 1 n) (leb n 64) (not-false _ h) .1)
-
--- n × n is at most 4,096.
-pub square-small : (n : ℕ) → n ≤ 64 → n * n ≤ 4096
-square-small n h = mul-le-mul h h
 
 -- A table that is not refused 14.
 pub long-enough : (table : List ℕ) (size : ℕ) → too-short table size ≡ false → size ≤ length table

@@ -1,12 +1,17 @@
--- Sums over the numbers below n, and the lengths of selections and of lists made of lists as such sums.
+-- The square of a count of steps; sums over the numbers below n, and the lengths of selections and of lists made of lists as such sums.
 use mathlib.Core.Path.{_≡_, refl, sym, ap, _∙_}
 use mathlib.Core.Bool.{Bool, true, false, cond}
 use mathlib.Core.List.{List, [], _∷_, _++_, flatMap, append-assoc, append-nil}
 use Prim.Native.Nat.{ℕ, zero, suc, _+_, _*_, _<_, _≤_}
 use native.Mathlib.Omega.{arith}
+use native.Mathlib.Nat.{mul-le-mul}
 use native.Mathlib.Numerals.{add-one}
 use lib.ListN.{length, length-append}
 use Rattle.definitions.specs.Basics.{select-below, tabulate}
+
+-- n × n is at most 4,096 for at most 64 steps.
+pub square-small : (n : ℕ) → n ≤ 64 → n * n ≤ 4096
+square-small n h = mul-le-mul h h
 
 -- f 0 + f 1 + … + f (n - 1).
 unfoldable pub sum-below : (ℕ → ℕ) → ℕ → ℕ

@@ -18,10 +18,10 @@ use Rattle.definitions.specs.Waits.{wait-maps, wait-count}
 use Rattle.demands.specs.Demands.{Bytes}
 use Rattle.demands.proofs.Reading.{read-fits}
 use Rattle.demands.proofs.Planning.{offset-for}
+use Rattle.laws.proofs.Counts.{square-small}
 use Rattle.laws.proofs.Outcomes.{given-not-refused, given-same, refused-same, refuse-given, when-given-has, when-given-by}
 use Rattle.planner.specs.Answers.{Lists}
-use Rattle.analysis.specs.declared.WaitMaps.{WaitMaps}
-use Rattle.planning.proofs.Writing.{square-small}
+use Rattle.definitions.specs.declared.WaitMaps.{WaitMaps}
 use Rattle.printer.specs.Texts.{Printed, plan-text, refusal-text}
 use Rattle.printer.proofs.Listings.{standplan-plan, standplan-refusal, wait-maps-bits, written-plan}
 use Rattle.theory.proofs.PlanTables.{plan-table-length}

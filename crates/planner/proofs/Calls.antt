@@ -25,7 +25,7 @@ use Rattle.reader.specs.declared.Report.{Report}
 use Rattle.reader.proofs.Reports.{Found, report-given}
 use Rattle.operation_records.specs.Leaving.{unbounded-at}
 use Rattle.theory.specs.Graphs.{Gains, Shape}
-use Rattle.analysis.specs.declared.WaitMaps.{WaitMaps}
+use Rattle.definitions.specs.declared.WaitMaps.{WaitMaps}
 use Rattle.analysis.specs.Analysis.{Listed}
 use Rattle.planning.specs.Outcomes.{plan-outcome}
 use Rattle.timing.specs.Outcomes.{starts-outcome}

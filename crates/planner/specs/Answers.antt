@@ -3,7 +3,7 @@ use mathlib.Core.Path.{_≡_}
 use mathlib.Core.Bool.{Bool, true}
 use mathlib.Core.List.{List}
 use Prim.Native.Nat.{ℕ}
-use Rattle.analysis.specs.declared.WaitMaps.{WaitMaps}
+use Rattle.definitions.specs.declared.WaitMaps.{WaitMaps}
 use Rattle.definitions.specs.Answers.{Waits, judged, waits-answer}
 use Rattle.definitions.specs.Numbers.{verdict-of}
 

@@ -1,10 +1,10 @@
 // The planner's library over bytes: judging a sheet, listing its waits, planning it, working out start times. The crate rows has a row of a plan.
 // Each answer is that of the definitions, for every input.
-use analysis::WaitMaps;
 use analysis::analyse_edges;
 use definitions::Reading;
 use definitions::Refusal;
 use definitions::Verdict;
+use definitions::WaitMaps;
 use planning::plan_edges;
 use timing::starts_edges;
 ghost use mathlib.Core.Path.{_≡_};

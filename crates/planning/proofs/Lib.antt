@@ -1,2 +1,2 @@
 mod Overriding
-pub mod Writing
+mod Writing

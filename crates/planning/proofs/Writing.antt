@@ -3,8 +3,6 @@ use mathlib.Core.Path.{_≡_, refl, sym, ap, _∙_}
 use mathlib.Core.Bool.{Bool, true, false}
 use mathlib.Core.List.{List, _++_}
 use Prim.Native.Nat.{ℕ, _*_, _<_, _≤_}
-use native.Mathlib.Omega.{arith}
-use native.Mathlib.Nat.{le-trans, mul-le-mul-left}
 use lib.Dec.{ltb}
 use lib.ListN.{drop, length}
 use borrow.Author.Tests.{le-ltb, lt-ltb}
@@ -17,10 +15,6 @@ use Rattle.numbers.specs.Codes.{is-given}
 use Rattle.tabulation.proofs.Answers.{Answers, answered-refused, answered-written, when-fails, when-passes, when-refused}
 use Rattle.theory.proofs.PlanTables.{plan-table-length}
 use Rattle.planning.specs.Outcomes.{plan-outcome}
-
--- The square of a count fits.
-pub square-small : (n : ℕ) → n ≤ 64 → n * n ≤ 4096
-square-small n h = le-trans (mul-le-mul-left n h) (omega arith)
 
 module _ (n : ℕ) (g : List Edge) (allow : Bool) {o : Outcome ℕ} (judges : o ≡ judge-edges n g allow) (table : List ℕ) where
   abbrev plan : List ℕ

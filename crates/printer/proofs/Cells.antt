@@ -2,8 +2,7 @@
 use mathlib.Core.Path.{_≡_, refl, sym, _∙_}
 use mathlib.Core.Bool.{true, false}
 use mathlib.Core.List.{List, [], _∷_}
-use Prim.Native.Nat.{ℕ, _+_, _*_, _≤_, _<_}
-use native.Mathlib.Nat.{mul-le-mul}
+use Prim.Native.Nat.{ℕ, _+_, _*_, _<_}
 use lib.ListN.{getD}
 use lib.Arith.{digits-lt}
 use borrow.Author.Tests.{eq-eqb, ne-eqb}
@@ -45,9 +44,6 @@ module _ (n : ℕ) (table : List ℕ) (v a : ℕ) where
   unfolding start-cell
   start-absent h = sym (cond-true [] (start-line v a (cell-at n table v a)) (eq-eqb (cell-at n table v a) undecided h))
 
--- Number v × n + a lies in a table of n by n, of at most 4,096 numbers.
+-- Number v × n + a lies in a table of n by n.
 pub cell-below : (n v a : ℕ) → v < n → a < n → v * n + a < n * n
 cell-below n v a b c = digits-lt b c
-
-pub square-limit : (n : ℕ) → n ≤ 64 → n * n ≤ 4096
-square-limit n h = mul-le-mul h h

@@ -4,11 +4,12 @@ use mathlib.Core.Bool.{Bool, true, false, not, _&&_, _||_}
 use mathlib.Core.List.{List}
 use Prim.Native.Nat.{ℕ, suc, _+_, _-_, _*_, _≤_, _<_}
 use native.Mathlib.Omega.{arith}
-use native.Mathlib.Nat.{mul-le-mul, mul-le-mul-right, suc-mul, add-sub-cancel-left}
+use native.Mathlib.Nat.{mul-le-mul-right, suc-mul, add-sub-cancel-left}
 use native.Mathlib.Numerals.{add-one}
 use lib.Dec.{leb}
 use lib.ListN.{length, getD, take, drop, length-take, length-drop}
 use borrow.Author.Tests.{eq-eqb, ne-eqb}
+use Rattle.laws.proofs.Counts.{square-small}
 use Rattle.definitions.specs.Basics.{any-below, all-below, test-bit}
 use Rattle.definitions.specs.Plan.{undecided, row-part}
 use Rattle.laws.proofs.Bools.{both-ways, not-passing}
@@ -102,7 +103,7 @@ row-length table n v h k = simp (length-take, length-drop) (omega (arith, row-in
 
 -- A row ends below 4,096.
 pub row-small : (n v : ℕ) → n ≤ 64 → v < n → v * n + n ≤ 4096
-row-small n v h k = row-inside n v 4096 k (mul-le-mul h h)
+row-small n v h k = row-inside n v 4096 k (square-small n h)
 
 -- The part of the table that the code lends is the row.
 pub ready-part : (started finished : ℕ) (finish : List ℕ) (clock : ℕ) (table : List ℕ) (n v : ℕ) → test-bit started v ≡ false → v < n → n * n ≤ length table → row-ready finished finish clock (take (v * n + n - v * n) (drop (v * n) table)) (length (take (v * n + n - v * n) (drop (v * n) table))) ≡ ready-in started finished finish clock table n v

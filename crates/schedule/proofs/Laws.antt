@@ -76,9 +76,6 @@ row-filled d sets n v map row row′ h fits clear P =
 pub row-place : (v n : ℕ) → v < n → v * n + n ≤ n * n
 row-place v n h = let g : suc v * n ≤ n * n = mul-le-mul h (le-refl n) in omega (arith, suc-mul v n)
 
-pub table-size : (n : ℕ) → n ≤ 64 → n * n ≤ 4096
-table-size n h = mul-le-mul h h
-
 -- ---- a row at a time
 
 module _ (d : List (List ℕ)) (sets : List ℕ) (n : ℕ) where

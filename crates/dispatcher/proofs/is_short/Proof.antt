@@ -1,6 +1,6 @@
 -- n × n is at most 4,096, so it fits. Assumes nothing.
 use Rattle.definitions.specs.Answers.{too-short}
-use Rattle.dispatcher.proofs.CallLaws.{square-small}
+use Rattle.laws.proofs.Counts.{square-small}
 use borrow.Author.Needs.{needs}
 use native.Mathlib.Omega.{arith}
 use Rattle.dispatcher.proofs.is_short.Statement.{statement}

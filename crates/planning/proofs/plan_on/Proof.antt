@@ -7,7 +7,8 @@ use denote.Ref.{now}
 use Rattle.irredundant.proofs.Laws.{member-below}
 use Rattle.theory.proofs.Plans.{plan-posed, plan-well}
 use Rattle.planning.proofs.Overriding.{holds-orderly}
-use Rattle.planning.proofs.Writing.{plan-refused, plan-short, plan-written, square-small}
+use Rattle.laws.proofs.Counts.{square-small}
+use Rattle.planning.proofs.Writing.{plan-refused, plan-short, plan-written}
 use Rattle.planning.proofs.plan_on.Statement.{statement}
 use Rattle.planning.proofs.plan_on.Tie as tie
 

@@ -2,20 +2,21 @@
 use mathlib.Core.Path.{ap}
 use native.Mathlib.Omega.{arith}
 use lib.ListN.{length}
-use Rattle.printer.proofs.Cells.{start-stands, start-absent, cell-below, square-limit}
+use Rattle.laws.proofs.Counts.{square-small}
+use Rattle.printer.proofs.Cells.{start-stands, start-absent, cell-below}
 use Rattle.lines.proofs.Writing.{put-as, put-none}
 use borrow.Author.Needs.{needs}
 use Rattle.printer.proofs.put_start_at.Statement.{statement}
 use Rattle.printer.proofs.put_start_at.Tie as tie
 
 mul-ticks : tie.Need-mul-ticks
-mul-ticks c = omega (arith, cell-below (c .before .before .args .n) (c .before .before .args .v) (c .before .before .args .a) (omega arith) (omega arith), square-limit (c .before .before .args .n) (omega arith))
+mul-ticks c = omega (arith, cell-below (c .before .before .args .n) (c .before .before .args .v) (c .before .before .args .a) (omega arith) (omega arith), square-small (c .before .before .args .n) (omega arith))
 
 add-ticks : tie.Need-add-ticks
-add-ticks c = omega (arith, cell-below (c .before .before .args .n) (c .before .before .args .v) (c .before .before .args .a) (omega arith) (omega arith), square-limit (c .before .before .args .n) (omega arith))
+add-ticks c = omega (arith, cell-below (c .before .before .args .n) (c .before .before .args .v) (c .before .before .args .a) (omega arith) (omega arith), square-small (c .before .before .args .n) (omega arith))
 
 mul-ticks-2 : tie.Need-mul-ticks-2
-mul-ticks-2 c = omega (arith, cell-below (c .before .before .args .n) (c .before .before .args .v) (c .before .before .args .a) (omega arith) (omega arith), square-limit (c .before .before .args .n) (omega arith))
+mul-ticks-2 c = omega (arith, cell-below (c .before .before .args .n) (c .before .before .args .v) (c .before .before .args .a) (omega arith) (omega arith), square-small (c .before .before .args .n) (omega arith))
 
 shared-slice-read-ticks : tie.Need-shared-slice-read-ticks
 shared-slice-read-ticks c = omega (arith, cell-below (c .before .before .before .args .n) (c .before .before .before .args .v) (c .before .before .before .args .a) (omega arith) (omega arith))

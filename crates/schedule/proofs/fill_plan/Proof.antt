@@ -7,7 +7,8 @@ use Prim.Native.Nat.{ℕ, _+_, _*_, _-_, _≤_, _<_}
 use lib.ListN.{length, drop, length-take, length-drop}
 use Rattle.irredundant.specs.Working.{Orderly}
 use Rattle.schedule.specs.Rows.{first-rows}
-use Rattle.schedule.proofs.Laws.{clear-length, first-rows-more, first-rows-none, planned, row-clear, row-place, table-size}
+use Rattle.laws.proofs.Counts.{square-small}
+use Rattle.schedule.proofs.Laws.{clear-length, first-rows-more, first-rows-none, planned, row-clear, row-place}
 use Rattle.schedule.proofs.fill_plan.Statement.{statement}
 use Rattle.schedule.proofs.fill_plan.Tie as tie
 use Rattle.schedule.proofs.fill_plan.Reads as reads
@@ -22,10 +23,10 @@ abbrev μ-loop : tie.MeasureT-loop
 μ-loop d sets n table₀ v₀ table v = n - v
 
 in-table : (c : tie.In-loop Inv-loop μ-loop) → (c .before .loop .v * c .before .before .before .before .before .before .before .args .n + c .before .before .before .before .before .before .before .args .n ≤ c .before .before .before .before .before .before .before .args .n * c .before .before .before .before .before .before .before .args .n) × (c .before .before .before .before .before .before .before .args .n * c .before .before .before .before .before .before .before .args .n ≤ 4096) × (c .before .before .before .before .before .before .before .args .n * c .before .before .before .before .before .before .before .args .n ≤ length (c .before .loop .table))
-in-table c = (row-place _ _ (omega arith), table-size _ (omega arith), omega (arith, c .before .loop .inv .1, clear-length _ _ _ (c .before .before .before .before .before .before .before .pre .3) (c .before .before .before .before .clear .ensures), c .before .before .before .before .before .before .before .pre .3))
+in-table c = (row-place _ _ (omega arith), square-small _ (omega arith), omega (arith, c .before .loop .inv .1, clear-length _ _ _ (c .before .before .before .before .before .before .before .pre .3) (c .before .before .before .before .clear .ensures), c .before .before .before .before .before .before .before .pre .3))
 
 mul-clear : tie.Need-mul-clear Inv-loop μ-loop
-mul-clear c = omega (arith, table-size _ (c .before .pre .0))
+mul-clear c = omega (arith, square-small _ (c .before .pre .0))
 
 clear-requires : tie.Need-clear-requires Inv-loop μ-loop
 clear-requires c κs = c .before .before .pre .3
