@@ -1,6 +1,6 @@
 /* Judges, plans and runs a sheet, each of its open steps lasting TICKS ticks: stand SHEET TICKS
  *
- *     tools/library && cc -std=c11 -I include examples/stand.c target/staticlib/libboundary.a -o target/stand
+ *     tools/library && cc -std=c11 -I include examples/stand.c target/staticlib/libstandplan.a -o target/stand
  */
 #include <stdio.h>
 #include <stdlib.h>

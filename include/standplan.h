@@ -1,4 +1,4 @@
-/* The verified stand planner, for C. Link target/staticlib/libboundary.a, which `rt staticlib boundary` writes (x86-64 Linux).
+/* The verified stand planner, for C. Link target/staticlib/libstandplan.a, which tools/library writes (x86-64 Linux).
  *
  * A verdict is one number: 0, the sheet is sound; 1, it is sound with waits; 256 + k, it is refused by refusal k (docs/REFUSALS.md).
  * Every input is answered; no call allocates, keeps a pointer, or has a state of its own.

@@ -149,7 +149,7 @@ fn put_listed(code: u32, maps: &[u64; 64], count: u32, out: &mut [u8], at: usize
 }
 
 fn put_waits(s: &[u8], out: &mut [u8], at: usize) -> usize {
-    let listed = planner::waits(s);
+    let listed = judging::waits(s);
     let verdict = listed.verdict;
     let maps = listed.maps;
     put_listed(numbers::verdict_code(verdict), &maps, listed.count, out, at)
@@ -157,7 +157,7 @@ fn put_waits(s: &[u8], out: &mut [u8], at: usize) -> usize {
 
 // The numbers of verdicts.
 fn judge_code(s: &[u8], allow: bool) -> u32 {
-    numbers::verdict_code(planner::judge(s, allow))
+    numbers::verdict_code(judging::judge(s, allow))
 }
 
 fn plan_code(s: &[u8], table: &mut [u32]) -> u32 {

@@ -79,7 +79,7 @@ fn put_all_links(n: u8, s: &mut [u8], at: usize) -> usize {
 
 // Judges a sheet: the number of its verdict.
 fn judge_code(s: &[u8]) -> u32 {
-    numbers::verdict_code(planner::judge(s, false))
+    numbers::verdict_code(judging::judge(s, false))
 }
 
 // Judges the first `size` bytes.

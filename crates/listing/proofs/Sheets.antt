@@ -20,7 +20,7 @@ use Rattle.demands.proofs.Reading.{read-fits}
 use Rattle.demands.proofs.Planning.{offset-for}
 use Rattle.laws.proofs.Counts.{square-small}
 use Rattle.laws.proofs.Outcomes.{given-not-refused, given-same, refused-same, refuse-given, when-given-has, when-given-by}
-use Rattle.planner.specs.Answers.{Lists}
+use Rattle.judging.specs.Answers.{Lists}
 use Rattle.definitions.specs.declared.WaitMaps.{WaitMaps}
 use Rattle.printer.specs.Texts.{Printed, plan-text, refusal-text}
 use Rattle.printer.proofs.Listings.{standplan-plan, standplan-refusal, wait-maps-bits, written-plan}

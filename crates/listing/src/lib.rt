@@ -28,7 +28,7 @@ fn print_accepted(s: &[u8], verdict: u32, table: &[u32], out: &mut [u8]) -> usiz
     requires { ⌜ Plans (now s) verdict (now table) × (plan-room ≤ length (now out)) ⌝ }
     ensures { λ r. ⌜ Printed (standplan (now (s .entry))) r (now (out .entry)) (now (out .exit)) ⌝ }
 {
-    let listed = planner::waits(s);
+    let listed = judging::waits(s);
     let maps = listed.maps;
     let count = listed.count;
     let n = first_byte(s);

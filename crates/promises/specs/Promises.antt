@@ -19,7 +19,7 @@ use Rattle.definitions.specs.declared.Verdict.{Verdict}
 use Rattle.demands.specs.Demands.{DecidingFor, IsSheet, KeepsLinks, NoLateLinks, NoRival, NoStarts, OffsetFor, SomeListLeavesNone, WellFormed, in-start-set, sheet-decides, sheet-offset, sheet-waits, wait-link}
 use Rattle.theory.specs.Counts.{standing-bits}
 use Rattle.definitions.specs.declared.WaitMaps.{WaitMaps}
-use Rattle.planner.specs.Answers.{Lists}
+use Rattle.judging.specs.Answers.{Lists}
 
 -- ## What the functions return
 

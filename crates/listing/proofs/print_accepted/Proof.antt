@@ -12,7 +12,7 @@ use Rattle.listing.proofs.print_accepted.Tie as tie
 use Rattle.listing.proofs.print_accepted.Reads as reads
 use Rattle.listing.proofs.print_accepted.Lts as lts
 use Rattle.listing.proofs.first_byte.Reads as first-byte-reads
-use Rattle.planner.proofs.waits.Reads as waits-reads
+use Rattle.judging.proofs.waits.Reads as waits-reads
 use Rattle.printer.proofs.print_plan.Reads as print-plan-reads
 
 waits-requires : tie.Need-waits-requires

@@ -3,7 +3,7 @@ use mathlib.Core.Path.{sym, ap, _∙_}
 use native.Mathlib.Omega.{arith}
 use denote.Ref.{now}
 use Rattle.definitions.specs.Numbers.{verdict-of}
-use Rattle.planner.proofs.Calls.{bytes-by}
+use Rattle.judging.proofs.Held.{bytes-by}
 use Rattle.printer.specs.Texts.{refusal-text}
 use Rattle.listing.proofs.Sheets.{plan-plans, plan-refuses, printed-as}
 use borrow.Author.Needs.{needs}

@@ -4,8 +4,8 @@ use lib.Seq.{length-take-le}
 use denote.Ref.{now}
 use borrow.Author.Needs.{needs}
 use Rattle.reader.proofs.Reports.{report-refused}
-use Rattle.planner.proofs.Held.{held-gains, held-shape, held-within}
-use Rattle.planner.proofs.Calls.{Whole, whole, plan-given, plan-refused, sheet-planned}
+use Rattle.judging.proofs.Held.{Whole, held-gains, held-shape, held-within, whole}
+use Rattle.planner.proofs.Calls.{plan-given, plan-refused, sheet-planned}
 use Rattle.planner.proofs.plan_with.Statement.{statement}
 use Rattle.planner.proofs.plan_with.Tie as tie
 

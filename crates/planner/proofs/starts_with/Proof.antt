@@ -4,8 +4,8 @@ use lib.Seq.{length-take-le}
 use denote.Ref.{now}
 use borrow.Author.Needs.{needs}
 use Rattle.reader.proofs.Reports.{report-refused}
-use Rattle.planner.proofs.Held.{held-gains, held-shape, held-within}
-use Rattle.planner.proofs.Calls.{Whole, whole, starts-given, starts-refused, sheet-started}
+use Rattle.judging.proofs.Held.{Whole, held-gains, held-shape, held-within, whole}
+use Rattle.planner.proofs.Calls.{starts-given, starts-refused, sheet-started}
 use Rattle.planner.proofs.starts_with.Statement.{statement}
 use Rattle.planner.proofs.starts_with.Tie as tie
 
