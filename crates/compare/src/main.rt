@@ -53,16 +53,11 @@ fn read_entries(list: &mut [u32]) {
     }
 }
 
-// The end of a line.
-fn end_line(out: &mut [u8], at: usize) -> usize {
-    console::put_word(b"\n", out, at)
-}
-
-// Lines of a word and a verdict, by its number.
-fn put_line(word: &[u8], code: u32, out: &mut [u8], at: usize) -> usize {
-    let p = console::put_word(word, out, at);
-    let q = console::put_code(code, out, p);
-    end_line(out, q)
+// A line of a word and a verdict, by its number.
+fn write_verdict(word: &[u8], code: u32) {
+    console::write(word);
+    console::write_code(code);
+    console::write(b"\n");
 }
 
 // 1 where two numbers are equal, else 0.
@@ -87,228 +82,153 @@ fn occurrences(x: u32, numbers: &[u32]) -> u64 {
 }
 
 // A place and its number, but for 4,294,967,295 and the number that was lent.
-fn put_place(i: usize, x: u32, out: &mut [u8], at: usize) -> usize {
+fn write_place(i: usize, x: u32) {
     if x < 4294967294 {
-        let p = console::put_number(i as u64, out, at);
-        return console::put_number(x as u64, out, p);
+        console::write_number(i as u64);
+        console::write_number(x as u64);
     }
-    at
 }
 
-fn put_places(numbers: &[u32], out: &mut [u8], at: usize) -> usize {
-    let mut p = at;
+fn write_places(numbers: &[u32]) {
     let mut i = 0;
     while i < numbers.len() {
-        p = put_place(i, numbers[i], out, p);
+        write_place(i, numbers[i]);
         i += 1;
     }
-    p
 }
 
 // Lent numbers after a call: each place that holds an answer, how many places hold 4,294,967,295, and how many are as they were lent.
-fn put_numbers(numbers: &[u32], out: &mut [u8], at: usize) -> usize {
-    let p = console::put_word(b"numbers", out, at);
-    let q = put_places(numbers, out, p);
-    let undecided = occurrences(4294967295, numbers);
-    let r = console::put_word(b" undecided", out, q);
-    let s = console::put_number(undecided, out, r);
-    let lent = occurrences(4294967294, numbers);
-    let t = console::put_word(b" lent", out, s);
-    let u = console::put_number(lent, out, t);
-    end_line(out, u)
+fn write_numbers(numbers: &[u32]) {
+    console::write(b"numbers");
+    write_places(numbers);
+    console::write(b" undecided");
+    console::write_number(occurrences(4294967295, numbers));
+    console::write(b" lent");
+    console::write_number(occurrences(4294967294, numbers));
+    console::write(b"\n");
 }
 
 // A map of waits, where it is not empty.
-fn put_map(i: usize, map: u64, out: &mut [u8], at: usize) -> usize {
-    if map == 0 {
-        return at;
+fn write_map(i: usize, map: u64) {
+    if 0 < map {
+        console::write(b"map");
+        console::write_number(i as u64);
+        console::write_number(map);
+        console::write(b"\n");
     }
-    let p = console::put_word(b"map", out, at);
-    let q = console::put_number(i as u64, out, p);
-    let r = console::put_number(map, out, q);
-    end_line(out, r)
 }
 
-fn put_maps(maps: &[u64; 64], out: &mut [u8], at: usize) -> usize {
-    let mut p = at;
+fn write_maps(maps: &[u64; 64]) {
     let mut i = 0;
     while i < 64 {
-        p = put_map(i, maps[i], out, p);
+        write_map(i, maps[i]);
         i += 1;
     }
-    p
 }
 
 // What listing waits hands back.
-fn put_listed(code: u32, maps: &[u64; 64], count: u32, out: &mut [u8], at: usize) -> usize {
-    let p = console::put_word(b"waits", out, at);
-    let q = console::put_code(code, out, p);
-    let r = console::put_number(count as u64, out, q);
-    let t = end_line(out, r);
-    put_maps(maps, out, t)
+fn write_listed(code: u32, maps: &[u64; 64], count: u32) {
+    console::write(b"waits");
+    console::write_code(code);
+    console::write_number(count as u64);
+    console::write(b"\n");
+    write_maps(maps);
 }
 
-fn put_waits(s: &[u8], out: &mut [u8], at: usize) -> usize {
+fn write_waits(s: &[u8]) {
     let listed = judging::waits(s);
     let verdict = listed.verdict;
     let maps = listed.maps;
-    put_listed(numbers::verdict_code(verdict), &maps, listed.count, out, at)
+    write_listed(numbers::verdict_code(verdict), &maps, listed.count);
 }
 
-// The numbers of verdicts.
 fn judge_code(s: &[u8], allow: bool) -> u32 {
     numbers::verdict_code(judging::judge(s, allow))
 }
 
-fn plan_code(s: &[u8], table: &mut [u32]) -> u32 {
-    numbers::verdict_code(planner::plan(s, true, table))
-}
-
-fn starts_code(s: &[u8], allow: bool, list: &[u32], times: &mut [u32]) -> u32 {
-    numbers::verdict_code(planner::starts(s, allow, list, times))
-}
-
-fn put_judgements(s: &[u8], out: &mut [u8], at: usize) -> usize {
-    let strict = judge_code(s, false);
-    let p = put_line(b"judge 0", strict, out, at);
-    let free = judge_code(s, true);
-    put_line(b"judge 1", free, out, p)
+fn write_judgements(s: &[u8]) {
+    write_verdict(b"judge 0", judge_code(s, false));
+    write_verdict(b"judge 1", judge_code(s, true));
 }
 
 // The plan, into the table that is lent.
-fn put_plan_into(s: &[u8], table: &mut [u32], out: &mut [u8], at: usize) -> usize {
-    let code = plan_code(s, table);
-    let p = put_line(b"plan", code, out, at);
-    put_numbers(table, out, p)
+fn write_plan_into(s: &[u8], table: &mut [u32]) {
+    let code = numbers::verdict_code(planner::plan(s, true, table));
+    write_verdict(b"plan", code);
+    write_numbers(table);
 }
 
-// The same, into the first `length` numbers.
-fn put_plan_in(s: &[u8], table: &mut [u32], length: usize, out: &mut [u8], at: usize) -> usize {
-    if length <= table.len() {
-        return put_plan_into(s, &mut table[..length], out, at);
-    }
-    at
-}
-
-fn put_plan(s: &[u8], out: &mut [u8], at: usize) -> usize {
+// The same, into as many of 4,096 numbers as the input says.
+fn write_plan(s: &[u8]) {
     let mut table = [4294967294u32; 4096];
     let length = read_number();
-    put_plan_in(s, &mut table, length, out, at)
+    if length <= 4096 {
+        write_plan_into(s, &mut table[..length]);
+    }
 }
 
 // The start times for the list that the input has next, into the list that is lent for them.
-fn put_starts_into(
-    s: &[u8],
-    allow: bool,
-    list: &mut [u32],
-    times: &mut [u32],
-    out: &mut [u8],
-    at: usize,
-) -> usize {
+fn write_starts_into(s: &[u8], allow: bool, list: &mut [u32], times: &mut [u32]) {
     read_entries(list);
-    let code = starts_code(s, allow, list, times);
-    let p = put_line(b"starts", code, out, at);
-    put_numbers(times, out, p)
+    let code = numbers::verdict_code(planner::starts(s, allow, list, times));
+    write_verdict(b"starts", code);
+    write_numbers(times);
 }
 
-// The same, into the first `length` numbers.
-fn put_starts_in(
-    s: &[u8],
-    allow: bool,
-    list: &mut [u32],
-    times: &mut [u32],
-    length: usize,
-    out: &mut [u8],
-    at: usize,
-) -> usize {
-    if length <= times.len() {
-        return put_starts_into(s, allow, list, &mut times[..length], out, at);
-    }
-    at
-}
-
-// The same, for a list of so many entries.
-fn put_starts_from(
-    s: &[u8],
-    allow: bool,
-    list: &mut [u32],
-    entries: usize,
-    length: usize,
-    out: &mut [u8],
-    at: usize,
-) -> usize {
-    let mut times = [4294967294u32; 128];
-    if entries <= list.len() {
-        return put_starts_in(s, allow, &mut list[..entries], &mut times, length, out, at);
-    }
-    at
-}
-
-fn put_starts(s: &[u8], out: &mut [u8], at: usize) -> usize {
+// The same, for as many entries and into as many numbers as the input says.
+fn write_starts(s: &[u8]) {
     let mut list = [0u32; 128];
+    let mut times = [4294967294u32; 128];
     let allow = read_byte();
     let entries = read_number();
     let length = read_number();
-    put_starts_from(s, allow == 1, &mut list, entries, length, out, at)
+    if entries <= 128 && length <= 128 {
+        write_starts_into(s, allow == 1, &mut list[..entries], &mut times[..length]);
+    }
 }
 
-fn put_lists(s: &[u8], out: &mut [u8], at: usize) -> usize {
+fn write_lists(s: &[u8]) {
     let lists = read_byte();
-    let mut p = at;
     let mut i = 0;
     while i < lists {
-        p = put_starts(s, out, p);
+        write_starts(s);
         i += 1;
     }
-    p
 }
 
 // The answers for a sheet.
-fn put_answers(s: &[u8], out: &mut [u8], at: usize) -> usize {
-    let p = console::put_word(b"sheet", out, at);
-    let q = console::put_number(s.len() as u64, out, p);
-    let r = end_line(out, q);
-    let t = put_judgements(s, out, r);
-    let u = put_waits(s, out, t);
-    let v = put_plan(s, out, u);
-    put_lists(s, out, v)
+fn write_answers(s: &[u8]) {
+    console::write(b"sheet");
+    console::write_number(s.len() as u64);
+    console::write(b"\n");
+    write_judgements(s);
+    write_waits(s);
+    write_plan(s);
+    write_lists(s);
 }
 
-// Reads a sheet into the bytes that are lent, and prints the answers for it.
-fn put_sheet_into(bytes: &mut [u8], out: &mut [u8], at: usize) -> usize {
+// Reads a sheet into the bytes that are lent, and writes the answers for it.
+fn write_sheet_into(bytes: &mut [u8]) {
     let got = io::read_full(libc::STDIN_FILENO, bytes);
-    if got < bytes.len() {
-        return at;
+    if got == bytes.len() {
+        write_answers(bytes);
     }
-    put_answers(bytes, out, at)
 }
 
-fn put_sheet_in(bytes: &mut [u8], size: usize, out: &mut [u8], at: usize) -> usize {
-    if size <= bytes.len() {
-        return put_sheet_into(&mut bytes[..size], out, at);
-    }
-    at
-}
-
-fn put_sheet(size: usize, out: &mut [u8], at: usize) -> usize {
+fn write_sheet(size: usize) {
     let mut bytes = [0u8; 8192];
-    put_sheet_in(&mut bytes, size, out, at)
+    if size <= 8192 {
+        write_sheet_into(&mut bytes[..size]);
+    }
 }
 
 // Sheets to the end of the input. Nothing says that an input ends, so the loop counts its turns down, from a number that no run uses up.
-fn run(out: &mut [u8]) {
-    let mut at = 0;
+fn main() {
     let mut turns = u64::MAX;
     let mut size = read_number();
     while 0 < turns && size <= 8192 {
-        at = put_sheet(size, out, at);
+        write_sheet(size);
         size = read_number();
         turns -= 1;
     }
-    console::flush(out, at);
-}
-
-fn main() {
-    let mut out = io::large_buffer();
-    run(&mut out);
 }

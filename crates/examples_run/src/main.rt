@@ -2,21 +2,15 @@
 ghost use Prim.Native.Nat.{_<_};
 
 // The line of an example: its name, its number, what was answered, and whether document 01 says so.
-fn put_example(
-    name: &[u8],
-    number: u64,
-    answer: u32,
-    expected: u32,
-    out: &mut [u8],
-    at: usize,
-) -> usize {
-    let p = console::put_word(name, out, at);
-    let q = console::put_number(number, out, p);
-    let r = console::put_code(answer, out, q);
+fn write_example(name: &[u8], number: u64, answer: u32, expected: u32) {
+    console::write(name);
+    console::write_number(number);
+    console::write_code(answer);
     if answer == expected {
-        return console::put_word(b" as expected\n", out, r);
+        console::write(b" as expected\n");
+    } else {
+        console::write(b" DIFFERS\n");
     }
-    console::put_word(b" DIFFERS\n", out, r)
 }
 
 // ---- sheets
@@ -123,25 +117,11 @@ fn starts(duration: u32) -> u32 {
 
 // ---- the examples
 
-fn put_limits(out: &mut [u8], at: usize) -> usize {
-    let p = put_example(b"N", 64, judge_steps(64), 0, out, at);
-    let q = put_example(b"N", 65, judge_steps(65), 258, out, p);
-    let r = put_example(b"R", 512, judge_links(0, 2, 1572), 0, out, q);
-    put_example(b"R", 513, judge_links(1, 2, 1575), 259, out, r)
-}
-
-fn put_durations(out: &mut [u8], at: usize) -> usize {
-    let p = put_example(b"duration", 16777215, starts(16777215), 0, out, at);
-    put_example(b"duration", 16777216, starts(16777216), 269, out, p)
-}
-
-fn run(out: &mut [u8]) {
-    let p = put_limits(out, 0);
-    let q = put_durations(out, p);
-    console::flush(out, q);
-}
-
 fn main() {
-    let mut out = io::buffer();
-    run(&mut out);
+    write_example(b"N", 64, judge_steps(64), 0);
+    write_example(b"N", 65, judge_steps(65), 258);
+    write_example(b"R", 512, judge_links(0, 2, 1572), 0);
+    write_example(b"R", 513, judge_links(1, 2, 1575), 259);
+    write_example(b"duration", 16777215, starts(16777215), 0);
+    write_example(b"duration", 16777216, starts(16777216), 269);
 }

@@ -1,15 +1,13 @@
--- `compare::run` is safe and ends.
-use mathlib.Core.Path.{_≡_}
-use lib.ListN.{length}
+-- `compare::main` is safe and ends.
 use borrow.Author.Needs.{needs}
-use Rattle.compare.proofs.run.Statement.{statement}
-use Rattle.compare.proofs.run.Tie as tie
+use Rattle.compare.proofs.main.Statement.{statement}
+use Rattle.compare.proofs.main.Tie as tie
 
 abbrev Inv-loop : tie.InvT-loop
-Inv-loop out₀ at₀ turns₀ size₀ out at turns size = length out₀ ≡ length out
+Inv-loop turns₀ size₀ turns size = Unit {0}
 
 abbrev μ-loop : tie.MeasureT-loop
-μ-loop out₀ at₀ turns₀ size₀ out at turns size = turns
+μ-loop turns₀ size₀ turns size = turns
 
 read-number-requires : tie.Need-read-number-requires Inv-loop μ-loop
 read-number-requires c κs = search needs
@@ -17,8 +15,8 @@ read-number-requires c κs = search needs
 loop-holds : tie.Need-loop-holds Inv-loop μ-loop
 loop-holds c = search needs
 
-put-sheet-requires : tie.Need-put-sheet-requires Inv-loop μ-loop
-put-sheet-requires c κs = search needs
+write-sheet-requires : tie.Need-write-sheet-requires Inv-loop μ-loop
+write-sheet-requires c κs = search needs
 
 read-number-requires-2 : tie.Need-read-number-requires-2 Inv-loop μ-loop
 read-number-requires-2 c κs = search needs
@@ -32,28 +30,24 @@ loop-less c = search needs
 loop-again : tie.Need-loop-again Inv-loop μ-loop
 loop-again c = search needs
 
-flush-requires : tie.Need-flush-requires Inv-loop μ-loop
-flush-requires c κs = search needs
-
-same-length : tie.Need-same-length Inv-loop μ-loop
-same-length c = search needs
-
 returns : tie.Need-returns Inv-loop μ-loop
 returns c = search needs
 
-pub run-spec : {M : Type 1} → statement M
-run-spec =
+returns-2 : tie.Need-returns-2 Inv-loop μ-loop
+returns-2 c = search needs
+
+pub main-spec : {M : Type 1} → statement M
+main-spec =
     tie.close
     (tie.spec
     Inv-loop
     μ-loop
     read-number-requires
     loop-holds
-    put-sheet-requires
+    write-sheet-requires
     read-number-requires-2
     sub-turns
     loop-less
     loop-again
-    flush-requires
-    same-length
-    returns)
+    returns
+    returns-2)

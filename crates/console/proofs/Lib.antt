@@ -1,3 +1,0 @@
-mod Codes
-pub mod Buffering
-pub mod Digits
