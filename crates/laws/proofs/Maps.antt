@@ -8,7 +8,7 @@ use native.Mathlib.Omega.{arith}
 use native.Mathlib.Nat.{div-lt-iff-lt-mul, pow-suc, one-mul, div-eq-of-lt, lt-of-lt-of-le, not-suc-le-zero, mod-eq-of-lt, mod-lt}
 use lib.Arith.{digits-mod}
 use lib.Pow.{pow-lt, pow-pos, pow-mono, pow-add, shl-shr, shl-exact, shr-shr, mod-pow-add}
-use lib.Bits.{bitAnd, bitOr, or-shr, and-shr, or-step, and-step, or-add-and}
+use lib.Bits.{bitAnd, bitOr, or-shr, and-shr, or-step, and-step, or-add-and, and-le-l, and-le-r}
 use lib.Count.{ones, ones-cat, leadingZeros, leading-top, trailingZeros, under}
 use lib.Dec.{eqb, ltb}
 use lib.ListN.{length, length-append}
@@ -183,6 +183,10 @@ same-map a b h =
     let l : a + b < 2 ^ (a + b) = below-pow (a + b) in same-below (a + b) a b (omega arith) (omega arith) (λ k _. h k)
 
 -- ---- the map of the numbers that pass a test
+
+-- A union is at least as large as its parts.
+pub or-above : (a b : ℕ) → (a ≤ bitOr a b) × (b ≤ bitOr a b)
+or-above a b = (omega (arith, or-add-and a b, and-le-r a b), omega (arith, or-add-and a b, and-le-l a b))
 
 -- The sum of two maps that share no member is their union: union and intersection add up to the sum, and the intersection is empty.
 pub add-is-union : (a b : ℕ) → ((k : ℕ) → (test-bit a k && test-bit b k) ≡ false) → a + b ≡ bitOr a b

@@ -24,21 +24,9 @@ pub record Ready (row : List ℕ) (width top : ℕ) : Type 0 where
   pub clear : (k : ℕ) → k < width → Clear (getD row k 0)
   pub tops : (k : ℕ) → k < width → getD row k 0 ≤ 1073741824 + top
 
--- They say what the cells of a row of the table say, those of small weights. `bound` is no less than any of them.
-pub record Taken (cells row : List ℕ) (width bound : ℕ) : Type 0 where
-  pub long : length row ≡ 64
-  pub clear : (k : ℕ) → k < width → Clear (getD row k 0)
-  pub bounds : (k : ℕ) → k < width → getD row k 0 ≤ bound
-  pub same : (k : ℕ) → k < width → getD cells k 0 < 2147483648 → value (getD row k 0) ≡ value (getD cells k 0)
-
 -- What they say; those beyond hand on nothing.
 abbrev pub lent : List ℕ → ℕ → ℕ → ℕ
 lent row width k = cond (ltb k width) (value (getD row k 0)) 0
-
--- From `own` on no cell below `width` holds a weight.
-pub record Trimmed (cells : List ℕ) (width own : ℕ) : Type 0 where
-  pub fits : own ≤ 64
-  pub none : (k : ℕ) → own ≤ k → k < width → getD cells k 0 < 1073741824
 
 -- What a cell of a small weight has to rise by to be the larger of itself and c: nothing where c lies a little below 2³², for a number below 0. And a cell that rose so.
 pub record Above (old c by : ℕ) : Type 0 where

@@ -145,13 +145,6 @@ fn counted_gain(w: u64) -> u64
     if is_counted(w) { gain } else { 0 }
 }
 
-// A number that is at least as large as both.
-fn either(a: u64, b: u64) -> u64
-    ensures { λ r. ⌜ (a ≤ r) × (b ≤ r) ⌝ }
-{
-    a | b
-}
-
 // Whether a counted edge gains, as few do. The loop has no branch, so that the compiler makes vectors of it.
 fn begins_some(es: &[u64]) -> bool
     ensures { λ r. ⌜ (r ≡ false → Idle (now (es .entry)) (length (now (es .entry)))) ⌝ }
@@ -160,7 +153,7 @@ fn begins_some(es: &[u64]) -> bool
     let mut k = 0;
     while k < es.len() {
         let gain = counted_gain(es[k]);
-        all = either(all, gain);
+        all = all | gain;
         k += 1;
     }
     all != 0

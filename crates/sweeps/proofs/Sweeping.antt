@@ -20,7 +20,8 @@ use Rattle.theory.proofs.Relaxation.{extend-mono}
 use Rattle.theory.proofs.RowLaws.{extend-none, extend-some}
 use Rattle.lifting.specs.Tables.{Square}
 use Rattle.relaxation.specs.Columns.{Bounds, Covered, Handed, HandedAll, Sought, Swept, Under, WaitsFor, column}
-use Rattle.lifting.specs.Lifts.{Taken, Trimmed, lent}
+use Rattle.lifting.specs.Lifts.{lent}
+use Rattle.taking.specs.Rows.{Taken, Trimmed}
 use Rattle.relaxation.proofs.Handing.{below-or-not, lent-beyond, lent-in}
 use Rattle.lifting.proofs.Tables.{square-own, square-then}
 use Rattle.sweeps.specs.Free.{Free, Low, Roomy}

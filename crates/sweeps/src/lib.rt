@@ -1,8 +1,8 @@
 // Steps that hand on, along their edges and to what waits for them, the rows that were raised since they last did. See relaxation's specs/Columns.antt and specs/Graphs.antt.
-use lifting::extent;
 use lifting::raise_row;
-use lifting::take;
 use relaxation::push_word;
+use taking::extent;
+use taking::take;
 ghost use mathlib.Core.Path.{_≡_};
 ghost use mathlib.Core.Bool.{true};
 ghost use mathlib.Core.List.{List};

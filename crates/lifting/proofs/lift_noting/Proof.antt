@@ -4,6 +4,7 @@ use Prim.Native.Nat.{ℕ, _-_, _≤_, _<_}
 use native.Mathlib.Omega.{arith}
 use borrow.Author.Tests.{eqb-true, not-false}
 use borrow.Author.Needs.{needs}
+use Rattle.laws.proofs.Maps.{or-above}
 use Rattle.lifting.specs.Lifts.{Lifted}
 use Rattle.lifting.specs.Tables.{entry}
 use Rattle.lifting.proofs.Lifting.{lifted-start, lifted-turn, still-turn}
@@ -43,9 +44,6 @@ index-2-old c = search needs
 rise-requires : tie.Need-rise-requires Inv-loop μ-loop
 rise-requires c κs = search needs
 
-either-requires : tie.Need-either-requires Inv-loop μ-loop
-either-requires c κs = search needs
-
 shift-requires-2 : tie.Need-shift-requires-2 Inv-loop μ-loop
 shift-requires-2 c κs = search needs
 
@@ -68,7 +66,7 @@ loop-less : tie.Need-loop-less Inv-loop μ-loop
 loop-less c = search needs
 
 loop-again : tie.Need-loop-again Inv-loop μ-loop
-loop-again c = let s = c .before .before .before .before .before .before .before in let i = s .loop .inv in (omega arith, lifted-turn _ _ _ _ _ _ _ (i .1) (s .before .pre .0) (omega arith) (record { by = c .before .before .rise .result; above = rw (← c .before .before .before .before .shift .ensures .0) (c .before .before .rise .ensures); sum = c .shift2 .ensures .0 }), λ z. let some = c .before .either .ensures in still-turn _ _ _ _ _ _ _ (i .1) (s .before .pre .0) (omega arith) (i .2 (omega arith)) (c .shift2 .ensures .1 (omega arith)))
+loop-again c = let s = c .before .before .before .before .before .before in let i = s .loop .inv in (omega arith, lifted-turn _ _ _ _ _ _ _ (i .1) (s .before .pre .0) (omega arith) (record { by = c .before .rise .result; above = rw (← c .before .before .before .shift .ensures .0) (c .before .rise .ensures); sum = c .shift2 .ensures .0 }), λ z. let some = or-above (s .loop .grown) (c .before .rise .result) in still-turn _ _ _ _ _ _ _ (i .1) (s .before .pre .0) (omega arith) (i .2 (omega arith)) (c .shift2 .ensures .1 (omega arith)))
 
 same-length : tie.Need-same-length Inv-loop μ-loop
 same-length c = c .before .loop .inv .1 .square .rows
@@ -91,7 +89,6 @@ lift-noting-spec =
     index-1-old
     index-2-old
     rise-requires
-    either-requires
     shift-requires-2
     mul-d
     mul-d-2

@@ -5,6 +5,7 @@ use native.Mathlib.Omega.{arith}
 use lib.ListN.{length}
 use borrow.Author.Tests.{eqb-true, not-false}
 use borrow.Author.Needs.{needs}
+use Rattle.laws.proofs.Maps.{or-above}
 use Rattle.seeding.specs.Seeds.{Idle}
 use Rattle.seeding.proofs.Seeding.{idle-more}
 use Rattle.seeding.proofs.begins_some.Statement.{statement}
@@ -28,9 +29,6 @@ shared-slice-read-counted-gain c = search needs
 counted-gain-requires : tie.Need-counted-gain-requires Inv-loop μ-loop
 counted-gain-requires c κs = search needs
 
-either-requires : tie.Need-either-requires Inv-loop μ-loop
-either-requires c κs = search needs
-
 add-k : tie.Need-add-k Inv-loop μ-loop
 add-k c = search needs
 
@@ -38,7 +36,7 @@ loop-less : tie.Need-loop-less Inv-loop μ-loop
 loop-less c = search needs
 
 loop-again : tie.Need-loop-again Inv-loop μ-loop
-loop-again c = let l = c .before .before .before .before .loop in let both = c .either .ensures in (omega arith, λ z. idle-more (c .before .before .before .before .before .before .args .es .now) (l .k) (c .before .counted-gain .result) (l .inv .1 (omega (arith, both .0))) (c .before .counted-gain .ensures) (omega (arith, both .1)))
+loop-again c = let l = c .before .before .before .loop in let both = or-above (l .all) (c .counted-gain .result) in (omega arith, λ z. idle-more (c .before .before .before .before .before .args .es .now) (l .k) (c .counted-gain .result) (l .inv .1 (omega (arith, both .0))) (c .counted-gain .ensures) (omega (arith, both .1)))
 
 returns : tie.Need-returns Inv-loop μ-loop
 returns c none =
@@ -57,7 +55,6 @@ begins-some-spec =
     mul-counted-gain
     shared-slice-read-counted-gain
     counted-gain-requires
-    either-requires
     add-k
     loop-less
     loop-again

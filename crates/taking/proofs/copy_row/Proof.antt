@@ -1,14 +1,15 @@
--- `lifting::copy_row` meets its contract.
+-- `taking::copy_row` meets its contract.
 use mathlib.Core.List.{[]}
 use mathlib.Core.Path.{_≡_}
 use Prim.Native.Nat.{_-_, _≤_}
 use native.Mathlib.Omega.{arith}
 use lib.ListN.{getD}
 use borrow.Author.Needs.{needs}
-use Rattle.lifting.specs.Lifts.{Taken}
-use Rattle.lifting.proofs.Lifting.{taken-start, taken-turn}
-use Rattle.lifting.proofs.copy_row.Statement.{statement}
-use Rattle.lifting.proofs.copy_row.Tie as tie
+use Rattle.laws.proofs.Maps.{or-above}
+use Rattle.taking.specs.Rows.{Taken}
+use Rattle.taking.proofs.Taking.{taken-start, taken-turn}
+use Rattle.taking.proofs.copy_row.Statement.{statement}
+use Rattle.taking.proofs.copy_row.Tie as tie
 
 abbrev Inv-loop : tie.InvT-loop
 Inv-loop d u row₀ width bound₀ k₀ row bound k = (k ≤ width) × Taken (getD d u []) row k bound
@@ -40,9 +41,6 @@ mul-row c = search needs
 element-write-row : tie.Need-element-write-row Inv-loop μ-loop
 element-write-row c = search needs
 
-either-requires : tie.Need-either-requires Inv-loop μ-loop
-either-requires c κs = search needs
-
 add-k : tie.Need-add-k Inv-loop μ-loop
 add-k c = search needs
 
@@ -50,7 +48,7 @@ loop-less : tie.Need-loop-less Inv-loop μ-loop
 loop-less c = search needs
 
 loop-again : tie.Need-loop-again Inv-loop μ-loop
-loop-again c = let s = c .before .before .before .before in (omega arith, taken-turn _ _ _ _ (s .loop .inv .1) _ _ (omega arith) (c .before .clean .ensures) (c .either .ensures))
+loop-again c = let s = c .before .before .before in (omega arith, taken-turn _ _ _ _ (s .loop .inv .1) _ _ (omega arith) (c .clean .ensures) (or-above _ _))
 
 returns : tie.Need-returns Inv-loop μ-loop
 returns c = let s = c .before in let e : s .loop .k ≡ s .before .args .width = omega arith in rw e at (s .loop .inv .1)
@@ -69,7 +67,6 @@ copy-row-spec =
     clean-requires
     mul-row
     element-write-row
-    either-requires
     add-k
     loop-less
     loop-again

@@ -1,8 +1,8 @@
--- `lifting::take` meets its contract.
+-- `taking::take` meets its contract.
 use borrow.Author.Needs.{needs}
-use Rattle.lifting.proofs.Lifting.{taken-weights}
-use Rattle.lifting.proofs.take.Statement.{statement}
-use Rattle.lifting.proofs.take.Tie as tie
+use Rattle.taking.proofs.Taking.{taken-weights}
+use Rattle.taking.proofs.take.Statement.{statement}
+use Rattle.taking.proofs.take.Tie as tie
 
 copy-row-requires : tie.Need-copy-row-requires
 copy-row-requires c κs = search needs

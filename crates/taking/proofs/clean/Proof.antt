@@ -1,9 +1,9 @@
--- `lifting::clean` meets its contract.
+-- `taking::clean` meets its contract.
 use mathlib.Core.Path.{refl}
 use mathlib.Core.Logic.{inl, inr}
 use native.Mathlib.Omega.{arith}
-use Rattle.lifting.proofs.clean.Statement.{statement}
-use Rattle.lifting.proofs.clean.Tie as tie
+use Rattle.taking.proofs.clean.Statement.{statement}
+use Rattle.taking.proofs.clean.Tie as tie
 
 returns : tie.Need-returns
 returns c = (inr (omega arith), λ b. refl)

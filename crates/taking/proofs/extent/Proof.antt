@@ -1,8 +1,8 @@
--- `lifting::extent` meets its contract.
+-- `taking::extent` meets its contract.
 use native.Mathlib.Omega.{arith}
 use borrow.Author.Needs.{needs}
-use Rattle.lifting.proofs.extent.Statement.{statement}
-use Rattle.lifting.proofs.extent.Tie as tie
+use Rattle.taking.proofs.extent.Statement.{statement}
+use Rattle.taking.proofs.extent.Tie as tie
 
 trimmed-requires : tie.Need-trimmed-requires
 trimmed-requires c κs = search needs

@@ -1,10 +1,10 @@
--- `lifting::trimmed` meets its contract.
+-- `taking::trimmed` meets its contract.
 use native.Mathlib.Omega.{arith}
 use borrow.Author.Needs.{needs}
-use Rattle.lifting.specs.Lifts.{Trimmed}
-use Rattle.lifting.proofs.Lifting.{trimmed-turn}
-use Rattle.lifting.proofs.trimmed.Statement.{statement}
-use Rattle.lifting.proofs.trimmed.Tie as tie
+use Rattle.taking.specs.Rows.{Trimmed}
+use Rattle.taking.proofs.Taking.{trimmed-turn}
+use Rattle.taking.proofs.trimmed.Statement.{statement}
+use Rattle.taking.proofs.trimmed.Tie as tie
 
 abbrev Inv-loop : tie.InvT-loop
 Inv-loop cells width w₀ w = Trimmed cells width w
