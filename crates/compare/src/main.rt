@@ -153,7 +153,7 @@ fn write_judgements(s: &[u8]) {
 
 // The plan, into the table that is lent.
 fn write_plan_into(s: &[u8], table: &mut [u32]) {
-    let code = numbers::verdict_code(planner::plan(s, true, table));
+    let code = numbers::verdict_code(planning::plan(s, true, table));
     write_verdict(b"plan", code);
     write_numbers(table);
 }
@@ -170,7 +170,7 @@ fn write_plan(s: &[u8]) {
 // The start times for the list that the input has next, into the list that is lent for them.
 fn write_starts_into(s: &[u8], allow: bool, list: &mut [u32], times: &mut [u32]) {
     read_entries(list);
-    let code = numbers::verdict_code(planner::starts(s, allow, list, times));
+    let code = numbers::verdict_code(timing::starts(s, allow, list, times));
     write_verdict(b"starts", code);
     write_numbers(times);
 }

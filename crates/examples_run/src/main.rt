@@ -106,7 +106,7 @@ fn judge_links(low: u8, high: u8, size: usize) -> u32 {
 fn starts(duration: u32) -> u32 {
     let list = [0, duration];
     let mut times = [0u32; 2];
-    let verdict = planner::starts(
+    let verdict = timing::starts(
         b"\x02\x01\x00\x01\x01\x01\x00\x01",
         false,
         &list,

@@ -1,4 +1,4 @@
-// The library over bytes: judging a sheet and listing its waits. The crate planner has plans and start times.
+// The library over bytes: judging a sheet and listing its waits. The crates planning and timing have plans and start times.
 // Each answer is that of the definitions, for every input.
 use analysis::analyse_edges;
 use definitions::Reading;

@@ -41,7 +41,7 @@ pub fn standplan(s: &[u8], out: &mut [u8]) -> usize
     ensures { λ r. ⌜ Printed (standplan (now (s .entry))) r (now (out .entry)) (now (out .exit)) ⌝ }
 {
     let mut table = [0u32; 4096];
-    let verdict = planner::plan(s, true, &mut table);
+    let verdict = planning::plan(s, true, &mut table);
     match verdict {
         Verdict::WellPosed => print_accepted(s, 0, &table, out),
         Verdict::Serialized => print_accepted(s, 1, &table, out),

@@ -1,5 +1,5 @@
 // What C and Rust call to plan: judging, waits, plans and start times on numbers and slices. A verdict is returned as one number: 0 or 1 where the sheet is accepted, 256 + k where it is refused by k.
-// Each function is thin over one of judging or planner, and its answer is that of the definitions for every input.
+// Each function is thin over one of judging, planning or timing, and its answer is that of the definitions for every input.
 ghost use mathlib.Core.Path.{_≡_};
 ghost use Rattle.definitions.specs.Answers.{judged, planned, starts-answer, waits-answer};
 ghost use Rattle.numbers.specs.Codes.{code};
@@ -30,7 +30,7 @@ pub extern "C" fn standplan_waits(sheet: &[u8], maps: &mut [u64; 64], count: &mu
 pub extern "C" fn standplan_plan(sheet: &[u8], allow: bool, table: &mut [u32]) -> u32
     ensures { λ r. ⌜ (r ≡ code (planned (now (sheet .entry)) allow (now (table .entry)) .verdict)) × (now (table .exit) ≡ planned (now (sheet .entry)) allow (now (table .entry)) .numbers) ⌝ }
 {
-    numbers::verdict_code(planner::plan(sheet, allow, table))
+    numbers::verdict_code(planning::plan(sheet, allow, table))
 }
 
 // Works out the start times of a sheet for a list of durations: on acceptance they are the first n numbers of `out`. All other numbers stay as lent.
@@ -38,5 +38,5 @@ pub extern "C" fn standplan_plan(sheet: &[u8], allow: bool, table: &mut [u32]) -
 pub extern "C" fn standplan_starts(sheet: &[u8], allow: bool, list: &[u32], out: &mut [u32]) -> u32
     ensures { λ r. ⌜ (r ≡ code (starts-answer (now (sheet .entry)) allow (now (list .entry)) (now (out .entry)) .verdict)) × (now (out .exit) ≡ starts-answer (now (sheet .entry)) allow (now (list .entry)) (now (out .entry)) .numbers) ⌝ }
 {
-    numbers::verdict_code(planner::starts(sheet, allow, list, out))
+    numbers::verdict_code(timing::starts(sheet, allow, list, out))
 }

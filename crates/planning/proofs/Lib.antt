@@ -1,2 +1,3 @@
 mod Overriding
 mod Writing
+mod Calls

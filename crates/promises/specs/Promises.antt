@@ -1,5 +1,5 @@
 -- The demands 2 and 3 on the planner, stated of what the library's functions return. Definitions alone: the theorem of the same name in small letters, in proofs/Promises.antt, proves it.
--- s are the bytes of the sheet, q its records, r the verdict that is returned. What a function returned is said by its contract, word for word as in the source of the crate planner.
+-- s are the bytes of the sheet, q its records, r the verdict that is returned. What a function returned is said by its contract, word for word as in the source of the crates judging, planning and timing.
 use mathlib.Core.Path.{_≡_}
 use mathlib.Core.Bool.{Bool, true, cond}
 use mathlib.Core.Logic.{_⊎_, _≢_, _↔_}

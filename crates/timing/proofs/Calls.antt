@@ -1,15 +1,15 @@
--- The answers of the calls over bytes, from what reading gives.
+-- The answer of working out starts over bytes, from what reading gives.
 use mathlib.Core.Path.{_≡_, sym, ap, _∙_}
 use mathlib.Core.Bool.{Bool}
 use mathlib.Core.List.{List}
 use Prim.Native.Nat.{ℕ, _<_}
 use lib.ListN.{length, take}
-use Rattle.definitions.specs.Answers.{count-of, edges-of, judge-records, plan-read, plan-verdict, planned, serialized-of, starts-answer, starts-read, starts-verdict}
+use Rattle.definitions.specs.Answers.{count-of, edges-of, judge-records, serialized-of, starts-answer, starts-read, starts-verdict}
 use Rattle.definitions.specs.Basics.{Outcome, given, refused, test-bit}
 use Rattle.definitions.specs.Bytes.{Records, read}
 use Rattle.definitions.specs.Links.{Edge}
 use Rattle.definitions.specs.Numbers.{verdict-of}
-use Rattle.definitions.specs.Plan.{delays, plan-table, start-times}
+use Rattle.definitions.specs.Plan.{delays, start-times}
 use Rattle.definitions.specs.Waits.{serialized}
 use Rattle.definitions.specs.declared.Operation.{Operation}
 use Rattle.definitions.specs.declared.Verdict.{Verdict}
@@ -18,17 +18,12 @@ use Rattle.edges.specs.Words.{graph}
 use Rattle.reader.specs.Answers.{Holds}
 use Rattle.reader.specs.declared.Report.{Report}
 use Rattle.operation_records.specs.Leaving.{unbounded-at}
-use Rattle.planning.specs.Outcomes.{plan-outcome}
 use Rattle.timing.specs.Outcomes.{starts-outcome}
 use Rattle.judging.proofs.Held.{by-held}
 use Rattle.tabulation.proofs.Answers.{Answered}
 
--- Where reading refuses, each call does, and leaves the lent numbers.
+-- Where reading refuses, the call does, and leaves the lent numbers.
 module _ (s : List ℕ) {k : ℕ} (e : read s ≡ refused k) where
-  pub plan-refused : (allow : Bool) (table : List ℕ) → (refused k ≡ planned s allow table .verdict) × (table ≡ planned s allow table .numbers)
-  unfolding planned plan-read
-  plan-refused allow table = (rw e, rw e)
-
   pub starts-refused : (allow : Bool) (list out : List ℕ) → (refused k ≡ starts-answer s allow list out .verdict) × (out ≡ starts-answer s allow list out .numbers)
   unfolding starts-answer starts-read
   starts-refused allow list out = (rw e, rw e)
@@ -39,15 +34,6 @@ module _ {q : Records} {words : List ℕ} {report : Report} (fits : Fits q) (hol
   word-edges = graph (take (report .count) words)
 
   module _ (allow : Bool) (r : Verdict) where
-    plan-records : (table after : List ℕ) → Answered (plan-outcome (count-of q) (edges-of q) allow table) (plan-table (count-of q) (serialized (count-of q) (edges-of q))) table r after → Answered (plan-verdict q allow table) (plan-table (count-of q) (serialized-of q)) table r after
-    unfolding plan-outcome plan-verdict judge-records serialized-of
-    plan-records table after a = a
-
-    pub sheet-planned : (table : List ℕ) {after : List ℕ} → (Answered (plan-outcome (report .n) word-edges allow table) (plan-table (report .n) (serialized (report .n) word-edges)) table r after) → Answered (plan-verdict q allow table) (plan-table (count-of q) (serialized-of q)) table r after
-    sheet-planned table {after} answer =
-        plan-records table after
-        (by-held fits holds (λ n g. Answered (plan-outcome n g allow table) (plan-table n (serialized n g)) table r after) answer)
-
     starts-records : (list out after : List ℕ) → Answered (starts-outcome (count-of q) (edges-of q) allow (q .steps) list out) (start-times (count-of q) (serialized (count-of q) (edges-of q)) (delays list)) out r after → Answered (starts-verdict q allow list out) (start-times (count-of q) (serialized-of q) (delays list)) out r after
     unfolding starts-outcome starts-verdict judge-records serialized-of
     starts-records list out after a = a
@@ -58,12 +44,8 @@ module _ {q : Records} {words : List ℕ} {report : Report} (fits : Fits q) (hol
         (by-held fits holds (λ n g. Answered (starts-outcome n g allow (q .steps) list out) (start-times n (serialized n g) (delays list)) out r after)
         (answer (q .steps) (sym (holds .n)) (holds .opens)))
 
--- Where the sheet is read, each call answers by its records.
+-- Where the sheet is read, the call answers by its records.
 module _ (s : List ℕ) {q : Records} (e : read s ≡ given q) where
-  pub plan-given : (allow : Bool) (table : List ℕ) (r : Verdict) {after : List ℕ} → Answered (plan-verdict q allow table) (plan-table (count-of q) (serialized-of q)) table r after → (verdict-of r ≡ planned s allow table .verdict) × (after ≡ planned s allow table .numbers)
-  unfolding planned plan-read
-  plan-given allow table r {after} (v, w) = (v ∙ ap (λ (o : Outcome Records). plan-read o allow table .verdict) (sym e), w ∙ ap (λ (o : Outcome Records). plan-read o allow table .numbers) (sym e))
-
   pub starts-given : (allow : Bool) (list out : List ℕ) (r : Verdict) {after : List ℕ} → Answered (starts-verdict q allow list out) (start-times (count-of q) (serialized-of q) (delays list)) out r after → (verdict-of r ≡ starts-answer s allow list out .verdict) × (after ≡ starts-answer s allow list out .numbers)
   unfolding starts-answer starts-read
   starts-given allow list out r {after} (v, w) =

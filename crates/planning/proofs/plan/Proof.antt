@@ -1,10 +1,10 @@
--- `planner::plan` meets its contract: there is room for the edges of a brief sheet, and for those of any.
+-- `planning::plan` meets its contract: there is room for the edges of a brief sheet, and for those of any.
 use mathlib.Core.Path.{sym, _∙_}
 use denote.Ref.{now}
 use borrow.Author.Needs.{needs}
 use Rattle.reader.proofs.Parts.{room-brief, room-any}
-use Rattle.planner.proofs.plan.Statement.{statement}
-use Rattle.planner.proofs.plan.Tie as tie
+use Rattle.planning.proofs.plan.Statement.{statement}
+use Rattle.planning.proofs.plan.Tie as tie
 
 is-brief-requires : tie.Need-is-brief-requires
 is-brief-requires c κs = search needs

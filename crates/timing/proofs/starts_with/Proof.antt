@@ -1,13 +1,13 @@
--- `planner::starts_with` meets its contract.
+-- `timing::starts_with` meets its contract.
 use mathlib.Core.Path.{sym}
 use lib.Seq.{length-take-le}
 use denote.Ref.{now}
 use borrow.Author.Needs.{needs}
 use Rattle.reader.proofs.Reports.{report-refused}
 use Rattle.judging.proofs.Held.{Whole, held-gains, held-shape, held-within, whole}
-use Rattle.planner.proofs.Calls.{starts-given, starts-refused, sheet-started}
-use Rattle.planner.proofs.starts_with.Statement.{statement}
-use Rattle.planner.proofs.starts_with.Tie as tie
+use Rattle.timing.proofs.Calls.{starts-given, starts-refused, sheet-started}
+use Rattle.timing.proofs.starts_with.Statement.{statement}
+use Rattle.timing.proofs.starts_with.Tie as tie
 
 -- What was read: the sheet, held in the report and the words.
 read-whole : (s : tie.After-enum-told) → Whole (now (s .before .before .before .before .before .before .before .before .before .before .args .s)) (s .before .before .before .before .read .last .1 .0) (s .before .before .before .before .read .result)

@@ -1,10 +1,10 @@
--- `planner::starts` meets its contract: there is room for the edges of a brief sheet, and for those of any.
+-- `timing::starts` meets its contract: there is room for the edges of a brief sheet, and for those of any.
 use mathlib.Core.Path.{sym, _∙_}
 use denote.Ref.{now}
 use borrow.Author.Needs.{needs}
 use Rattle.reader.proofs.Parts.{room-brief, room-any}
-use Rattle.planner.proofs.starts.Statement.{statement}
-use Rattle.planner.proofs.starts.Tie as tie
+use Rattle.timing.proofs.starts.Statement.{statement}
+use Rattle.timing.proofs.starts.Tie as tie
 
 is-brief-requires : tie.Need-is-brief-requires
 is-brief-requires c κs = search needs
