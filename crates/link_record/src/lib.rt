@@ -8,6 +8,7 @@ ghost use Rattle.definitions.specs.declared.Previous.{Previous};
 ghost use Rattle.link_record.specs.Parts.{link-pair};
 ghost use Rattle.link_record.specs.Answers.{Ranked, PairReads, allowed, late-allowed, map-refusal};
 use definitions::Refusal;
+use indices::byte_index;
 
 // The map and the pair (i, j) of a link record; or the fault met there.
 pub enum PairRead {
@@ -15,17 +16,11 @@ pub enum PairRead {
     Refused(Refusal),
 }
 
-fn index(x: u8) -> usize
-    ensures { λ r. ⌜ (r ≡ x) × (r < 256) ⌝ }
-{
-    x as usize
-}
-
 fn endpoints_allowed(n: usize, i: u8, j: u8) -> bool
     ensures { λ r. ⌜ r ≡ endpoints n i j ⌝ }
 {
-    let from = index(i);
-    let to = index(j);
+    let from = byte_index(i);
+    let to = byte_index(j);
     if n <= from {
         return false;
     }
@@ -39,7 +34,7 @@ fn endpoints_allowed(n: usize, i: u8, j: u8) -> bool
 pub fn rank(i: u8, j: u8) -> usize
     ensures { λ r. ⌜ (r ≡ i * 256 + j) × (j < 256) ⌝ }
 {
-    index(i) * 256 + index(j)
+    byte_index(i) * 256 + byte_index(j)
 }
 
 // The pair of a link record with the map m, where the pair before it has the number `last`.

@@ -1,10 +1,10 @@
 // The link records of a sheet, read one by one; the edges of each are written as words.
 ghost use Prim.Native.Nat.{_*_, _≤_};
 ghost use lib.ListN.{length};
-ghost use mathlib.Core.Path.{_≡_};
 ghost use Rattle.link_records.specs.Answers.{LinksReads};
 use definitions::Reading;
 use definitions::Refusal;
+use indices::byte_index;
 use link_record::PairRead;
 use links::FieldsRead;
 
@@ -12,12 +12,6 @@ use links::FieldsRead;
 pub struct LinksRead {
     pub reading: Reading,
     pub count: usize,
-}
-
-fn index(x: u8) -> usize
-    ensures { λ r. ⌜ r ≡ x ⌝ }
-{
-    x as usize
 }
 
 // The r link records, which are the whole of this part of the bytes, of a sheet whose n steps add these digits. Their edges are written from the front of the words on.
@@ -38,7 +32,7 @@ pub fn read_links(
     while i < r {
         match link_record::read_link(part, next, n, last) {
             PairRead::Pair(m, from, to) => {
-                let source = index(from);
+                let source = byte_index(from);
                 let d = digits[source];
                 match links::push_link(part, next + 3, m, words, count, from, to, d) {
                     FieldsRead::Item(after, more) => {

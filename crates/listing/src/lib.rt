@@ -1,17 +1,12 @@
 // The text that `standplan` prints of a sheet, formatted into a lent buffer: the plan where the sheet is accepted with waits allowed, else its refusal.
 use definitions::Verdict;
+use indices::byte_index;
 ghost use mathlib.Core.Path.{_≡_};
 ghost use Prim.Native.Nat.{_≤_};
 ghost use lib.ListN.{length, getD};
 ghost use Rattle.definitions.specs.Output.{standplan};
 ghost use Rattle.printer.specs.Texts.{Printed, plan-room};
 ghost use Rattle.listing.specs.Plans.{Plans};
-
-fn wide(x: u8) -> usize
-    ensures { λ r. ⌜ r ≡ x ⌝ }
-{
-    x as usize
-}
 
 // The first byte, which is the number of steps of a sheet that is read.
 fn first_byte(s: &[u8]) -> usize
@@ -20,7 +15,7 @@ fn first_byte(s: &[u8]) -> usize
     if s.len() == 0 {
         return 0;
     }
-    wide(s[0])
+    byte_index(s[0])
 }
 
 // The text of an accepted sheet, from its plan.

@@ -14,6 +14,8 @@ ghost use Rattle.reader.specs.Answers.{Heads, TailReads, Reports};
 use definitions::Reading;
 use definitions::Refusal;
 use fields::NumberRead;
+use indices::byte_index;
+use indices::index;
 use link_records::LinksRead;
 use operation_records::Place;
 
@@ -23,18 +25,6 @@ pub struct Report {
     pub n: usize,
     pub unbounded: u64,
     pub count: usize,
-}
-
-fn index(x: u8) -> usize
-    ensures { λ r. ⌜ r ≡ x ⌝ }
-{
-    x as usize
-}
-
-fn count_index(x: u16) -> usize
-    ensures { λ r. ⌜ r ≡ x ⌝ }
-{
-    x as usize
 }
 
 // N and R, and the place after them; or the first fault there, beside counts of 0.
@@ -64,7 +54,7 @@ fn read_counted(s: &[u8], n: usize) -> Head
 {
     match fields::read_number(s, 1) {
         NumberRead::Item(count, next) => {
-            let r = count_index(count);
+            let r = index(count);
             if 512 < r {
                 refused_head(Refusal::LinkCount)
             } else {
@@ -87,7 +77,7 @@ fn read_head(s: &[u8]) -> Head
     if s.len() == 0 {
         return refused_head(Refusal::Truncated);
     }
-    let n = index(s[0]);
+    let n = byte_index(s[0]);
     match n {
         1..=64 => read_counted(s, n),
         _ => refused_head(Refusal::OperationCount),

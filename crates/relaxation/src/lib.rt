@@ -3,6 +3,7 @@ use edges::edge_gain;
 use edges::edge_loss;
 use edges::edge_to;
 use edges::is_late;
+use indices::byte_index;
 use lifting::raise_row;
 ghost use mathlib.Core.Path.{_≡_};
 ghost use mathlib.Core.Logic.{_≢_};
@@ -21,13 +22,6 @@ fn difference(gain: u64, loss: u64) -> u32
     ((4294967296 + gain - loss) % 4294967296) as u32
 }
 
-// The number of a step's column.
-fn column_of(x: u8) -> usize
-    ensures { λ r. ⌜ r ≡ x ⌝ }
-{
-    x as usize
-}
-
 // A late edge leaves the column of its own end as it was.
 fn raise_late(
     d: &mut [[u32; 64]],
@@ -41,7 +35,7 @@ fn raise_late(
     requires { ⌜ (to < 64) × (to < length (now d)) × (width ≤ 64) × Square (length (now d)) (now d) ⌝ }
     ensures { λ r. ⌜ Raised (λ k. (k < width) × (k ≢ getD (now (number .entry)) to 0)) to delta (now (row .entry)) (now (d .entry)) (now (d .exit)) marks r ⌝ }
 {
-    let k = column_of(number[to]);
+    let k = byte_index(number[to]);
     if width <= k {
         return raise_row(d, row, to, delta, width, marks);
     }

@@ -6,11 +6,11 @@ use Rattle.definitions.specs.Bytes.{endpoints}
 use Rattle.link_record.proofs.endpoints_allowed.Statement.{statement}
 use Rattle.link_record.proofs.endpoints_allowed.Tie as tie
 
-index-requires : tie.Need-index-requires
-index-requires c κs = search needs
+byte-index-requires : tie.Need-byte-index-requires
+byte-index-requires c κs = search needs
 
-index-requires-2 : tie.Need-index-requires-2
-index-requires-2 c κs = search needs
+byte-index-requires-2 : tie.Need-byte-index-requires-2
+byte-index-requires-2 c κs = search needs
 
 returns : tie.Need-returns
 unfolding endpoints
@@ -28,8 +28,8 @@ returns-3 : tie.Need-returns-3
 unfolding endpoints
 returns-3 c =
     let a = c .before .before .before .before in
-    rw (lt-ltb (a .args .i) (a .args .n) (omega arith), lt-ltb (a .args .j) (a .args .n) (omega arith), c .before .before .before .index .ensures .0, c .before .before .index2 .ensures .0)
+    rw (lt-ltb (a .args .i) (a .args .n) (omega arith), lt-ltb (a .args .j) (a .args .n) (omega arith), c .before .before .before .byte-index .ensures .0, c .before .before .byte-index2 .ensures .0)
 
 pub endpoints-allowed-spec : {M : Type 1} → statement M
 endpoints-allowed-spec =
-    tie.close (tie.spec index-requires index-requires-2 returns returns-2 returns-3)
+    tie.close (tie.spec byte-index-requires byte-index-requires-2 returns returns-2 returns-3)

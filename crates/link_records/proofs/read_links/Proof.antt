@@ -40,14 +40,14 @@ pair-found s =
     let found : PairReads (now (s .before .before .before .before .before .before .before .args .part)) (s .before .before .before .before .loop .next + 3) (s .before .before .before .before .before .before .before .args .n) (link (s .before .before .before .before .before .before .before .args .n) (s .before .before .before .before .loop .inv .1 .previous) (drop (s .before .before .before .before .loop .next) (now (s .before .before .before .before .before .before .before .args .part)))) (call .result) = call .ensures (s .before .before .before .before .loop .inv .1 .previous) (s .before .before .before .before .loop .inv .1 .ranked) in
     rw (s .m .given .1) at found
 
-index-requires : tie.Need-index-requires Inv-loop μ-loop
-index-requires c κs = search needs
+byte-index-requires : tie.Need-byte-index-requires Inv-loop μ-loop
+byte-index-requires c κs = search needs
 
 mul-d : tie.Need-mul-d Inv-loop μ-loop
-mul-d c = let W = pair-found (c .before .before) .inside in omega (arith, c .index .ensures, W .from, c .before .before .before .before .before .before .before .before .before .pre .0)
+mul-d c = let W = pair-found (c .before .before) .inside in omega (arith, c .byte-index .ensures .0, W .from, c .before .before .before .before .before .before .before .before .before .pre .0)
 
 element-copy-out-d : tie.Need-element-copy-out-d Inv-loop μ-loop
-element-copy-out-d c = let W = pair-found (c .before .before) .inside in omega (arith, c .index .ensures, W .from, c .before .before .before .before .before .before .before .before .before .pre .0)
+element-copy-out-d c = let W = pair-found (c .before .before) .inside in omega (arith, c .byte-index .ensures .0, W .from, c .before .before .before .before .before .before .before .before .before .pre .0)
 
 add-push-link : tie.Need-add-push-link Inv-loop μ-loop
 add-push-link c = let W = pair-found (c .before .before .before) .inside in omega (arith, W .begins)
@@ -63,10 +63,10 @@ enum-known-after : tie.Need-enum-known-after Inv-loop μ-loop
 enum-known-after c = search needs
 
 -- What the fields took, whatever the delay.
-fields-taken : (s : tie.After-after Inv-loop μ-loop) (d : Delay) → Took (getD (now (s .before .before .before .before .before .before .before .before .before .before .before .before .before .before .before .before .args .digits)) (s .before .before .before .before .before .before .before .index .result) 0 ≡ leaving d (s .before .before .before .before .before .before .before .before .before .m .given .0 .1 .0)) (link-fields (s .before .before .before .before .before .before .before .before .before .m .given .0 .0) (s .before .before .before .before .before .before .before .before .before .m .given .0 .1 .0) (s .before .before .before .before .before .before .before .before .before .m .given .0 .1 .1 .0)) (link-edges d) (now (s .before .before .before .before .before .before .before .before .before .before .before .before .before .before .before .before .args .part)) (s .before .before .before .before .before .before .before .before .before .before .before .before .before .loop .next + 3) (s .before .before .before .before .before .before .before .before .before .before .before .before .before .loop .words) (s .before .before .before .before .push-link .last .1 .1 .1 .0) (s .before .before .before .before .before .before .before .before .before .before .before .before .before .loop .count) (s .after .given .0 .0) (s .after .given .0 .1 .0)
+fields-taken : (s : tie.After-after Inv-loop μ-loop) (d : Delay) → Took (getD (now (s .before .before .before .before .before .before .before .before .before .before .before .before .before .before .before .before .args .digits)) (s .before .before .before .before .before .before .before .byte-index .result) 0 ≡ leaving d (s .before .before .before .before .before .before .before .before .before .m .given .0 .1 .0)) (link-fields (s .before .before .before .before .before .before .before .before .before .m .given .0 .0) (s .before .before .before .before .before .before .before .before .before .m .given .0 .1 .0) (s .before .before .before .before .before .before .before .before .before .m .given .0 .1 .1 .0)) (link-edges d) (now (s .before .before .before .before .before .before .before .before .before .before .before .before .before .before .before .before .args .part)) (s .before .before .before .before .before .before .before .before .before .before .before .before .before .loop .next + 3) (s .before .before .before .before .before .before .before .before .before .before .before .before .before .loop .words) (s .before .before .before .before .push-link .last .1 .1 .1 .0) (s .before .before .before .before .before .before .before .before .before .before .before .before .before .loop .count) (s .after .given .0 .0) (s .after .given .0 .1 .0)
 fields-taken s d =
     let call = s .before .before .before .before .push-link in
-    let found : Pushes (getD (now (s .before .before .before .before .before .before .before .before .before .before .before .before .before .before .before .before .args .digits)) (s .before .before .before .before .before .before .before .index .result) 0 ≡ leaving d (s .before .before .before .before .before .before .before .before .before .m .given .0 .1 .0)) (link-fields (s .before .before .before .before .before .before .before .before .before .m .given .0 .0) (s .before .before .before .before .before .before .before .before .before .m .given .0 .1 .0) (s .before .before .before .before .before .before .before .before .before .m .given .0 .1 .1 .0)) (link-edges d) (now (s .before .before .before .before .before .before .before .before .before .before .before .before .before .before .before .before .args .part)) (s .before .before .before .before .before .before .before .before .before .before .before .before .before .loop .next + 3) (s .before .before .before .before .before .before .before .before .before .before .before .before .before .loop .words) (call .last .1 .1 .1 .0) (s .before .before .before .before .before .before .before .before .before .before .before .before .before .loop .count) (call .result) = call .ensures d in
+    let found : Pushes (getD (now (s .before .before .before .before .before .before .before .before .before .before .before .before .before .before .before .before .args .digits)) (s .before .before .before .before .before .before .before .byte-index .result) 0 ≡ leaving d (s .before .before .before .before .before .before .before .before .before .m .given .0 .1 .0)) (link-fields (s .before .before .before .before .before .before .before .before .before .m .given .0 .0) (s .before .before .before .before .before .before .before .before .before .m .given .0 .1 .0) (s .before .before .before .before .before .before .before .before .before .m .given .0 .1 .1 .0)) (link-edges d) (now (s .before .before .before .before .before .before .before .before .before .before .before .before .before .before .before .before .args .part)) (s .before .before .before .before .before .before .before .before .before .before .before .before .before .loop .next + 3) (s .before .before .before .before .before .before .before .before .before .before .before .before .before .loop .words) (call .last .1 .1 .1 .0) (s .before .before .before .before .before .before .before .before .before .before .before .before .before .loop .count) (call .result) = call .ensures d in
     rw (s .after .given .1) at found
 
 rank-requires : tie.Need-rank-requires Inv-loop μ-loop
@@ -85,7 +85,7 @@ loop-again c =
     let T = fields-taken (c .before .before) in
     let number = c .rank .ensures in (
       T Open .pushed .long ∙ at .inv .0,
-      edged-more _ _ _ _ (at .i) _ _ _ _ (at .inv .1) _ _ _ _ _ (F .same) _ _ _ T (omega arith) (c .before .before .before .before .before .before .before .before .before .index .ensures) (F .inside .from) _ (number .0) (number .1),
+      edged-more _ _ _ _ (at .i) _ _ _ _ (at .inv .1) _ _ _ _ _ (F .same) _ _ _ T (omega arith) (c .before .before .before .before .before .before .before .before .before .byte-index .ensures .0) (F .inside .from) _ (number .0) (number .1),
     )
 
 enum-known-k : tie.Need-enum-known-k Inv-loop μ-loop
@@ -100,7 +100,7 @@ returns c =
     let F = pair-found (c .before .before .before .before .before .before .before .before .before .before) in
     let call = c .before .before .before .before .before .push-link in
     let d = Open in
-    let found : Pushes (getD (now (c .before .before .before .before .before .before .before .before .before .before .before .before .before .before .before .before .before .args .digits)) (c .before .before .before .before .before .before .before .before .index .result) 0 ≡ leaving d (c .before .before .before .before .before .before .before .before .before .before .m .given .0 .1 .0)) (link-fields (c .before .before .before .before .before .before .before .before .before .before .m .given .0 .0) (c .before .before .before .before .before .before .before .before .before .before .m .given .0 .1 .0) (c .before .before .before .before .before .before .before .before .before .before .m .given .0 .1 .1 .0)) (link-edges d) (now (c .before .before .before .before .before .before .before .before .before .before .before .before .before .before .before .before .before .args .part)) (c .before .before .before .before .before .before .before .before .before .before .before .before .before .before .loop .next + 3) (c .before .before .before .before .before .before .before .before .before .before .before .before .before .before .loop .words) (call .last .1 .1 .1 .0) (c .before .before .before .before .before .before .before .before .before .before .before .before .before .before .loop .count) (call .result) = call .ensures d in
+    let found : Pushes (getD (now (c .before .before .before .before .before .before .before .before .before .before .before .before .before .before .before .before .before .args .digits)) (c .before .before .before .before .before .before .before .before .byte-index .result) 0 ≡ leaving d (c .before .before .before .before .before .before .before .before .before .before .m .given .0 .1 .0)) (link-fields (c .before .before .before .before .before .before .before .before .before .before .m .given .0 .0) (c .before .before .before .before .before .before .before .before .before .before .m .given .0 .1 .0) (c .before .before .before .before .before .before .before .before .before .before .m .given .0 .1 .1 .0)) (link-edges d) (now (c .before .before .before .before .before .before .before .before .before .before .before .before .before .before .before .before .before .args .part)) (c .before .before .before .before .before .before .before .before .before .before .before .before .before .before .loop .next + 3) (c .before .before .before .before .before .before .before .before .before .before .before .before .before .before .loop .words) (call .last .1 .1 .1 .0) (c .before .before .before .before .before .before .before .before .before .before .before .before .before .before .loop .count) (call .result) = call .ensures d in
     answers-refused _ _ _ _ _ _ (links-refused _ _ _ (edged-refused _ _ _ _ (at .i) _ _ _ _ (at .inv .1) (omega arith) _ (sym (F .same) ∙ rw (c .before .k .given .1) at found)))
 
 enum-known-k-2 : tie.Need-enum-known-k-2 Inv-loop μ-loop
@@ -142,7 +142,7 @@ read-links-spec =
     loop-holds
     read-link-requires
     enum-known-m
-    index-requires
+    byte-index-requires
     mul-d
     element-copy-out-d
     add-push-link

@@ -18,8 +18,8 @@ read-number-requires c κs = search needs
 enum-known-count : tie.Need-enum-known-count
 enum-known-count c = search needs
 
-count-index-requires : tie.Need-count-index-requires
-count-index-requires c κs = search needs
+index-requires : tie.Need-index-requires
+index-requires c κs = search needs
 
 refused-head-requires : tie.Need-refused-head-requires
 refused-head-requires c κs = search needs
@@ -35,7 +35,7 @@ returns c =
     let a = c .before .before .before .before .before .before .before .before .args in
     let found : NumberReads (now (a .s)) 1 (c .before .before .before .before .before .before .read-number .result) = c .before .before .before .before .before .before .read-number .ensures in
     let item = rw (c .before .before .before .before .count .given .1) at found in
-    let above : 512 < c .before .before .before .before .count .given .0 .0 = rw (c .before .before .count-index .ensures) at (c .before .if1 .taken) in
+    let above : 512 < c .before .before .before .before .count .given .0 .0 = rw (c .before .before .index .ensures) at (c .before .if1 .taken) in
     rw (counted-above (a .n) _ (sym (item .same)) above) (c .refused-head .ensures _)
 
 returns-2 : tie.Need-returns-2
@@ -43,7 +43,7 @@ returns-2 c =
     let a = c .before .before .before .before .before .before .before .args in
     let found : NumberReads (now (a .s)) 1 (c .before .before .before .before .before .read-number .result) = c .before .before .before .before .before .read-number .ensures in
     let item = rw (c .before .before .before .count .given .1) at found in
-    let same = c .before .count-index .ensures in
+    let same = c .before .index .ensures in
     let below : c .before .before .before .count .given .0 .0 ≤ 512 = rw same at (c .if1 .left) in
     let room = count-there (now (a .s)) (sym (item .same)) below in
     record {
@@ -67,7 +67,7 @@ read-counted-spec =
     (tie.spec
     read-number-requires
     enum-known-count
-    count-index-requires
+    index-requires
     refused-head-requires
     enum-known-k
     refused-head-requires-2

@@ -18,11 +18,11 @@ refused-head-requires c κs = search needs
 returns : tie.Need-returns
 returns c = rw (sheet-none (now (c .before .before .before .args .s)) (c .before .if1 .taken)) (c .refused-head .ensures _)
 
-shared-slice-read-index : tie.Need-shared-slice-read-index
-shared-slice-read-index c = search needs
+shared-slice-read-byte-index : tie.Need-shared-slice-read-byte-index
+shared-slice-read-byte-index c = search needs
 
-index-requires : tie.Need-index-requires
-index-requires c κs = search needs
+byte-index-requires : tie.Need-byte-index-requires
+byte-index-requires c κs = search needs
 
 read-counted-requires : tie.Need-read-counted-requires
 read-counted-requires c κs = search needs
@@ -34,7 +34,7 @@ returns-2 : tie.Need-returns-2
 returns-2 c =
     let s = now (c .before .before .before .before .before .before .before .args .s) in
     let some : 0 < length s = omega arith in
-    let e : c .before .before .before .index .result ≡ getD s 0 0 = c .before .before .before .index .ensures in
+    let e : c .before .before .before .byte-index .result ≡ getD s 0 0 = c .before .before .before .byte-index .ensures .0 in
     let low : 1 ≤ getD s 0 0 = rw e at (c .before .before .if2 .left) in
     let high : getD s 0 0 ≤ 64 = omega (arith, c .before .if3 .taken) in
     rw (sheet-there s some low high) (rw e at (c .read-counted .ensures))
@@ -43,7 +43,7 @@ returns-3 : tie.Need-returns-3
 returns-3 c =
     let s = now (c .before .before .before .before .before .before .args .s) in
     let some : 0 < length s = omega arith in
-    let e : c .before .before .index .result ≡ getD s 0 0 = c .before .before .index .ensures in
+    let e : c .before .before .byte-index .result ≡ getD s 0 0 = c .before .before .byte-index .ensures .0 in
     let bad : Bytes.read s ≡ refused 2 = ⊎-elim (λ zero. sheet-zero s some (rw e at (zero .taken))) (λ above. sheet-above s some (rw e at (above .1 .left))) (c .before .if2 .came) in
     rw bad (c .refused-head2 .ensures _)
 
@@ -53,8 +53,8 @@ read-head-spec =
     (tie.spec
     refused-head-requires
     returns
-    shared-slice-read-index
-    index-requires
+    shared-slice-read-byte-index
+    byte-index-requires
     read-counted-requires
     refused-head-requires-2
     returns-2

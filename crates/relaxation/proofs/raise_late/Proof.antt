@@ -6,11 +6,11 @@ use Rattle.relaxation.proofs.Late.{raised-back, raised-beyond}
 use Rattle.relaxation.proofs.raise_late.Statement.{statement}
 use Rattle.relaxation.proofs.raise_late.Tie as tie
 
-element-copy-out-column-of : tie.Need-element-copy-out-column-of
-element-copy-out-column-of c = search needs
+element-copy-out-byte-index : tie.Need-element-copy-out-byte-index
+element-copy-out-byte-index c = search needs
 
-column-of-requires : tie.Need-column-of-requires
-column-of-requires c κs = search needs
+byte-index-requires : tie.Need-byte-index-requires
+byte-index-requires c κs = search needs
 
 raise-row-requires : tie.Need-raise-row-requires
 raise-row-requires c κs = search needs
@@ -19,7 +19,7 @@ same-length : tie.Need-same-length
 same-length c = search needs
 
 returns : tie.Need-returns
-returns c = raised-beyond _ _ _ _ _ _ _ _ _ (c .before .raise-row .ensures) _ (c .before .before .before .before .column-of .ensures) (omega arith)
+returns c = raised-beyond _ _ _ _ _ _ _ _ _ (c .before .raise-row .ensures) _ (c .before .before .before .before .byte-index .ensures .0) (omega arith)
 
 mul-old : tie.Need-mul-old
 mul-old c = search needs
@@ -52,14 +52,14 @@ same-length-2 : tie.Need-same-length-2
 same-length-2 c = search needs
 
 returns-2 : tie.Need-returns-2
-returns-2 c = let s = c .before .before .before .before .before in raised-back _ _ _ _ _ _ _ _ _ (c .before .raise-row2 .ensures) _ _ (s .column-of .ensures) refl (s .before .before .pre .1) (omega arith)
+returns-2 c = let s = c .before .before .before .before .before in raised-back _ _ _ _ _ _ _ _ _ (c .before .raise-row2 .ensures) _ _ (s .byte-index .ensures .0) refl (s .before .before .pre .1) (omega arith)
 
 pub raise-late-spec : {M : Type 1} → statement M
 raise-late-spec =
     tie.close
     (tie.spec
-    element-copy-out-column-of
-    column-of-requires
+    element-copy-out-byte-index
+    byte-index-requires
     raise-row-requires
     same-length
     returns
