@@ -3,15 +3,10 @@
 // For each sheet the input holds: two bytes of length, the sheet; two bytes, the length of the table that is lent for its plan; a byte, the number of lists, and the lists.
 // A list is a byte that says whether waits are allowed (1), two bytes, the number of its entries, two bytes, the length of the list that is lent for the start times, and the entries, four bytes each.
 // Numbers have the low byte first. Lent numbers are 4,294,967,294, which no answer holds.
+use indices::byte_index;
 ghost use Prim.Native.Nat.{_<_, _≤_};
 
-fn wide(x: u8) -> usize
-    ensures { λ r. ⌜ r < 256 ⌝ }
-{
-    x as usize
-}
-
-fn wide_u32(x: u8) -> u32
+fn wide(x: u8) -> u32
     ensures { λ r. ⌜ r < 256 ⌝ }
 {
     x as u32
@@ -23,7 +18,7 @@ fn read_byte() -> usize
 {
     let mut bytes = [0u8; 1];
     io::read_full(libc::STDIN_FILENO, &mut bytes);
-    wide(bytes[0])
+    byte_index(bytes[0])
 }
 
 // The next two bytes of the input, as a number, or 65,536 at its end.
@@ -33,15 +28,15 @@ fn read_number() -> usize {
     if got < 2 {
         return 65536;
     }
-    wide(bytes[0]) + 256 * wide(bytes[1])
+    byte_index(bytes[0]) + 256 * byte_index(bytes[1])
 }
 
 // The next four bytes of the input, as a number.
 fn read_entry() -> u32 {
     let mut bytes = [0u8; 4];
     io::read_full(libc::STDIN_FILENO, &mut bytes);
-    let low = wide_u32(bytes[0]) + 256 * wide_u32(bytes[1]);
-    low + 65536 * wide_u32(bytes[2]) + 16777216 * wide_u32(bytes[3])
+    let low = wide(bytes[0]) + 256 * wide(bytes[1]);
+    low + 65536 * wide(bytes[2]) + 16777216 * wide(bytes[3])
 }
 
 fn read_entries(list: &mut [u32]) {

@@ -1,15 +1,15 @@
-// Numbers that are held in few bits, as places of an array.
+// Numbers that are held in one byte or two, as those that places and lengths are counted in.
 ghost use mathlib.Core.Path.{_≡_};
 ghost use Prim.Native.Nat.{_<_, _%_};
 
-// A place in an adjacency list.
+// A number that stands in two bytes, such as a place in an adjacency list.
 pub fn index(x: u16) -> usize
     ensures { λ r. ⌜ r ≡ x ⌝ }
 {
     x as usize
 }
 
-// A number that stands in a byte.
+// A number that stands in a byte, such as a count of steps.
 pub fn byte_index(b: u8) -> usize
     ensures { λ r. ⌜ (r ≡ b) × (r < 256) ⌝ }
 {

@@ -3,23 +3,22 @@ use mathlib.Core.Path.{_≡_, refl, sym, subst, _∙_}
 use mathlib.Core.Bool.{Bool, true}
 use mathlib.Core.List.{List}
 use Prim.Native.Nat.{ℕ}
-use lib.ListN.{replicate, take}
+use lib.ListN.{replicate}
 use Rattle.definitions.specs.Answers.{count-of, edges-of, judge-edges, judge-records, judged, no-waits, waits-answer, waits-read, waits-when}
 use Rattle.definitions.specs.Basics.{Outcome, given, refused, when-given}
 use Rattle.definitions.specs.Bytes.{Records, read}
-use Rattle.definitions.specs.Links.{Edge, members}
+use Rattle.definitions.specs.Links.{members}
 use Rattle.definitions.specs.Numbers.{verdict-of}
 use Rattle.definitions.specs.declared.Verdict.{Verdict}
 use Rattle.demands.proofs.Judging.{judged-edges}
 use Rattle.demands.proofs.Reading.{Fits}
-use Rattle.edges.specs.Words.{graph}
 use Rattle.reader.specs.Answers.{Holds}
 use Rattle.reader.specs.declared.Report.{Report}
 use Rattle.theory.specs.Graphs.{Gains, Shape}
 use Rattle.definitions.specs.declared.WaitMaps.{WaitMaps}
 use Rattle.analysis.specs.Analysis.{Listed}
 use Rattle.judging.specs.Answers.{Judges, Lists}
-use Rattle.judging.proofs.Held.{by-held, held-gains, held-shape}
+use Rattle.judging.proofs.Held.{by-held, held-gains, held-shape, word-edges}
 
 -- Where reading refuses, both calls do.
 module _ (s : List ℕ) {k : ℕ} (e : read s ≡ refused k) where
@@ -36,10 +35,7 @@ module _ (s : List ℕ) {k : ℕ} (e : read s ≡ refused k) where
 
 -- The answer of a sheet as it is held, from that of the words that stand for its edges: the definitions of records are those of their steps and edges.
 module _ {q : Records} {words : List ℕ} {report : Report} (fits : Fits q) (holds : Holds q words report) where
-  abbrev word-edges : List Edge
-  word-edges = graph (take (report .count) words)
-
-  pub sheet-listed : (allow : Bool) {verdict : Verdict} {maps : List ℕ} {count : ℕ} → (Shape (report .n) (members word-edges) → Gains (members word-edges) 65535 → Listed (report .n) word-edges (judge-edges (report .n) word-edges) allow verdict maps count) → Listed (count-of q) (edges-of q) (judge-edges (count-of q) (edges-of q)) allow verdict maps count
+  pub sheet-listed : (allow : Bool) {verdict : Verdict} {maps : List ℕ} {count : ℕ} → (Shape (report .n) (members (word-edges words report)) → Gains (members (word-edges words report)) 65535 → Listed (report .n) (word-edges words report) (judge-edges (report .n) (word-edges words report)) allow verdict maps count) → Listed (count-of q) (edges-of q) (judge-edges (count-of q) (edges-of q)) allow verdict maps count
   sheet-listed allow {verdict} {maps} {count} answer =
       by-held fits holds (λ n g. Listed n g (judge-edges n g) allow verdict maps count) (answer (held-shape fits holds) (held-gains fits holds))
 

@@ -18,22 +18,26 @@ use Rattle.reader.specs.declared.Report.{Report}
 use Rattle.reader.proofs.Reports.{Found, report-given}
 use Rattle.theory.specs.Graphs.{Gains, Shape}
 
+-- The edges that its words stand for.
+abbrev pub word-edges : List ℕ → Report → List Edge
+word-edges words report = graph (take (report .count) words)
+
 module _ {q : Records} {words : List ℕ} {report : Report} (fits : Fits q) (holds : Holds q words report) where
   -- Its number of steps and that of its words are within their limits.
   pub held-within : (1 ≤ report .n) × (report .n ≤ 64) × (length (take (report .count) words) ≤ 2048)
   held-within = (omega (arith, holds .n, fits .some), omega (arith, holds .n, fits .few), omega (arith, holds .few, length-take (report .count) words))
 
   -- What holds of its steps and edges holds of the words, and the other way round.
-  held-by : (P : ℕ → List Edge → Type 0) → P (count-of q) (edges-of q) → P (report .n) (graph (take (report .count) words))
-  held-by P p = subst (λ (n : ℕ). P n (graph (take (report .count) words))) (sym (holds .n)) (subst (λ (g : List Edge). P (count-of q) g) (sym (holds .same)) p)
+  held-by : (P : ℕ → List Edge → Type 0) → P (count-of q) (edges-of q) → P (report .n) (word-edges words report)
+  held-by P p = subst (λ (n : ℕ). P n (word-edges words report)) (sym (holds .n)) (subst (λ (g : List Edge). P (count-of q) g) (sym (holds .same)) p)
 
-  pub by-held : (P : ℕ → List Edge → Type 0) → P (report .n) (graph (take (report .count) words)) → P (count-of q) (edges-of q)
-  by-held P p = subst (λ (g : List Edge). P (count-of q) g) (holds .same) (subst (λ (n : ℕ). P n (graph (take (report .count) words))) (holds .n) p)
+  pub by-held : (P : ℕ → List Edge → Type 0) → P (report .n) (word-edges words report) → P (count-of q) (edges-of q)
+  by-held P p = subst (λ (g : List Edge). P (count-of q) g) (holds .same) (subst (λ (n : ℕ). P n (word-edges words report)) (holds .n) p)
 
-  pub held-shape : Shape (report .n) (members (graph (take (report .count) words)))
+  pub held-shape : Shape (report .n) (members (word-edges words report))
   held-shape = held-by (λ n g. Shape n (members g)) (sheet-shape fits)
 
-  pub held-gains : Gains (members (graph (take (report .count) words))) 65535
+  pub held-gains : Gains (members (word-edges words report)) 65535
   held-gains = held-by (λ n g. Gains (members g) 65535) (sheet-gains fits)
 
 -- The elements of a list of bytes are below 256, from each place.

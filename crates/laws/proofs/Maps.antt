@@ -63,6 +63,10 @@ other-digit (suc (suc x)) y h = absurd (let f : ⊥ = omega arith in f)
 
 -- ---- union and intersection
 
+-- A union is at least as large as its parts.
+pub or-above : (a b : ℕ) → (a ≤ bitOr a b) × (b ≤ bitOr a b)
+or-above a b = (omega (arith, or-add-and a b, and-le-r a b), omega (arith, or-add-and a b, and-le-l a b))
+
 or-odd : (a b : ℕ) → bitOr a b % 2 ≡ max (a % 2) (b % 2)
 or-odd a b = rw (or-step a b) (digits-mod (bitOr (a / 2) (b / 2)) (omega arith))
 
@@ -183,10 +187,6 @@ same-map a b h =
     let l : a + b < 2 ^ (a + b) = below-pow (a + b) in same-below (a + b) a b (omega arith) (omega arith) (λ k _. h k)
 
 -- ---- the map of the numbers that pass a test
-
--- A union is at least as large as its parts.
-pub or-above : (a b : ℕ) → (a ≤ bitOr a b) × (b ≤ bitOr a b)
-or-above a b = (omega (arith, or-add-and a b, and-le-r a b), omega (arith, or-add-and a b, and-le-l a b))
 
 -- The sum of two maps that share no member is their union: union and intersection add up to the sum, and the intersection is empty.
 pub add-is-union : (a b : ℕ) → ((k : ℕ) → (test-bit a k && test-bit b k) ≡ false) → a + b ≡ bitOr a b

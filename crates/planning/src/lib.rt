@@ -53,7 +53,7 @@ fn plan_edges(es: &[u64], n: usize, allow: bool, table: &mut [u32]) -> Verdict
 
 // ---- over bytes
 
-// The words have room for the sheet's edges.
+// The plan, where words are lent that have room for the sheet's edges.
 fn plan_with(s: &[u8], allow: bool, table: &mut [u32], words: &mut [u64]) -> Verdict
     requires { ⌜ 4 * link-count (now s) ≤ length (now words) ⌝ }
     ensures { λ r. ⌜ (verdict-of r ≡ planned (now (s .entry)) allow (now (table .entry)) .verdict) × (now (table .exit) ≡ planned (now (s .entry)) allow (now (table .entry)) .numbers) ⌝ }

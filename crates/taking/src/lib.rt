@@ -69,7 +69,7 @@ fn weight(c: u32) -> u32
     if c < 1073741824 { 0 } else { c - 1073741824 }
 }
 
-// The same; a weight that none of theirs is above.
+// The row as `copy_row` makes it; a weight that none of its cells is above.
 pub fn take(d: &[[u32; 64]], u: usize, row: &mut [u32; 64], width: usize) -> u32
     requires { ⌜ (u < length (now d)) × (width ≤ 64) × (length (now row) ≡ 64) ⌝ }
     ensures { λ r. ⌜ Taken (getD (now (d .entry)) u []) (now (row .exit)) width (1073741824 + r) ⌝ }

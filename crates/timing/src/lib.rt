@@ -94,7 +94,7 @@ fn starts_edges(
 
 // ---- over bytes
 
-// The words have room for the sheet's edges.
+// Start times, where words are lent that have room for the sheet's edges.
 fn starts_with(s: &[u8], allow: bool, list: &[u32], out: &mut [u32], words: &mut [u64]) -> Verdict
     requires { ⌜ 4 * link-count (now s) ≤ length (now words) ⌝ }
     ensures { λ r. ⌜ (verdict-of r ≡ starts-answer (now (s .entry)) allow (now (list .entry)) (now (out .entry)) .verdict) × (now (out .exit) ≡ starts-answer (now (s .entry)) allow (now (list .entry)) (now (out .entry)) .numbers) ⌝ }
