@@ -19,12 +19,12 @@ use Rattle.demands.proofs.Sheets.{not-8, not-9, not-10-11, unneeded-serializabl
 use Rattle.forward_order.specs.Sorting.{Sorting}
 use Rattle.forward_order.specs.declared.Sorted.{Sorted}
 use Rattle.laws.proofs.Bools.{and-split, both-ways}
-use Rattle.laws.proofs.Outcomes.{given-not-refused, refused-same}
+use Rattle.laws.proofs.Outcomes.{given-not-refused}
 use Rattle.reach.specs.Pushes.{Reached, Stripped, column}
 use Rattle.theory.specs.Graphs.{ForwardAcyclic, Rooted, Shape, Well}
 use Rattle.waits.specs.Reaching.{Known, Reaches}
 use Rattle.waits.proofs.Posed.{unwaited-consistent, unwaited-count, unwaited-maps}
-use Rattle.analysis.specs.Analysis.{judge-order, judge-first, judge-waits, judge-serial, judge-rest, Analysis, Analysed, Listed, Unweighed, Presumed}
+use Rattle.analysis.specs.Analysis.{judge-order, judge-first, judge-waits, judge-serial, judge-rest, Listed, Unweighed, Presumed}
 
 -- Refusals in a row are the first of them, and then the rest.
 split : {A : Type 0} (a b c : Bool) (i j k : ℕ) (rest : Outcome A) → refuse-if a i (refuse-if b j (refuse-if c k rest)) ≡ when-given {A = Unit {0}} (refuse-if a i (refuse-if b j (refuse-if c k (given tt)))) (λ u. rest)
@@ -224,33 +224,28 @@ module _ (n : ℕ) (g : List Edge) where
           unweighed-rest consistent
           (λ first. serial-found (unneeded-serializable (passed-well some shape first consistent) once (ap (ltb 0) none)) (judges counted) (m ∙ sym (unwaited-maps known within few)) counted)
 
+  -- What refuses 8 or 9 refuses the whole.
+  pub order-refused : (k : ℕ) → judge-order n g ≡ refused k → (allow : Bool) → judge-edges n g allow ≡ refused k
+  order-refused k h = edges-refused k (first-refused k h)
+
   -- The analysis with 10 left out is refused by 8 or 9, or goes on with the rest.
-  module _ (allow sorted : Bool) (r : Analysis) where
-    pub presumed-refused : (k : ℕ) → judge-order n g ≡ refused k → sorted ≡ false → verdict-of (r .verdict) ≡ refused k → r .maps ≡ replicate 64 0 → r .count ≡ 0 → Presumed n g allow sorted r
+  module _ (allow sorted : Bool) (verdict : Verdict) (reach maps : List ℕ) (count : ℕ) where
+    pub presumed-refused : (k : ℕ) → judge-order n g ≡ refused k → sorted ≡ false → verdict-of verdict ≡ refused k → maps ≡ replicate 64 0 → count ≡ 0 → Presumed n g allow sorted verdict reach maps count
     presumed-refused k h s e m c =
-        let whole = edges-refused k (first-refused k h) in
         record {
           sorts = (λ t. absurd (both-ways t s), λ o. absurd (given-not-refused (sym o ∙ h)));
-          refuses = λ l o. e ∙ ap (λ (x : ℕ). refused x) (refused-same (sym h ∙ o));
-          unsorted = λ f. record { judges = e ∙ sym (whole allow); found = λ v p. absurd (given-not-refused (sym p ∙ whole true)); blank = λ l p. record { maps = m; count = c } };
           long = λ t. absurd (both-ways t s);
+          reaches = λ t. absurd (both-ways t s);
+          unsorted = λ f. edges-refuse allow verdict maps count k (first-refused k h) e m c;
           feasible = λ f. absurd (given-not-refused (sym f ∙ first-refused k h));
         }
 
-    pub presumed-rest : judge-order n g ≡ given tt → sorted ≡ true → Unweighed n g allow (r .verdict) (r .reach) (r .maps) (r .count) → Presumed n g allow sorted r
+    pub presumed-rest : judge-order n g ≡ given tt → sorted ≡ true → Unweighed n g allow verdict reach maps count → Presumed n g allow sorted verdict reach maps count
     presumed-rest o s u =
         record {
           sorts = (λ t. o, λ p. s);
-          refuses = λ l h. absurd (given-not-refused (sym o ∙ h));
-          unsorted = λ f. absurd (both-ways s f);
           long = λ t. u .long;
-          feasible = λ f. analysed (edges-go-on allow (r .verdict) (r .maps) (r .count) f (u .serialized f));
+          reaches = λ t. u .reaches;
+          unsorted = λ f. absurd (both-ways s f);
+          feasible = λ f. edges-go-on allow verdict maps count f (u .serialized f);
         }
-      where
-        analysed : Listed n g (judge-edges n g) allow (r .verdict) (r .maps) (r .count) → Analysed n g allow r
-        analysed l =
-            record {
-              judges = l .judges;
-              found = λ v h. record { long = u .long; reaches = u .reaches; maps = l .found v h .0; count = l .found v h .1 };
-              blank = λ k h. record { maps = l .blank k h .0; count = l .blank k h .1 };
-            }

@@ -18,7 +18,7 @@ ghost use Rattle.definitions.specs.declared.Verdict.the-variants.{Refused};
 ghost use Rattle.adjacency.specs.Lists.{Lists};
 ghost use Rattle.edges.specs.Words.{graph};
 ghost use Rattle.theory.specs.Graphs.{ForwardAcyclic, Gains, Shape, Well};
-ghost use Rattle.analysis.specs.Analysis.{Listed, Presumed, Unweighed, judge-order, judge-serial, judge-waits, whole};
+ghost use Rattle.analysis.specs.Analysis.{Listed, Presumed, Unweighed, judge-order, judge-serial, judge-waits};
 
 // Whether the edges pass 8 and 9, the verdict, and the count of the waits: the rest of an analysis is lent.
 pub struct Found {
@@ -145,7 +145,7 @@ pub fn judge_assuming_feasible(
     maps: &mut [u64; 64],
 ) -> Found
     requires { ⌜ (1 ≤ n) × (n ≤ 64) × (length (now es) ≤ 2048) × Lists (now es) (now lists) × (length (now order) ≡ 64) × (now reach ≡ replicate 64 0) × (now maps ≡ replicate 64 0) ⌝ }
-    ensures { λ r. ⌜ (Shape n (members (graph (now (es .entry)))) → Gains (members (graph (now (es .entry)))) 65535 → Presumed n (graph (now (es .entry))) allow (r .sorted) (whole r (now (order .exit)) (now (reach .exit)) (now (maps .exit)))) ⌝ }
+    ensures { λ r. ⌜ (Shape n (members (graph (now (es .entry)))) → Gains (members (graph (now (es .entry)))) 65535 → Presumed n (graph (now (es .entry))) allow (r .sorted) (r .verdict) (now (reach .exit)) (now (maps .exit)) (r .count)) ⌝ }
 {
     let mut sets = [0u64; 64];
     let sorted = sort(es, lists, n, &mut sets, order);

@@ -10,7 +10,7 @@ use Rattle.definitions.specs.Basics.{test-bit}
 use Rattle.definitions.specs.Plan.{undecided}
 use Rattle.definitions.specs.Output.{field, newline, word-verdict, word-waits, word-wait, word-start, wait-text, start-text}
 use Rattle.lines.specs.Texts.{texts}
-use Rattle.printer.specs.Texts.{heading, wait-line, start-line, wait-cell, maps-row, maps-text, cell-at, start-cell, table-row, table-text, plan-text, plan-room}
+use Rattle.printer.specs.Texts.{heading, wait-line, start-line, wait-cell, maps-row, maps-text, cell-at, start-cell, table-row, table-text, plan-room}
 use Rattle.lines.proofs.Digits.{field-length, field-short}
 
 -- n texts of at most m bytes.
@@ -67,7 +67,3 @@ module _ (n : ℕ) (small : n ≤ 64) where
 
     pub starts-room : length (heading word-verdict verdict ++ heading word-waits count ++ maps-text n maps ++ table-text n table) ≤ plan-room
     starts-room = omega (arith, length-append (heading word-verdict verdict ++ heading word-waits count ++ maps-text n maps) (table-text n table), waits-room, table-text-limit table)
-
-    pub plan-text-limit : length (plan-text verdict count maps table n) ≤ plan-room
-    unfolding plan-text
-    plan-text-limit = starts-room

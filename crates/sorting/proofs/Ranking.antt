@@ -27,7 +27,7 @@ use Rattle.theory.proofs.Feasibility.{forward-acyclic-iff}
 use Rattle.theory.proofs.FirstRows.{zeros-at, zeros-length}
 use Rattle.theory.proofs.Reachability.{after-reaches-iff, forwards-mem, forwards-shape, joined-reaches, mem-forwards, reaches-joined}
 use Rattle.theory.proofs.Walks.{after-edge, after-from, after-join, after-mono, joined-mono, some-after, walk-edge, walk-none}
-use Rattle.sorting.specs.Sorts.{Sorted, Taken}
+use Rattle.sorting.specs.Sorts.{AllTaken, Taken}
 
 abbrev Fore : List ℕ → Graph
 Fore es = Forward (members (graph es))
@@ -204,5 +204,5 @@ module _ (es : List ℕ) (n : ℕ) where
     unfolding closes-circle
     no-circle-by = forward-acyclic-iff shape .1 once
 
-    pub ranked-end : Sorted n (graph es) rows
+    pub ranked-end : AllTaken n (graph es) rows
     ranked-end = record { no-circle = no-circle-by; missing = missing-by; sets = λ h. record { bits = sets-by h } }

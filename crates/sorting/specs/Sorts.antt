@@ -24,7 +24,7 @@ pub record Taken (E : Graph) (u : ℕ) (rows rows′ : List ℕ) (k k′ : ℕ) 
   pub ends : (e : Edge) → Forward E e → e .from ≡ u → test-bit k′ (e .to) ≡ true
 
 -- What stands where every step was taken and no mark is left. There is no circle; the rows that lack bit 0 are those of the steps without a chain from step 0; where there are none, the rows are the anchor sets.
-pub record Sorted (n : ℕ) (g : List Edge) (rows : List ℕ) : Type 0 where
+pub record AllTaken (n : ℕ) (g : List Edge) (rows : List ℕ) : Type 0 where
   pub no-circle : closes-circle n g ≡ false
   pub missing : any-below (λ v. not (eqb v 0 || row-bit rows v 0)) n ≡ unreached n g
   pub sets : unreached n g ≡ false → AnchorSets n g rows

@@ -13,7 +13,7 @@ ghost use Rattle.definitions.specs.Links.{members};
 ghost use Rattle.edges.specs.Words.{graph, unpack};
 ghost use Rattle.reach.specs.Pushes.{Begun, Joined};
 ghost use Rattle.theory.specs.Graphs.{Shape};
-ghost use Rattle.sorting.specs.Sorts.{Pushed, Sorted, Taken};
+ghost use Rattle.sorting.specs.Sorts.{Pushed, AllTaken, Taken};
 
 // Two maps: the steps that can be taken, for speed alone, and the marks.
 struct Front {
@@ -158,7 +158,7 @@ fn unentered(left: &[u16; 64], n: usize) -> u64
 // The steps of a sheet of n in the order in which they are taken, and their anchor sets into rows that are blank. Says whether the pass got through, as it does where forward edges close no circle.
 pub fn sort(es: &[u64], lists: &[u16], n: usize, rows: &mut [u64; 64], order: &mut [u8; 64]) -> bool
     requires { ⌜ (1 ≤ n) × (n ≤ 64) × (length (now es) ≤ 2048) × Lists (now es) (now lists) × (now rows ≡ replicate 64 0) × (length (now order) ≡ 64) ⌝ }
-    ensures { λ r. ⌜ (r ≡ true → Shape n (members (graph (now (es .entry)))) → Sorted n (graph (now (es .entry))) (now (rows .exit))) ⌝ }
+    ensures { λ r. ⌜ (r ≡ true → Shape n (members (graph (now (es .entry)))) → AllTaken n (graph (now (es .entry))) (now (rows .exit))) ⌝ }
 {
     let mut left = [0u16; 64];
     entering(es, &mut left);

@@ -21,7 +21,7 @@ use Rattle.theory.proofs.RowLaws.{extend-none, extend-some}
 use Rattle.lifting.specs.Tables.{Square}
 use Rattle.relaxation.specs.Columns.{Bounds, Covered, Handed, HandedAll, Sought, Swept, Under, WaitsFor, column}
 use Rattle.lifting.specs.Lifts.{lent}
-use Rattle.taking.specs.Rows.{Taken, Trimmed}
+use Rattle.taking.specs.Rows.{Copied, Trimmed}
 use Rattle.relaxation.proofs.Handing.{below-or-not, lent-beyond, lent-in}
 use Rattle.lifting.proofs.Tables.{square-own, square-then}
 use Rattle.sweeps.specs.Free.{Free, Low, Roomy}
@@ -154,7 +154,7 @@ pub swept-none : {es waiting number : List ℕ} {width : ℕ} {On : ℕ → Type
 swept-none S none = record { square = S; each = λ anchor N. record { square = S; each = λ k q. swept-idle none }; free = λ anchor N k q. free-idle }
 
 -- A visit: the edges out of u, and then what waits for it, with the cells that row u had.
-module _ (es waiting number row : List ℕ) (u own width top : ℕ) (d d′ d″ : List (List ℕ)) (m rest m′ m″ : ℕ) (trim : Trimmed (getD d u []) width own) (take : Taken (getD d u []) row own top) (bits : (v : ℕ) → test-bit rest v ≡ (test-bit m v && not (eqb v u))) (H : HandedAll (λ a. UsableFrom (members (graph es)) a) number u (lent row own) d d′ rest m′) (K : HandedAll (λ a. WaitsFor u (getD waiting u 0)) number u (lent row own) d′ d″ m′ m″) where
+module _ (es waiting number row : List ℕ) (u own width top : ℕ) (d d′ d″ : List (List ℕ)) (m rest m′ m″ : ℕ) (trim : Trimmed (getD d u []) width own) (take : Copied (getD d u []) row own top) (bits : (v : ℕ) → test-bit rest v ≡ (test-bit m v && not (eqb v u))) (H : HandedAll (λ a. UsableFrom (members (graph es)) a) number u (lent row own) d d′ rest m′) (K : HandedAll (λ a. WaitsFor u (getD waiting u 0)) number u (lent row own) d′ d″ m′ m″) where
   waits-own : (a : ℕ) (e : Edge) → WaitsFor u (getD waiting u 0) e → Both es waiting a e
   waits-own a e w =
       let o : e .from ≡ u = ap (λ (x : Edge). x .from) (w .same) in

@@ -9,11 +9,11 @@ use lib.Seq.{getD-set-same, getD-set-other}
 use Rattle.laws.proofs.Bools.{same-or-not}
 use Rattle.lifting.specs.Tables.{value}
 use Rattle.lifting.specs.Lifts.{Clear}
-use Rattle.taking.specs.Rows.{Taken, Trimmed}
+use Rattle.taking.specs.Rows.{Copied, Trimmed}
 
 -- The loop that makes a row ready: a turn stores one more cell.
-module _ (cells row : List ℕ) (k bound : ℕ) (T : Taken cells row k bound) where
-  pub taken-turn : (c bound′ : ℕ) → k < 64 → Clear c × (getD cells k 0 < 2147483648 → value c ≡ value (getD cells k 0)) → (bound ≤ bound′) × (c ≤ bound′) → Taken cells (set row k c) (k + 1) bound′
+module _ (cells row : List ℕ) (k bound : ℕ) (T : Copied cells row k bound) where
+  pub taken-turn : (c bound′ : ℕ) → k < 64 → Clear c × (getD cells k 0 < 2147483648 → value c ≡ value (getD cells k 0)) → (bound ≤ bound′) × (c ≤ bound′) → Copied cells (set row k c) (k + 1) bound′
   taken-turn c bound′ b new t =
       record { long = length-set row k c ∙ T .long; clear = λ j l. clear j l (same-or-not j k); bounds = λ j l. bounds j l (same-or-not j k); same = λ j l. same j l (same-or-not j k) }
     where
@@ -35,7 +35,7 @@ module _ (cells row : List ℕ) (k bound : ℕ) (T : Taken cells row k bound) wh
       same j l (inl e) = rw (e, here) (new .1)
       same j l (inr o) = rw (beside j o) (T .same j (omega (arith, o)))
 
-pub taken-start : (cells row : List ℕ) → length row ≡ 64 → Taken cells row 0 0
+pub taken-start : (cells row : List ℕ) → length row ≡ 64 → Copied cells row 0 0
 taken-start cells row long = record { long = long; clear = λ j l. absurd (omega arith); bounds = λ j l. absurd (omega arith); same = λ j l. absurd (omega arith) }
 
 -- A column whose cell holds no weight is left out.
@@ -47,5 +47,5 @@ trimmed-turn cells width w T some low = record { fits = omega (arith, T .fits); 
     by k b l (inr o) = T .none k (omega (arith, o)) l
 
 -- A bound on cells that hold weights, as one on the weights.
-pub taken-weights : {cells row : List ℕ} {width : ℕ} (bound top : ℕ) → top ≡ bound - 1073741824 → Taken cells row width bound → Taken cells row width (1073741824 + top)
+pub taken-weights : {cells row : List ℕ} {width : ℕ} (bound top : ℕ) → top ≡ bound - 1073741824 → Copied cells row width bound → Copied cells row width (1073741824 + top)
 taken-weights bound top is T = record { long = T .long; clear = T .clear; bounds = λ k h. omega (arith, T .bounds k h); same = T .same }

@@ -7,7 +7,7 @@ use Rattle.lifting.specs.Tables.{value}
 use Rattle.lifting.specs.Lifts.{Clear}
 
 -- The cells of `row` below `width` are made ready, and say what the cells of a row of the table say, those of small weights. `bound` is no less than any of them.
-pub record Taken (cells row : List ℕ) (width bound : ℕ) : Type 0 where
+pub record Copied (cells row : List ℕ) (width bound : ℕ) : Type 0 where
   pub long : length row ≡ 64
   pub clear : (k : ℕ) → k < width → Clear (getD row k 0)
   pub bounds : (k : ℕ) → k < width → getD row k 0 ≤ bound

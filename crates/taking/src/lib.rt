@@ -5,7 +5,7 @@ ghost use Prim.Native.Nat.{_+_, _-_, _≤_, _<_};
 ghost use lib.ListN.{length, getD};
 ghost use Rattle.lifting.specs.Tables.{value};
 ghost use Rattle.lifting.specs.Lifts.{Clear};
-ghost use Rattle.taking.specs.Rows.{Taken, Trimmed};
+ghost use Rattle.taking.specs.Rows.{Copied, Trimmed};
 
 // A cell that says the same, where its weight is below the floor; 0 where it holds none.
 fn clean(c: u32) -> u32
@@ -49,7 +49,7 @@ pub fn extent(cells: &[u32; 64], width: usize) -> usize
 // The first cells of row u, made ready to be handed on; a number that none is above.
 fn copy_row(d: &[[u32; 64]], u: usize, row: &mut [u32; 64], width: usize) -> u32
     requires { ⌜ (u < length (now d)) × (width ≤ 64) × (length (now row) ≡ 64) ⌝ }
-    ensures { λ r. ⌜ Taken (getD (now (d .entry)) u []) (now (row .exit)) width r ⌝ }
+    ensures { λ r. ⌜ Copied (getD (now (d .entry)) u []) (now (row .exit)) width r ⌝ }
 {
     let mut bound = 0u32;
     let mut k = 0;
@@ -72,7 +72,7 @@ fn weight(c: u32) -> u32
 // The row as `copy_row` makes it; a weight that none of its cells is above.
 pub fn take(d: &[[u32; 64]], u: usize, row: &mut [u32; 64], width: usize) -> u32
     requires { ⌜ (u < length (now d)) × (width ≤ 64) × (length (now row) ≡ 64) ⌝ }
-    ensures { λ r. ⌜ Taken (getD (now (d .entry)) u []) (now (row .exit)) width (1073741824 + r) ⌝ }
+    ensures { λ r. ⌜ Copied (getD (now (d .entry)) u []) (now (row .exit)) width (1073741824 + r) ⌝ }
 {
     let bound = copy_row(d, u, row, width);
     weight(bound)

@@ -1,23 +1,22 @@
 -- The plan of a sheet with its waits in: what is proved of well-posed lists of edges, for `serialized n es`.
 use mathlib.Core.Path.{_≡_, subst, sym}
-use mathlib.Core.Bool.{Bool, cond, false, true}
-use mathlib.Core.Logic.{_↔_, _≢_, _⊎_, inl, inr}
+use mathlib.Core.Bool.{Bool, false, true}
+use mathlib.Core.Logic.{_≢_}
 use mathlib.Core.List.{List}
 use Prim.Native.Nat.{_*_, _+_, _<_, _≤_, ℕ}
 use native.Mathlib.Omega.{arith}
 use native.Mathlib.Nat.{mul-le-mul-right}
 use Rattle.definitions.specs.Anchors.{InAnchorSet, WellPosed, in-anchor-set}
 use Rattle.definitions.specs.Basics.{any-below, largest}
-use Rattle.definitions.specs.Links.{After, Edge, Forward, Graph, UsableFrom, _⊑_, members}
-use Rattle.definitions.specs.Plan.{Offset, decides, offset, plan-entry, start-times, undecided}
+use Rattle.definitions.specs.Links.{After, Edge, Forward, Graph, _⊑_, members}
+use Rattle.definitions.specs.Plan.{decides, offset, start-times}
 use Rattle.definitions.specs.Rounds.{cell}
 use Rattle.definitions.specs.Waits.{Wait, needs-waits, serialized}
-use Rattle.laws.proofs.Bools.{bool-cases, cond-false, cond-true}
 use Rattle.theory.specs.Graphs.{Acyclic, ForwardAcyclic, Gains, Relative, Schedule, Serializable, Shape, Timely, Well, sole-delay}
 use Rattle.theory.specs.Strategies.{Assigned, Strategy, Unbounded}
 use Rattle.theory.proofs.AnchorOrder.{least-acyclic}
-use Rattle.theory.proofs.DecidingSets.{decides-iff, deciding-enough, deciding-least, deciding-needed, deciding-some, deciding-strict}
-use Rattle.theory.proofs.Offsets.{offset-found, offset-limit}
+use Rattle.theory.proofs.DecidingSets.{deciding-enough, deciding-least, deciding-some, deciding-strict}
+use Rattle.theory.proofs.Offsets.{offset-limit}
 use Rattle.theory.proofs.Reachability.{dec-member}
 use Rattle.theory.proofs.RelativeSchedules.{relative-keeps}
 use Rattle.theory.proofs.Serialization.{forward-acyclic, rival-keeps, timely-serializable, wait-chain, wait-other, waited-gains, waited-timely, waited-well}
@@ -56,9 +55,6 @@ module _ {n : ℕ} {es : List Edge} (well : Well n (members es)) (serial : Seria
       acyclic
       (wait-anchor-below (well .shape) w)
       (subst (λ (x : ℕ). After (Forward (members (serialized n es))) a x) e (wait-chain (serialized-waited (well .shape)) w))
-
-  pub plan-offset : (a v : ℕ) → v < n → InAnchorSet (members (serialized n es)) a v → Offset (UsableFrom (members (serialized n es)) a) a v (offset n (serialized n es) a v)
-  plan-offset = offset-found plan-well plan-posed
 
   -- Our starts are the relative schedule; so they keep every link and every wait, whatever the delays.
   pub plan-relative : (d : ℕ → ℕ) → d 0 ≡ 0 → Relative n (members (serialized n es)) d (cell (start-times n (serialized n es) d)) (offset n (serialized n es))
@@ -102,22 +98,6 @@ module _ {n : ℕ} {es : List Edge} (well : Well n (members es)) (serial : Seria
     pub plan-offset-limit : (a v : ℕ) → v < n → InAnchorSet (members (serialized n es)) a v → offset n (serialized n es) a v ≤ 4128705
     plan-offset-limit = offset-limit plan-well plan-posed (waited-gains (serialized-waited (well .shape)) gains) few
 
-    -- An entry of the table is the mark of no decision exactly where there is none: no offset is as large.
-    pub plan-entry-iff : (v a : ℕ) → v < n → (plan-entry n (serialized n es) v a ≡ undecided) ↔ (decides n (serialized n es) a v ≡ false)
-    unfolding plan-entry
-    plan-entry-iff v a b = (λ h. go h (bool-cases (decides n (serialized n es) a v)), λ f. cond-false (offset n (serialized n es) a v) undecided f)
-      where
-        go : cond (decides n (serialized n es) a v) (offset n (serialized n es) a v) undecided ≡ undecided → (decides n (serialized n es) a v ≡ true) ⊎ (decides n (serialized n es) a v ≡ false) → decides n (serialized n es) a v ≡ false
-        go h (inr f) = f
-        go h (inl t) =
-            absurd
-            (omega (
-              arith,
-              h,
-              cond-true (offset n (serialized n es) a v) undecided t,
-              plan-offset-limit a v b (decides-iff (plan-well .shape) a v b .0 t .inside),
-            ))
-
     pub plan-start-limit : (d : ℕ → ℕ) → d 0 ≡ 0 → ((a : ℕ) → a < n → d a ≤ 16777215) → (v : ℕ) → v < n → cell (start-times n (serialized n es) d) v ≤ n * 20905920
     plan-start-limit d d0 short =
         relative-small
@@ -133,9 +113,6 @@ module _ {n : ℕ} {es : List Edge} (well : Well n (members es)) (serial : Seria
     -- No deciding member can be left out: the delays that show it are within the limit.
     pub plan-strict : (a v : ℕ) → v < n → decides n (serialized n es) a v ≡ true → (b : ℕ) → b ≢ a → InAnchorSet (members (serialized n es)) b v → cell (start-times n (serialized n es) (sole-delay 16777215 a)) b + sole-delay 16777215 a b + offset n (serialized n es) b v < cell (start-times n (serialized n es) (sole-delay 16777215 a)) a + sole-delay 16777215 a a + offset n (serialized n es) a v
     plan-strict = deciding-strict plan-well plan-posed 4128705 plan-offset-limit 16777215 (omega arith)
-
-    pub plan-needed : (P : ℕ → Type 0) (a v : ℕ) → v < n → ((b : ℕ) → P b → InAnchorSet (members (serialized n es)) b v) → ((b : ℕ) × P b × (cell (start-times n (serialized n es) (sole-delay 16777215 a)) v ≡ cell (start-times n (serialized n es) (sole-delay 16777215 a)) b + sole-delay 16777215 a b + offset n (serialized n es) b v)) → decides n (serialized n es) a v ≡ true → P a
-    plan-needed = deciding-needed plan-well plan-posed 4128705 plan-offset-limit 16777215 (omega arith)
 
     pub plan-deciding-least : (part : ℕ → Bool) (a v : ℕ) → v < n → ((b : ℕ) → part b ≡ true → in-anchor-set n (serialized n es) b v ≡ true) → any-below part n ≡ true → cell (start-times n (serialized n es) (sole-delay 16777215 a)) v ≡ largest part (λ b. cell (start-times n (serialized n es) (sole-delay 16777215 a)) b + sole-delay 16777215 a b + offset n (serialized n es) b v) n → decides n (serialized n es) a v ≡ true → part a ≡ true
     plan-deciding-least = deciding-least plan-well plan-posed 4128705 plan-offset-limit 16777215 (omega arith)

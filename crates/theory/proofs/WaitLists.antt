@@ -1,7 +1,7 @@
 -- The executable waits: the test is the relation, the list holds the pairs that pass it, the maps have their bits, and the list of edges with the waits in is the graph with its serialization edges.
 use mathlib.Core.Path.{_∙_, _≡_, ap, refl, subst, sym}
 use mathlib.Core.Bool.{Bool, _&&_, false, not, true}
-use mathlib.Core.Logic.{_↔_, _≢_, _⊎_, inl, inr}
+use mathlib.Core.Logic.{_↔_, _⊎_, inl, inr}
 use mathlib.Core.List.{List, List·Memᴰ, List·Memᴰ·append-cases, List·Memᴰ·head, List·Memᴰ·not-nil, Memᴰ·append-left, Memᴰ·append-right, Memᴰ·cast, Memᴰ·map, Memᴰ·of-map, [], _++_, _∷_, append-nil, map}
 use Prim.Native.Nat.{_<_, _^_, _≤_, suc, ℕ}
 use native.Mathlib.Omega.{arith}
@@ -19,9 +19,9 @@ use Rattle.laws.proofs.Maps.{test-bits-below, test-zero, bits-below-lt}
 use Rattle.laws.proofs.Tests.{any-by, any-has, flatMap-has, flatMap-only, mem-tabulate, select-below-has, select-below-only, tabulate-at, tabulate-mem, tabulate-past}
 use Rattle.theory.specs.Graphs.{Acyclic, Shape, WaitEdge, Waited}
 use Rattle.theory.proofs.Reachability.{after-reaches-iff, dec-member, in-anchor-set-iff}
-use Rattle.theory.proofs.Serialization.{after-back, posed-no-wait, waited-shape, waited-well-posed}
+use Rattle.theory.proofs.Serialization.{posed-no-wait, waited-shape, waited-well-posed}
 use Rattle.theory.proofs.Usables.{chain-usable, dec-late-into, members-usable, usable-list-shape, usable-members, usable-shape}
-use Rattle.theory.proofs.Walks.{after-mono, after-start-below, chain-after, some-after}
+use Rattle.theory.proofs.Walks.{after-mono, after-start-below, some-after}
 
 module _ {n : ℕ} {es : List Edge} (shape : Shape n (members es)) where
   -- Walks from the end of a, by the test over the edges that they may use.
@@ -153,11 +153,6 @@ module _ {n : ℕ} {es : List Edge} (shape : Shape n (members es)) where
 
   pub serialized-shape : Shape n (members (serialized n es))
   serialized-shape = waited-shape serialized-waited shape
-
-  -- A member of an anchor set, other than step 0, is an open step of the sheet: a counted edge as sent leaves it.
-  pub serialized-anchor-open : {a v : ℕ} → a ≢ 0 → InAnchorSet (members (serialized n es)) a v → (e : Edge) × List·Memᴰ e es × (e .from ≡ a) × (e .counted ≡ true)
-  serialized-anchor-open z (is-source h) = absurd (z h)
-  serialized-anchor-open z (chain c) = let w = after-back serialized-waited (chain-after c .walk) .walk in (w .edge, w .mem, w .leaves, w .counts)
 
 -- The maps: bit a of map i.
 pub wait-map-bit : (n : ℕ) (es : List Edge) (i a : ℕ) → test-bit (wait-map n es i) a ≡ (ltb a n && (ltb i n && waits-for n es a i))

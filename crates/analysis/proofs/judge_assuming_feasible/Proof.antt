@@ -14,7 +14,7 @@ unsorted-requires c κs = search needs
 returns : tie.Need-returns
 returns c shape gains =
     let u = c .unsorted .ensures in
-    presumed-refused _ _ _ _ _ _ (sorting-order _ _ (c .before .before .before .sort .ensures shape) (not-true _ (c .before .if1 .taken))) (u .2) (u .0) (c .before .before .before .before .before .before .before .before .pre .6) (u .1)
+    presumed-refused _ _ _ _ _ _ _ _ _ (sorting-order _ _ (c .before .before .before .sort .ensures shape) (not-true _ (c .before .if1 .taken))) (u .2) (u .0) (c .before .before .before .before .before .before .before .before .pre .6) (u .1)
 
 serialize-requires : tie.Need-serialize-requires
 serialize-requires c κs = search needs
@@ -24,7 +24,7 @@ returns-2 c shape gains =
     let s = c .before .before .before .before .before .before .before .sort .ensures shape in
     let passes = not-false _ (c .before .before .before .before .before .if1 .left) in
     let passed = sorting-order _ _ s passes in
-    presumed-rest _ _ _ _ _ passed (c .serialize .ensures .0) (c .serialize .ensures .1 shape (s .found passes) gains passed)
+    presumed-rest _ _ _ _ _ _ _ _ passed (c .serialize .ensures .0) (c .serialize .ensures .1 shape (s .found passes) gains passed)
 
 pub judge-assuming-feasible-spec : {M : Type 1} → statement M
 judge-assuming-feasible-spec =

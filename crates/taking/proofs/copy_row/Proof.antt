@@ -6,13 +6,13 @@ use native.Mathlib.Omega.{arith}
 use lib.ListN.{getD}
 use borrow.Author.Needs.{needs}
 use Rattle.laws.proofs.Maps.{or-above}
-use Rattle.taking.specs.Rows.{Taken}
+use Rattle.taking.specs.Rows.{Copied}
 use Rattle.taking.proofs.Taking.{taken-start, taken-turn}
 use Rattle.taking.proofs.copy_row.Statement.{statement}
 use Rattle.taking.proofs.copy_row.Tie as tie
 
 abbrev Inv-loop : tie.InvT-loop
-Inv-loop d u row₀ width bound₀ k₀ row bound k = (k ≤ width) × Taken (getD d u []) row k bound
+Inv-loop d u row₀ width bound₀ k₀ row bound k = (k ≤ width) × Copied (getD d u []) row k bound
 
 abbrev μ-loop : tie.MeasureT-loop
 μ-loop d u row₀ width bound₀ k₀ row bound k = width - k
