@@ -63,8 +63,10 @@ static void check(const Row &row, const std::string &file, const Set &set) {
         const uint8_t *s = set[k].data();
         const size_t length = set[k].size();
         uint64_t my_maps[64], its_maps[64];
-        uint32_t my_count, its_count;
+        uint32_t my_count = 0x5a, its_count = 0x5a;
         static uint32_t my_table[64 * 64], its_table[64 * 64];
+        std::memset(my_maps, 0x5a, sizeof my_maps); // a refusal leaves what is lent
+        std::memset(its_maps, 0x5a, sizeof its_maps);
         std::memset(my_table, 0x5a, sizeof my_table);
         std::memset(its_table, 0x5a, sizeof its_table);
         const char *what = nullptr;

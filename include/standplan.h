@@ -1,7 +1,7 @@
 /* The verified stand planner, for C. Link target/staticlib/libstandplan.a, which tools/library writes (x86-64 Linux).
  *
  * A verdict is one number: 0, the sheet is sound; 1, it is sound with waits; 256 + k, it is refused by refusal k (docs/REFUSALS.md).
- * Every input is answered; no call allocates, keeps a pointer, or has a state of its own.
+ * Every input is answered; no call allocates, keeps a pointer, or has a state of its own. On a refusal nothing that is lent changes.
  *
  * Memory is lent by a pointer and a count of elements. A pointer is aligned and not null, also where the count is 0;
  * what a call writes to overlaps nothing else that it is lent. */
@@ -22,8 +22,8 @@ extern "C" {
 /* Judges a sheet. allow_waits says whether waits are allowed. Refusals 1 to 12, 26 and 28. */
 uint32_t standplan_judge(const uint8_t *sheet, size_t sheet_len, bool allow_waits);
 
-/* Lists the waits of a sheet: step i waits for step a where bit a of maps[i] stands; *count is their number.
- * On a refusal, 1 to 11, 26 or 28, all 64 maps and the count are 0. */
+/* Lists the waits of a sheet: step i waits for step a where bit a of maps[i] stands; *count is their number. All 64 maps are written.
+ * On a refusal, 1 to 11, 26 or 28, maps and count stay as lent. Refusal 12 is never given: whoever asks for waits allows them. */
 uint32_t standplan_waits(const uint8_t *sheet, size_t sheet_len, uint64_t maps[64], uint32_t *count);
 
 /* Plans a sheet of N steps: the first N * N numbers of the table become its plan, row by row, and the rest stays as lent.
@@ -39,7 +39,7 @@ uint32_t standplan_starts(const uint8_t *sheet, size_t sheet_len, bool allow_wai
  * start and finish: the tick at which each step started and finished. All zeros is the state of no run; any other state is answered too.
  *
  * table is the plan of the sheet, as lent at each call. A call returns 0 and puts the map of the steps that it started into *map,
- * or returns 256 + k, a refusal: then *map is 0 and the state stays as lent. */
+ * or returns 256 + k, a refusal: then *map and the state stay as lent. */
 typedef struct standplan_run {
     uint64_t words[4];
     uint32_t tick;

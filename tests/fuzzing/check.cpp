@@ -176,7 +176,8 @@ void Examiner::sheet(const Bytes &bytes, Random &random) {
         uint32_t expected = second_waits(at, length, maps.data(), &count);
         uint64_t sum = 0;
         for (uint64_t map : maps) sum += uint64_t(__builtin_popcountll(map));
-        need(count == sum && (expected == 1) == (sum > 0), "the second planner's waits and their count differ");
+        if (expected < 256) need(count == sum && (expected == 1) == (sum > 0), "the second planner's waits and their count differ");
+        else need(maps == maps_before && count == count_before, "the second planner wrote waits on a refusal");
         each_side(
             waits, "waits", expected,
             [&](Side &side) {
@@ -256,7 +257,7 @@ class Examiner::Run {
         const uint64_t map_before = random.next();
         map = map_before;
         uint32_t expected = second();
-        need(expected < 256 || (map == 0 && std::memcmp(&before, &state, sizeof state) == 0), "the second runner changed the state on a refusal");
+        need(expected < 256 || (map == map_before && std::memcmp(&before, &state, sizeof state) == 0), "the second runner wrote on a refusal");
         examiner.met.verdicts[which][expected & 511]++;
         made++;
         for (Side &side : examiner.sides) {

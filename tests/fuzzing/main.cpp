@@ -51,7 +51,7 @@ bool second_runs_as_told() {
     auto tick = [&] { return second_tick(run.words, &run.tick, run.start, run.finish, &map, plan.data(), plan.size()); };
     auto finish = [&] { return second_finish(run.words, &run.tick, run.start, run.finish, &map, 2, plan.data(), plan.size()); };
     return second_begin(run.words, &run.tick, run.start, run.finish, &map, 5, 4, plan.data(), plan.size()) == 0 && map == 7 && finish() == 0 && map == 0 && tick() == 0 && map == 8 && tick() == 0 && map == 0 && tick() == 0 && map == 16 &&
-           finish() == 256 + 17 && map == 0;
+           finish() == 256 + 17 && map == 16; // a refusal leaves the map as it was
 }
 
 // Each planted fault has to be noticed for what it is within so many cases, and none in the library as it is.

@@ -43,10 +43,25 @@ std::vector<Planted> planted_faults() {
         in_sheets("another verdict where waits are not allowed", "verdict 1, expected 268", [](Calls &calls) {
             calls.judge = [](const uint8_t *sheet, size_t sheet_len, bool) { return standplan_judge(sheet, sheet_len, true); };
         }),
-        in_sheets("maps that are not 0 on a refusal", "other numbers in the maps: 1 at 63, expected 0", [](Calls &calls) {
+        in_sheets("maps of 0 on a refusal", "other numbers in the maps: 0 at 63", [](Calls &calls) {
             calls.waits = [](const uint8_t *sheet, size_t sheet_len, uint64_t *maps, uint32_t *count) {
                 uint32_t verdict = standplan_waits(sheet, sheet_len, maps, count);
-                if (verdict >= 256) maps[63] = 1;
+                if (verdict >= 256) maps[63] = 0;
+                return verdict;
+            };
+        }),
+        in_sheets("a count of 0 on a refusal", "other numbers in the count: 0 at 0", [](Calls &calls) {
+            calls.waits = [](const uint8_t *sheet, size_t sheet_len, uint64_t *maps, uint32_t *count) {
+                uint32_t verdict = standplan_waits(sheet, sheet_len, maps, count);
+                if (verdict >= 256) *count = 0;
+                return verdict;
+            };
+        }),
+        in_sheets("maps as lent where there are no waits", "other numbers in the maps", [](Calls &calls) {
+            calls.waits = [](const uint8_t *sheet, size_t sheet_len, uint64_t *maps, uint32_t *count) {
+                uint64_t before = maps[63];
+                uint32_t verdict = standplan_waits(sheet, sheet_len, maps, count);
+                if (verdict == 0) maps[63] = before;
                 return verdict;
             };
         }),
@@ -117,11 +132,18 @@ std::vector<Planted> planted_faults() {
                 return standplan_begin(words, tick, start, finish, map, n, open & ~uint64_t(1), table, table_len);
             };
         }),
-        in_runs("a map that is not 0 on a refusal", "other numbers in the map", [](Calls &calls) {
+        in_runs("map 0 on a refusal", "other numbers in the map: 0 at 0", [](Calls &calls) {
             calls.begin = [](uint64_t *words, uint32_t *tick, uint32_t *start, uint32_t *finish, uint64_t *map, size_t n, uint64_t open, const uint32_t *table, size_t table_len) {
-                uint64_t before = *map;
                 uint32_t verdict = standplan_begin(words, tick, start, finish, map, n, open, table, table_len);
-                if (verdict == 256 + 16) *map = before;
+                if (verdict == 256 + 16) *map = 0;
+                return verdict;
+            };
+        }),
+        in_runs("a map as lent where nothing starts", "other numbers in the map", [](Calls &calls) {
+            calls.tick = [](uint64_t *words, uint32_t *tick, uint32_t *start, uint32_t *finish, uint64_t *map, const uint32_t *table, size_t table_len) {
+                uint64_t before = *map;
+                uint32_t verdict = standplan_tick(words, tick, start, finish, map, table, table_len);
+                if (verdict == 0 && *map == 0) *map = before;
                 return verdict;
             };
         }),

@@ -73,6 +73,15 @@ def numbers(after: list[int]) -> str:
     return f"numbers{held} undecided {after.count(p.UNDECIDED)} lent {after.count(LENT)}"
 
 
+def row_lines(table: list[int], n: int) -> list[str]:
+    """Rows of a table for n steps that are asked for: one in the middle, the last one, and the one past it."""
+    lines = []
+    for v in [n // 2] + ([n - 1] if n else []) + [n]:
+        kind, got = p.row(table, n, v)
+        lines += [f"row {v}{said((kind, 0 if kind == 'ok' else got))}", numbers(got if kind == "ok" else [])]
+    return lines
+
+
 def record(rng: random.Random, sheet: bytes, verdicts: Counter) -> tuple[bytes, list[str]]:
     """The bytes for a sheet, and the lines for it."""
     length = table_length(rng, sheet)
@@ -86,6 +95,7 @@ def record(rng: random.Random, sheet: bytes, verdicts: Counter) -> tuple[bytes, 
     verdict, table = p.plan(sheet, True, [LENT] * length)
     verdicts[verdict] += 1
     lines += [f"plan{said(verdict)}", numbers(table)]
+    lines += row_lines(table, sheet[0] if sheet else 0)
     for allow, entries, room in lists:
         data += bytes([allow]) + two(len(entries)) + two(room) + b"".join(x.to_bytes(4, "little") for x in entries)
         verdict, times = p.starts(sheet, allow, entries, [LENT] * room)

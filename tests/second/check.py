@@ -69,6 +69,8 @@ def check(rng: random.Random, sheet: bytes, seen: Counter) -> None:
         seen[number(verdict)] += 1
         same(f"plan {allow} {room}", plan(sheet, allow, room), (number(verdict), table))
     maps, count, verdict = planner.waits(sheet)
+    if verdict[0] == "refused":                    # what is lent stays as it was
+        maps, count = [LENT] * 64, LENT
     same("waits", waits(sheet), (maps, count, number(verdict)))
     for allow, entries, room in container.lists_for(rng, sheet):
         verdict, times = planner.starts(sheet, allow, entries, [LENT] * room)

@@ -288,10 +288,8 @@ template <class Kernel> uint32_t judge(const uint8_t *sheet, size_t length, bool
 template <class Kernel> uint32_t waits(const uint8_t *sheet, size_t length, uint64_t *maps, uint32_t *count) {
     Graph g;
     int32_t walk[most_steps * most_steps];
-    const int k = judged<Kernel>(g, sheet, length, walk);
+    if (int k = judged<Kernel>(g, sheet, length, walk)) return refused + k;
     std::memset(maps, 0, 64 * sizeof *maps);
-    *count = 0;
-    if (k) return refused + k;
     uint32_t total = 0;
     for (int v = 0; v < g.steps; v++)
         for (uint64_t map = g.need[v]; map; map &= map - 1, total++) maps[v] |= bit(g.step[lowest(map)]);

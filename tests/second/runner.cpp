@@ -8,10 +8,8 @@ namespace {
 constexpr uint32_t undecided = 4294967295u;
 constexpr uint32_t clock_end = 4294967295u;
 
-uint32_t refused(uint64_t *map, uint32_t number) {
-    *map = 0;
-    return 256 + number;
-}
+// A refusal writes nothing.
+uint32_t refused(uint32_t number) { return 256 + number; }
 
 bool has(uint64_t map, size_t step) { return map >> step & 1; }
 
@@ -56,9 +54,9 @@ struct State {
 
 uint32_t second_begin(uint64_t words[4], uint32_t *tick, uint32_t start[64], uint32_t finish[64], uint64_t *map, size_t n, uint64_t open, const uint32_t *table, size_t table_len) {
     State state{words, tick, start, finish};
-    if (state.begun()) return refused(map, 16);
-    if (n < 1 || n > 64) return refused(map, 2);
-    if (table_len < n * n) return refused(map, 14);
+    if (state.begun()) return refused(16);
+    if (n < 1 || n > 64) return refused(2);
+    if (table_len < n * n) return refused(14);
     words[0] = n;
     words[1] = open;
     words[2] = 1;
@@ -72,9 +70,9 @@ uint32_t second_begin(uint64_t words[4], uint32_t *tick, uint32_t start[64], uin
 
 uint32_t second_tick(uint64_t words[4], uint32_t *tick, uint32_t start[64], uint32_t finish[64], uint64_t *map, const uint32_t *table, size_t table_len) {
     State state{words, tick, start, finish};
-    if (!state.begun() || !state.count_is_good()) return refused(map, 15);
-    if (table_len < state.count() * state.count()) return refused(map, 14);
-    if (*tick == clock_end) return refused(map, 18);
+    if (!state.begun() || !state.count_is_good()) return refused(15);
+    if (table_len < state.count() * state.count()) return refused(14);
+    if (*tick == clock_end) return refused(18);
     *tick += 1;
     *map = state.sweep(table);
     return 0;
@@ -82,9 +80,9 @@ uint32_t second_tick(uint64_t words[4], uint32_t *tick, uint32_t start[64], uint
 
 uint32_t second_finish(uint64_t words[4], uint32_t *tick, uint32_t start[64], uint32_t finish[64], uint64_t *map, size_t s, const uint32_t *table, size_t table_len) {
     State state{words, tick, start, finish};
-    if (!state.begun() || !state.count_is_good()) return refused(map, 15);
-    if (table_len < state.count() * state.count()) return refused(map, 14);
-    if (s == 0 || s >= state.count() || !has(state.open(), s) || !has(state.started(), s) || has(state.finished(), s)) return refused(map, 17);
+    if (!state.begun() || !state.count_is_good()) return refused(15);
+    if (table_len < state.count() * state.count()) return refused(14);
+    if (s == 0 || s >= state.count() || !has(state.open(), s) || !has(state.started(), s) || has(state.finished(), s)) return refused(17);
     state.finished() |= uint64_t(1) << s;
     finish[s] = *tick;
     *map = state.sweep(table);

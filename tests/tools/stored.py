@@ -5,15 +5,15 @@ ROOT = Path(__file__).resolve().parents[2]
 
 
 def compared():
-    """crates/compare/stdin and stdout; tests/reference/container.py has their form."""
-    data, at = (ROOT / "crates/compare/stdin").read_bytes(), 0
+    """crates/test_compare/stdin and stdout; tests/reference/container.py has their form."""
+    data, at = (ROOT / "crates/test_compare/stdin").read_bytes(), 0
 
     def number(size):
         nonlocal at
         at += size
         return int.from_bytes(data[at - size:at], "little")
 
-    judged = [line[8:] for line in (ROOT / "crates/compare/stdout").read_text("ascii").splitlines() if line.startswith("judge 0 ")]
+    judged = [line[8:] for line in (ROOT / "crates/test_compare/stdout").read_text("ascii").splitlines() if line.startswith("judge 0 ")]
     for verdict in judged:
         size = number(2)
         yield data[at:at + size], verdict
@@ -24,7 +24,7 @@ def compared():
             entries = number(2)
             number(2)
             at += 4 * entries
-    assert at == len(data), "crates/compare/stdin has more sheets than stdout has answers"
+    assert at == len(data), "crates/test_compare/stdin has more sheets than stdout has answers"
 
 
 def answered():

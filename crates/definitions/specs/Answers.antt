@@ -4,6 +4,7 @@ use mathlib.Core.List.{List, _++_}
 use Prim.Native.Nat.{ℕ, _*_}
 use lib.Dec.{ltb, leb}
 use lib.ListN.{length, drop, replicate}
+use Rattle.definitions.specs.Limits.{most-steps}
 use Rattle.definitions.specs.Basics.{any, any-below, Outcome, given, refused, refuse-if, when-given}
 use Rattle.definitions.specs.Bytes.{Records, read}
 use Rattle.definitions.specs.Links.{Edge, constraints, edges, forwards, usable}
@@ -66,7 +67,7 @@ pub record Waits : Type 0 where
   pub count : ℕ
 
 unfoldable pub no-waits : ℕ → Waits
-no-waits k = record { verdict = refused k; maps = replicate 64 0; count = 0 }
+no-waits k = record { verdict = refused k; maps = replicate most-steps 0; count = 0 }
 
 unfoldable pub waits-when : Records → Outcome ℕ → Waits
 waits-when q (given v) = record { verdict = given v; maps = wait-maps (count-of q) (edges-of q); count = wait-count (count-of q) (edges-of q) }
@@ -84,6 +85,7 @@ unfoldable pub written : Outcome ℕ → List ℕ → List ℕ → List ℕ
 written (given v) new lent = new ++ drop (length new) lent
 written (refused k) new lent = lent
 
+-- What a call that writes answers: its verdict, and the lent numbers after it.
 pub record Written : Type 0 where
   pub verdict : Outcome ℕ
   pub numbers : List ℕ
@@ -118,7 +120,7 @@ starts-answer s allow list out = starts-read (read s) allow list out
 
 -- Row asked for: 2, 5, 14.
 unfoldable pub bad-count : ℕ → Bool
-bad-count n = not (leb 1 n && leb n 64)
+bad-count n = not (leb 1 n && leb n most-steps)
 
 unfoldable pub row-answer : List ℕ → ℕ → ℕ → Outcome (List ℕ)
 row-answer table n v = refuse-if (bad-count n) 2 (refuse-if (leb n v) 5 (refuse-if (too-short table (n * n)) 14 (given (row-part table n v))))

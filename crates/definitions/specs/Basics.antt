@@ -13,6 +13,11 @@ unfoldable pub all : {A : Type 0} → (A → Bool) → List A → Bool
 all test [] = true
 all test (x ∷ xs) = test x && all test xs
 
+-- The elements of a list that do not pass a test, in their order.
+unfoldable pub without : {A : Type 0} → (A → Bool) → List A → List A
+without test [] = []
+without test (x ∷ xs) = cond (test x) [] (x ∷ []) ++ without test xs
+
 -- Whether some, or every, number below n passes a test.
 unfoldable pub any-below : (ℕ → Bool) → ℕ → Bool
 any-below test zero = false
@@ -36,6 +41,11 @@ unfoldable pub largest : (ℕ → Bool) → (ℕ → ℕ) → ℕ → ℕ
 largest test f zero = 0
 largest test f (suc n) = max (largest test f n) (cond (test n) (f n) 0)
 
+-- f 0 + f 1 + … + f (n - 1).
+unfoldable pub sum-below : (ℕ → ℕ) → ℕ → ℕ
+sum-below f zero = 0
+sum-below f (suc n) = sum-below f n + f n
+
 -- A map of bits: whether bit k stands in m, and the map of the numbers below n that pass a test.
 unfoldable pub test-bit : ℕ → ℕ → Bool
 test-bit m k = eqb (m / 2 ^ k % 2) 1
@@ -49,6 +59,7 @@ pub data Outcome (A : Type 0) : Type 0 where
   given : A → Outcome A
   refused : ℕ → Outcome A
 
+-- A refusal where a test passes, else the rest; and what comes after an answer.
 unfoldable pub refuse-if : {A : Type 0} → Bool → ℕ → Outcome A → Outcome A
 refuse-if true k rest = refused k
 refuse-if false k rest = rest

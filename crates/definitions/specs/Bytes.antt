@@ -3,6 +3,7 @@ use mathlib.Core.Bool.{Bool, true, false, not, _&&_, _||_}
 use mathlib.Core.List.{List, [], _∷_}
 use Prim.Native.Nat.{ℕ, zero, suc, _+_, _*_}
 use lib.Dec.{eqb, leb, ltb}
+use Rattle.definitions.specs.Limits.{most-steps, most-records}
 use Rattle.definitions.specs.Basics.{test-bit, Outcome, given, refused, when-given}
 use Rattle.definitions.specs.declared.Delay.{Delay}
 use Rattle.definitions.specs.declared.Delay.the-variants.{Open, Fixed}
@@ -18,6 +19,7 @@ pub record Taken (A : Type 0) : Type 0 where
   pub value : A
   pub rest : List ℕ
 
+-- A parser takes something, or refuses; one after another; and one that takes no bytes.
 abbrev pub Parser : Type 0 → Type 0
 Parser A = List ℕ → Outcome (Taken A)
 
@@ -77,10 +79,11 @@ link-map m = leb 1 m && leb m 7 || leb 16 m && leb m 23
 unfoldable pub sequenced : ℕ → Bool
 sequenced m = test-bit m 0 || not (test-bit m 4)
 
+-- 5: i or j is N or more, or i = j.
 unfoldable pub endpoints : ℕ → ℕ → ℕ → Bool
 endpoints n i j = ltb i n && ltb j n && not (eqb i j)
 
--- Pairs rise strictly, by i, then by j.
+-- 6: pairs rise strictly, by i, then by j.
 unfoldable pub rises : Previous → ℕ → ℕ → Bool
 rises Nothing i j = true
 rises (Pair i₀ j₀) i j = ltb i₀ i || eqb i₀ i && ltb j₀ j
@@ -134,9 +137,9 @@ pub record Records : Type 0 where
 unfoldable pub sheet : Parser Records
 sheet = do
   n ← byte
-  demand (leb 1 n && leb n 64) 2
+  demand (leb 1 n && leb n most-steps) 2
   r ← two-bytes
-  demand (leb r 512) 3
+  demand (leb r most-records) 3
   os ← operations n
   ls ← links n r
   at-end

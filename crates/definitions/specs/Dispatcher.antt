@@ -6,6 +6,7 @@ use Prim.Native.Nat.{ℕ, zero, suc, _+_, _*_, _^_}
 use lib.Dec.{eqb, leb}
 use lib.Bits.{bitOr}
 use lib.ListN.{getD, set, replicate}
+use Rattle.definitions.specs.Limits.{most-steps, last-tick}
 use Rattle.definitions.specs.Basics.{any-below, all-below, test-bit, bits-below, Outcome, given, refused, refuse-if}
 use Rattle.definitions.specs.Plan.{undecided}
 use Rattle.definitions.specs.Answers.{bad-count, too-short}
@@ -56,7 +57,7 @@ not-running st = not (begun st) || bad-count (st .n)
 
 -- Begin: all is set anew, tick 0, step 0 starts and finishes. It checks 16, 2, 14.
 unfoldable pub fresh : ℕ → ℕ → State
-fresh n unbounded = record { n = n; unbounded = unbounded; tick = 0; started = 1; finished = 1; start = replicate 64 0; finish = replicate 64 0 }
+fresh n unbounded = record { n = n; unbounded = unbounded; tick = 0; started = 1; finished = 1; start = replicate most-steps 0; finish = replicate most-steps 0 }
 
 unfoldable pub with-source : Progress → Progress
 with-source g = record { state = g .state; map = bitOr 1 (g .map) }
@@ -71,7 +72,7 @@ ticked st = record { n = st .n; unbounded = st .unbounded; tick = st .tick + 1; 
 
 unfoldable pub tick : State → List ℕ → Outcome Progress
 tick st table =
-    refuse-if (not-running st) 15 (refuse-if (too-short table (st .n * st .n)) 14 (refuse-if (eqb (st .tick) 4294967295) 18 (given (sweep (ticked st) table))))
+    refuse-if (not-running st) 15 (refuse-if (too-short table (st .n * st .n)) 14 (refuse-if (eqb (st .tick) last-tick) 18 (given (sweep (ticked st) table))))
 
 -- Finish s: open step s ends at this tick. It checks 15, 14, 17.
 unfoldable pub cannot-finish : State → ℕ → Bool

@@ -1,4 +1,5 @@
 pub mod Basics
+pub mod Limits
 pub mod Numbers
 pub mod Bytes
 pub mod Links

@@ -1,11 +1,12 @@
 -- "What links mean": links, the start times that keep them, the edges that they are, and walks.
 use mathlib.Core.Path.{_≡_}
-use mathlib.Core.Bool.{Bool, true, false, cond, not, _&&_}
+use mathlib.Core.Bool.{Bool, true, false, not, _&&_}
 use mathlib.Core.Logic.{_≢_}
 use mathlib.Core.List.{List, [], _∷_, _++_, List·Memᴰ, map, flatMap}
 use Prim.Native.Nat.{ℕ, zero, suc, _+_, _≤_}
 use lib.Dec.{eqb}
 use lib.ListN.{getD}
+use Rattle.definitions.specs.Basics.{without}
 use Rattle.definitions.specs.Bytes.{blank-operation}
 use Rattle.definitions.specs.declared.Delay.{Delay}
 use Rattle.definitions.specs.declared.Delay.the-variants.{Open, Fixed}
@@ -38,6 +39,7 @@ unfoldable pub finish-maximum-of : ℕ → ℕ → Bound → List Constraint
 finish-maximum-of i j (Ticks u) = finish-maximum i j u ∷ []
 finish-maximum-of i j Absent = []
 
+-- The links of a record, and of all records of a sheet.
 unfoldable pub link-constraints : Link → List Constraint
 link-constraints l = sequencing-of (l .from) (l .to) (l .sequencing) ++ minimum-of (l .from) (l .to) (l .minimum) ++ maximum-of (l .from) (l .to) (l .maximum) ++ finish-maximum-of (l .from) (l .to) (l .latest)
 
@@ -110,12 +112,12 @@ infix 20 _⊑_
 abbrev pub _⊑_ : Graph → Graph → Type 0
 E ⊑ F = (e : Edge) → E e → F e
 
+-- The forward links: all but the returns.
 abbrev pub Forward : Graph → Graph
 Forward E e = E e × (e .back ≡ false)
 
 unfoldable pub forwards : List Edge → List Edge
-forwards [] = []
-forwards (e ∷ es) = cond (e .back) [] (e ∷ []) ++ forwards es
+forwards es = without (λ e. e .back) es
 
 -- A walk from x to y of k edges, with the sums p of their gains and q of their losses: it weighs p − q, open durations taken as 0.
 pub data Walk (E : Graph) (x : ℕ) : ℕ → ℕ → ℕ → ℕ → Type 0 where
@@ -159,5 +161,4 @@ unfoldable pub late-into : ℕ → Edge → Bool
 late-into a e = e .late && eqb (e .to) a
 
 unfoldable pub usable : List Edge → ℕ → List Edge
-usable [] a = []
-usable (e ∷ es) a = cond (late-into a e) [] (e ∷ []) ++ usable es a
+usable es a = without (late-into a) es

@@ -2,7 +2,8 @@
 use Prim.Native.Nat.{ℕ}
 use Rattle.definitions.specs.Basics.{Outcome, given, refused}
 use Rattle.definitions.specs.declared.Refusal.{Refusal}
-use Rattle.definitions.specs.declared.Refusal.the-variants.{Truncated, OperationCount, LinkCount, BadMap, BadEndpoint, BadOrder, Trailing, ForwardCycle, Unreachable, Infeasible, Inconsistent, WaitsNeeded, BadDelays, TooShort, NotBegun, AlreadyBegun, CannotFinish, ClockEnd, Unsequenced, Unserializable}
+use Rattle.definitions.specs.declared.Refusal.the-variants.{Truncated, OperationCount, LinkCount, BadMap, BadEndpoint, BadOrder, Trailing, ForwardCycle, Unreachable, Infeasible}
+use Rattle.definitions.specs.declared.Refusal.the-variants.{Inconsistent, WaitsNeeded, BadDelays, TooShort, NotBegun, AlreadyBegun, CannotFinish, ClockEnd, Unsequenced, Unserializable}
 use Rattle.definitions.specs.declared.Verdict.{Verdict}
 use Rattle.definitions.specs.declared.Reading.{Reading}
 use Rattle.definitions.specs.declared.Status.{Status}

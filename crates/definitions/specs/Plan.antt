@@ -5,6 +5,7 @@ use mathlib.Core.List.{List, [], _++_}
 use Prim.Native.Nat.{ℕ, zero, suc, _+_, _-_, _*_, _≤_}
 use lib.Dec.{eqb, leb, ltb}
 use lib.ListN.{length, getD, take, drop, replicate}
+use Rattle.definitions.specs.Limits.{most-duration}
 use Rattle.definitions.specs.Basics.{any-below, tabulate, largest}
 use Rattle.definitions.specs.Links.{Edge, Graph, Walk, AfterWalk, usable, delay-at}
 use Rattle.definitions.specs.Rounds.{cell, rounds, source-row, after-row}
@@ -26,6 +27,7 @@ pub record Offset (E : Graph) (a v o : ℕ) : Type 0 where
   pub attained : p ≡ o + q
   pub bound : (p q : ℕ) → Span E a v p q → p ≤ o + q
 
+-- The same by rounds: the row that these walks begin with, the row of the offsets for a, and the offset of v.
 unfoldable pub first-row : ℕ → List Edge → ℕ → List ℕ
 first-row n es zero = source-row n 0
 first-row n es (suc a) = after-row n es (suc a)
@@ -80,7 +82,7 @@ row-part table n v = take n (drop (v * n) table)
 unfoldable pub delay-limit : ℕ → Delay → ℕ
 delay-limit i (Fixed ticks) = 0
 delay-limit zero Open = 0
-delay-limit (suc i) Open = 16777215
+delay-limit (suc i) Open = most-duration
 
 unfoldable pub delay-wrong : List Operation → List ℕ → ℕ → Bool
 delay-wrong os list i = ltb (delay-limit i (delay-at os i)) (getD list i 0)

@@ -1,21 +1,27 @@
 -- Heaviest walks by rounds over a list of edges, the executable twin of walks. A row has a cell for each step: 0 where no walk comes there, w + 1 for the weight w.
 -- No walk that is sought weighs less than 0, so a sum stops there. What the cells are is proved in the crate theory.
 use mathlib.Core.Bool.{Bool, cond, not, _&&_}
-use mathlib.Core.List.{List, [], _∷_}
+use mathlib.Core.List.{List, [], _∷_, map}
 use Prim.Native.Nat.{ℕ, zero, suc, _+_, _-_, max}
 use lib.Dec.{eqb, leb, ltb}
 use lib.ListN.{getD, set, replicate}
 use Rattle.definitions.specs.Basics.{any, all}
 use Rattle.definitions.specs.Links.{Edge}
 
+-- The cell of step v.
 abbrev pub cell : List ℕ → ℕ → ℕ
 cell row v = getD row v 0
+
+-- A table as its rows: cell k of row v.
+abbrev pub entry : List (List ℕ) → ℕ → ℕ → ℕ
+entry d v k = cell (getD d v []) k
 
 -- A walk made longer by an edge.
 unfoldable pub extend : ℕ → ℕ → ℕ → ℕ
 extend zero gain loss = 0
 extend (suc w) gain loss = suc (w + gain - loss)
 
+-- A cell raised to c, and to what an edge offers it.
 unfoldable pub raise : List ℕ → ℕ → ℕ → List ℕ
 raise row v c = set row v (max (cell row v) c)
 
@@ -58,8 +64,7 @@ abbrev pub bare : Edge → Edge
 bare e = record { from = e .from; to = e .to; gain = 0; loss = 0; counted = e .counted; back = e .back; late = e .late }
 
 unfoldable pub bares : List Edge → List Edge
-bares [] = []
-bares (e ∷ es) = bare e ∷ bares es
+bares es = map bare es
 
 unfoldable pub reaches : ℕ → List Edge → ℕ → ℕ → Bool
 reaches n es x v = ltb 0 (cell (rounds (bares es) n (source-row n x)) v)

@@ -5,6 +5,7 @@ use mathlib.Core.List.{List, _++_, map, flatMap}
 use Prim.Native.Nat.{ℕ}
 use lib.Dec.{eqb, ltb}
 use lib.ListN.{length}
+use Rattle.definitions.specs.Limits.{most-steps}
 use Rattle.definitions.specs.Basics.{any, tabulate, select-below, bits-below}
 use Rattle.definitions.specs.Links.{Edge, Graph, After, UsableFrom, usable}
 use Rattle.definitions.specs.Rounds.{after-reaches}
@@ -28,8 +29,11 @@ pub record WaitPair : Type 0 where
   pub anchor : ℕ
   pub target : ℕ
 
+abbrev pub wait-pair : ℕ → ℕ → WaitPair
+wait-pair a i = record { anchor = a; target = i }
+
 unfoldable pub waits-of : ℕ → List Edge → ℕ → List WaitPair
-waits-of n es a = map (λ i. record { anchor = a; target = i }) (select-below (waits-for n es a) n)
+waits-of n es a = map (wait-pair a) (select-below (waits-for n es a) n)
 
 unfoldable pub wait-list : ℕ → List Edge → List WaitPair
 wait-list n es = flatMap (waits-of n es) (tabulate (λ a. a) n)
@@ -39,7 +43,7 @@ unfoldable pub wait-map : ℕ → List Edge → ℕ → ℕ
 wait-map n es i = bits-below (λ a. ltb i n && waits-for n es a i) n
 
 unfoldable pub wait-maps : ℕ → List Edge → List ℕ
-wait-maps n es = tabulate (wait-map n es) 64
+wait-maps n es = tabulate (wait-map n es) most-steps
 
 unfoldable pub wait-count : ℕ → List Edge → ℕ
 wait-count n es = length (wait-list n es)

@@ -5,12 +5,13 @@ use mathlib.Core.Logic.{_⊎_, inl, inr}
 use mathlib.Core.List.{List, [], _∷_, map, flatMap, List·Memᴰ, List·Memᴰ·not-nil, List·Memᴰ·cases-cons, head-eq-of-cons-eq, tail-eq-of-cons-eq}
 use Prim.Native.Nat.{ℕ}
 use lib.ListN.{replicate}
-use Rattle.definitions.specs.Basics.{any, all, any-below, all-below, tabulate, select-below, largest, test-bit, bits-below, Outcome, given, refused, refuse-if, when-given}
+use Rattle.definitions.specs.Limits.{most-steps}
+use Rattle.definitions.specs.Basics.{any, all, without, any-below, all-below, tabulate, select-below, largest, test-bit, bits-below, Outcome, given, refused, refuse-if, when-given}
 use Rattle.definitions.specs.Bytes.{demand, byte, two-bytes, ticks-if, operation-map, delay-from, operation, link-map, sequenced, endpoints, rises, bound-from, link, records, operations, pair-of, links, at-end, sheet, read}
 use Rattle.definitions.specs.Links.{sequencing-of, minimum-of, maximum-of, finish-maximum-of, link-constraints, constraints, delay-at, sequencing-edge, finish-edge, edge-of, edges, forwards, late-into, usable}
 use Rattle.definitions.specs.Rounds.{extend, raise, round, rounds, stable, source-row, seed, seeds, after-row, bares, reaches, after-reaches}
 use Rattle.definitions.specs.Anchors.{in-anchor-set}
-use Rattle.definitions.specs.Waits.{WaitPair, waits-for, waits-of, wait-list, wait-count, needs-waits, serialized}
+use Rattle.definitions.specs.Waits.{WaitPair, waits-for, waits-of, wait-list, wait-count, needs-waits, serialized, wait-pair}
 use Rattle.definitions.specs.Plan.{first-row, offset-row, offset, start-from, start-turns, start-times, overrides, decides, plan-entry, plan-row, plan-rows, plan-table, delay-limit, delay-wrong, delays-wrong}
 use Rattle.definitions.specs.Answers.{closes-circle, unreached, infeasible, inconsistent, unserializable, judge-edges, edges-of, serialized-of, judge-records, Written, written, too-short, starts-verdict, starts-read, starts-answer, plan-verdict, plan-read, planned, bad-count}
 use Rattle.definitions.specs.Dispatcher.{entry, names, due, ready, starting, start-ticks, Progress, sweep, begun, not-running, fresh, with-source, begin, ticked, tick, cannot-finish, ended, finish, state-after, called}
@@ -19,9 +20,37 @@ use Rattle.definitions.specs.declared.Call.the-variants.{Begin, Tick, Fi
 use Rattle.definitions.specs.declared.State.{State}
 use Rattle.definitions.specs.Output.{StartLine, Listing, lines-of, start-lines, list-records, listed, digits, decimal, field, wait-text, start-text, listing-text, standplan}
 
--- To unfold this is to unfold every executable definition, so that a sheet is worked out by computing.
+-- To unfold these is to unfold the executable definitions of a part, and the last those of all parts, so that a sheet is worked out by computing.
+unfoldable every-basics : Unit {0}
+unfolding any all without any-below all-below tabulate select-below largest test-bit bits-below refuse-if when-given flatMap
+every-basics = tt
+
+unfoldable every-reading : Unit {0}
+unfolding demand byte two-bytes ticks-if operation-map delay-from operation link-map sequenced endpoints rises bound-from link records operations pair-of links at-end sheet read
+every-reading = tt
+
+unfoldable every-links : Unit {0}
+unfolding sequencing-of minimum-of maximum-of finish-maximum-of link-constraints constraints delay-at sequencing-edge finish-edge edge-of edges forwards late-into usable extend raise round rounds stable source-row seed seeds after-row bares reaches after-reaches
+every-links = tt
+
+unfoldable every-plan : Unit {0}
+unfolding in-anchor-set waits-for waits-of wait-list wait-count needs-waits serialized first-row offset-row offset start-from start-turns start-times overrides decides plan-entry plan-row plan-rows plan-table delay-limit delay-wrong delays-wrong
+every-plan = tt
+
+unfoldable every-answers : Unit {0}
+unfolding closes-circle unreached infeasible inconsistent unserializable judge-edges edges-of serialized-of judge-records written too-short starts-verdict starts-read starts-answer plan-verdict plan-read planned bad-count
+every-answers = tt
+
+unfoldable every-text : Unit {0}
+unfolding lines-of start-lines list-records listed digits decimal field wait-text start-text listing-text standplan
+every-text = tt
+
+unfoldable every-runner : Unit {0}
+unfolding entry names due ready starting start-ticks sweep begun not-running fresh with-source begin ticked tick cannot-finish ended finish state-after
+every-runner = tt
+
 unfoldable pub every-definition : Unit {0}
-unfolding any all any-below all-below tabulate select-below largest test-bit bits-below refuse-if when-given demand byte two-bytes ticks-if operation-map delay-from operation link-map sequenced endpoints rises bound-from link records operations pair-of links at-end sheet read sequencing-of minimum-of maximum-of finish-maximum-of link-constraints constraints delay-at sequencing-edge finish-edge edge-of edges forwards late-into usable extend raise round rounds stable source-row seed seeds after-row bares reaches after-reaches in-anchor-set waits-for waits-of wait-list wait-count needs-waits serialized first-row offset-row offset start-from start-turns start-times overrides decides delay-limit delay-wrong delays-wrong closes-circle unreached infeasible inconsistent unserializable judge-edges edges-of serialized-of judge-records written too-short starts-verdict starts-read starts-answer lines-of start-lines list-records listed flatMap digits decimal field wait-text start-text listing-text standplan plan-entry plan-row plan-rows plan-table plan-verdict plan-read planned entry names due ready starting start-ticks sweep begun not-running fresh with-source begin ticked tick cannot-finish ended finish state-after bad-count
+unfolding every-basics every-reading every-links every-plan every-answers every-text every-runner
 every-definition = tt
 
 -- What is asked of a sheet: its listing, waits allowed or not, or its starts for a list of durations.
@@ -48,9 +77,6 @@ answered w = ask (w .bytes) (w .question)
 
 abbrev line : ℕ → ℕ → ℕ → StartLine
 line v a ticks = record { step = v; decider = a; ticks = ticks }
-
-abbrev wait : ℕ → ℕ → WaitPair
-wait a i = record { anchor = a; target = i }
 
 abbrev accepted : ℕ → List WaitPair → List StartLine → Answer
 accepted verdict waits lines = lists (given (record { verdict = verdict; waits = waits; starts = lines }))
@@ -135,7 +161,7 @@ worked-sheets =
     record { bytes = smallest; question = listing true; expected = accepted 0 [] (line 0 0 0 ∷ []) } ∷
     record { bytes = stand 2; question = listing true; expected = accepted 0 [] (line 0 0 0 ∷ line 1 0 0 ∷ line 2 0 0 ∷ line 3 0 1 ∷ line 3 2 0 ∷ line 4 0 3 ∷ line 4 2 2 ∷ []) } ∷
     record { bytes = stand 1; question = listing true; expected = refuses 10 } ∷
-    record { bytes = two-hands; question = listing true; expected = accepted 1 (wait 2 3 ∷ []) (line 0 0 0 ∷ line 1 0 0 ∷ line 2 0 0 ∷ line 3 1 0 ∷ line 3 2 0 ∷ line 4 2 0 ∷ []) } ∷
+    record { bytes = two-hands; question = listing true; expected = accepted 1 (wait-pair 2 3 ∷ []) (line 0 0 0 ∷ line 1 0 0 ∷ line 2 0 0 ∷ line 3 1 0 ∷ line 3 2 0 ∷ line 4 2 0 ∷ []) } ∷
     record { bytes = two-hands; question = listing false; expected = refuses 12 } ∷
     record { bytes = own-end; question = listing true; expected = refuses 11 } ∷
     record { bytes = from-start; question = listing true; expected = accepted 0 [] (line 0 0 0 ∷ line 1 0 0 ∷ line 2 0 10 ∷ line 2 1 0 ∷ []) } ∷
@@ -143,7 +169,7 @@ worked-sheets =
     record { bytes = circle; question = listing true; expected = refuses 8 } ∷
     record { bytes = stand 2; question = times-for (0 ∷ 0 ∷ 10 ∷ 0 ∷ 0 ∷ []); expected = started (0 ∷ 0 ∷ 0 ∷ 10 ∷ 12 ∷ []) } ∷
     record { bytes = stand 2; question = times-for (0 ∷ 0 ∷ 0 ∷ 0 ∷ 0 ∷ []); expected = started (0 ∷ 0 ∷ 0 ∷ 1 ∷ 3 ∷ []) } ∷
-    record { bytes = two-returns; question = listing true; expected = accepted 1 (wait 1 3 ∷ wait 1 4 ∷ []) (line 0 0 0 ∷ line 1 0 0 ∷ line 2 1 0 ∷ line 3 1 0 ∷ line 4 1 0 ∷ []) } ∷
+    record { bytes = two-returns; question = listing true; expected = accepted 1 (wait-pair 1 3 ∷ wait-pair 1 4 ∷ []) (line 0 0 0 ∷ line 1 0 0 ∷ line 2 1 0 ∷ line 3 1 0 ∷ line 4 1 0 ∷ []) } ∷
     faulty (0x00 ∷ []) 2 ∷
     faulty (0x41 ∷ []) 2 ∷
     faulty (0x00 ∷ 0x01 ∷ 0x02 ∷ []) 2 ∷
@@ -165,7 +191,7 @@ worked-sheets =
     faulty (0x03 ∷ 0x02 ∷ 0x00 ∷ 0x01 ∷ 0x00 ∷ 0x00 ∷ 0x02 ∷ 0x01 ∷ 0x02 ∷ 0x00 ∷ 0x00 ∷ 0x02 ∷ 0x02 ∷ 0x01 ∷ 0x00 ∷ 0x00 ∷ []) 8 ∷
     record { bytes = exposure; question = listing false; expected = accepted 0 [] (line 0 0 0 ∷ line 1 0 0 ∷ line 2 1 0 ∷ []) } ∷
     record { bytes = exposure; question = times-for (0 ∷ 9 ∷ 0 ∷ []); expected = started (0 ∷ 0 ∷ 9 ∷ []) } ∷
-    record { bytes = hand-over; question = listing true; expected = accepted 1 (wait 2 1 ∷ []) (line 0 0 0 ∷ line 1 2 0 ∷ line 2 0 0 ∷ line 3 1 0 ∷ []) } ∷
+    record { bytes = hand-over; question = listing true; expected = accepted 1 (wait-pair 2 1 ∷ []) (line 0 0 0 ∷ line 1 2 0 ∷ line 2 0 0 ∷ line 3 1 0 ∷ []) } ∷
     record { bytes = hand-over; question = listing false; expected = refuses 12 } ∷
     record { bytes = both-finish; question = listing true; expected = refuses 28 } ∷
     record { bytes = both-finish; question = listing false; expected = refuses 28 } ∷
@@ -203,8 +229,21 @@ map-member f g (y ∷ l) e x m = go (List·Memᴰ·cases-cons m) (map-member f g
 pub worked-answered : (w : Worked) → List·Memᴰ w worked-sheets → answered w ≡ w .expected
 worked-answered = map-member answered (λ w. w .expected) worked-sheets all-answered
 
--- What `standplan` prints of the stand sheet, byte by byte.
-pub stand-printed : standplan (stand 2) ≡ 118 ∷ 101 ∷ 114 ∷ 100 ∷ 105 ∷ 99 ∷ 116 ∷ 32 ∷ 48 ∷ 10 ∷ 119 ∷ 97 ∷ 105 ∷ 116 ∷ 115 ∷ 32 ∷ 48 ∷ 10 ∷ 115 ∷ 116 ∷ 97 ∷ 114 ∷ 116 ∷ 32 ∷ 48 ∷ 32 ∷ 48 ∷ 32 ∷ 48 ∷ 10 ∷ 115 ∷ 116 ∷ 97 ∷ 114 ∷ 116 ∷ 32 ∷ 49 ∷ 32 ∷ 48 ∷ 32 ∷ 48 ∷ 10 ∷ 115 ∷ 116 ∷ 97 ∷ 114 ∷ 116 ∷ 32 ∷ 50 ∷ 32 ∷ 48 ∷ 32 ∷ 48 ∷ 10 ∷ 115 ∷ 116 ∷ 97 ∷ 114 ∷ 116 ∷ 32 ∷ 51 ∷ 32 ∷ 48 ∷ 32 ∷ 49 ∷ 10 ∷ 115 ∷ 116 ∷ 97 ∷ 114 ∷ 116 ∷ 32 ∷ 51 ∷ 32 ∷ 50 ∷ 32 ∷ 48 ∷ 10 ∷ 115 ∷ 116 ∷ 97 ∷ 114 ∷ 116 ∷ 32 ∷ 52 ∷ 32 ∷ 48 ∷ 32 ∷ 51 ∷ 10 ∷ 115 ∷ 116 ∷ 97 ∷ 114 ∷ 116 ∷ 32 ∷ 52 ∷ 32 ∷ 50 ∷ 32 ∷ 50 ∷ 10 ∷ []
+-- What `standplan` prints of the stand sheet, byte by byte, a line of it to a row.
+abbrev stand-text : List ℕ
+stand-text =
+    118 ∷ 101 ∷ 114 ∷ 100 ∷ 105 ∷ 99 ∷ 116 ∷ 32 ∷ 48 ∷ 10 ∷
+    119 ∷ 97 ∷ 105 ∷ 116 ∷ 115 ∷ 32 ∷ 48 ∷ 10 ∷
+    115 ∷ 116 ∷ 97 ∷ 114 ∷ 116 ∷ 32 ∷ 48 ∷ 32 ∷ 48 ∷ 32 ∷ 48 ∷ 10 ∷
+    115 ∷ 116 ∷ 97 ∷ 114 ∷ 116 ∷ 32 ∷ 49 ∷ 32 ∷ 48 ∷ 32 ∷ 48 ∷ 10 ∷
+    115 ∷ 116 ∷ 97 ∷ 114 ∷ 116 ∷ 32 ∷ 50 ∷ 32 ∷ 48 ∷ 32 ∷ 48 ∷ 10 ∷
+    115 ∷ 116 ∷ 97 ∷ 114 ∷ 116 ∷ 32 ∷ 51 ∷ 32 ∷ 48 ∷ 32 ∷ 49 ∷ 10 ∷
+    115 ∷ 116 ∷ 97 ∷ 114 ∷ 116 ∷ 32 ∷ 51 ∷ 32 ∷ 50 ∷ 32 ∷ 48 ∷ 10 ∷
+    115 ∷ 116 ∷ 97 ∷ 114 ∷ 116 ∷ 32 ∷ 52 ∷ 32 ∷ 48 ∷ 32 ∷ 51 ∷ 10 ∷
+    115 ∷ 116 ∷ 97 ∷ 114 ∷ 116 ∷ 32 ∷ 52 ∷ 32 ∷ 50 ∷ 32 ∷ 50 ∷ 10 ∷
+    []
+
+pub stand-printed : standplan (stand 2) ≡ stand-text
 unfolding every-definition
 stand-printed = refl
 
@@ -217,7 +256,7 @@ run st table [] = []
 run st table (c ∷ cs) = map-or-refusal (called st table c) ∷ run (state-after st (called st table c)) table cs
 
 abbrev pub idle : State
-idle = record { n = 0; unbounded = 0; tick = 0; started = 0; finished = 0; start = replicate 64 0; finish = replicate 64 0 }
+idle = record { n = 0; unbounded = 0; tick = 0; started = 0; finished = 0; start = replicate most-steps 0; finish = replicate most-steps 0 }
 
 unfoldable pub stand-table : List ℕ
 stand-table = planned (stand 2) true (replicate 25 0) .numbers

@@ -1,6 +1,18 @@
 // The types of the planner's answers. What each of them means is said in specs/, in the order of document 01.
 
-// How long an operation lasts (a step that is open, or lasts a fixed number of ticks).
+// The limits that the code needs as constants; specs/Limits.antt has each with its reason.
+pub const MOST_RECORDS: usize = 512;
+
+pub const MOST_EDGES: usize = 4 * MOST_RECORDS;
+
+pub const MOST_DURATION: u32 = 16777215;
+
+pub const LAST_TICK: u32 = 4294967295;
+
+// The number of a plan's table where a step does not decide another (specs/Plan.antt).
+pub const UNDECIDED: u32 = 4294967295;
+
+// How long a step lasts: it is open, or lasts a fixed number of ticks.
 pub enum Delay {
     Open,
     Fixed(u16),
@@ -11,7 +23,10 @@ pub struct Operation {
     pub delay: Delay,
 }
 
-// A number of ticks that a link may carry or not.
+// ---- What a link record says. No code holds these three: the reader turns each record into edges as its fields are read (DECISIONS 15). The definitions are written with them (specs/Bytes.antt, specs/Links.antt),
+// and the sheet writer of request L4 will take its records as `Link`, with `Bound`.
+
+// A number of ticks that a link record has or not: a field whose bit stands.
 pub enum Bound {
     Absent,
     Ticks(u16),
@@ -27,11 +42,13 @@ pub struct Link {
     pub latest: Bound,
 }
 
-// The pair of the link record before, which the next pair has to rise above.
+// The pair of the link record before, which the next pair has to rise above: for the definition of reading alone (`rises`), the code compares one number.
 pub enum Previous {
     Nothing,
     Pair(u8, u8),
 }
+
+// ---- What the calls answer.
 
 // The refusals 1 to 18, in their order; then those of later requests, 26 and 28.
 pub enum Refusal {
@@ -94,14 +111,14 @@ pub struct WaitMaps {
     pub count: u32,
 }
 
-// A call of the dispatcher: a run of so many operations, with the map of those that are open, begins; the tick grows; an operation finishes.
+// A call of the runner: a run of so many steps, with the map of those that are open, begins; the tick grows; a step finishes.
 pub enum Call {
     Begin(usize, u64),
     Tick,
     Finish(usize),
 }
 
-// What a call of the dispatcher returns: the state after it and the map of the operations that it started.
+// What a call of the runner returns: the state after it and the map of the steps that it started.
 pub struct Dispatch {
     pub status: Status,
     pub state: State,

@@ -19,7 +19,7 @@ use Rattle.laws.proofs.Outcomes.{given-not-refused, refuse-own, refuse-other, r
 use Rattle.theory.proofs.PlanTables.{plan-table-length}
 use Rattle.theory.proofs.StartTimes.{start-times-length}
 use Rattle.demands.specs.Demands.{IsSheet, WithinLimits, WaitsCall, PlanCall, StartsCall, CallsFor, ReturnedFor}
-use Rattle.demands.proofs.Reading.{read-fits}
+use Rattle.demands.proofs.Reading.{fits-of}
 use Rattle.demands.proofs.Judging.{judge-never-past}
 use Rattle.demands.proofs.DelayLists.{limits-meant}
 
@@ -32,19 +32,10 @@ long-iff : (lent : List ℕ) (size : ℕ) → (too-short lent size ≡ false) �
 unfolding too-short
 long-iff lent size = (ltb-false (length lent) size, le-ltb (length lent) size)
 
--- What is written: the answer and the rest of what was lent, or what was lent.
-written-given : {o : Outcome ℕ} {v : ℕ} (new lent : List ℕ) → o ≡ given v → written o new lent ≡ new ++ drop (length new) lent
-unfolding written
-written-given new lent h = rw h
-
-written-refused : {o : Outcome ℕ} {k : ℕ} (new lent : List ℕ) → o ≡ refused k → written o new lent ≡ lent
-unfolding written
-written-refused new lent h = rw h
-
 module _ (s : List ℕ) (allow : Bool) (q : Records) (sheet : IsSheet s q) where
-  as-judged : judged s allow ≡ judge-records q allow
+  on-records : judged s allow ≡ judge-records q allow
   unfolding judged
-  as-judged = when-given-by (λ q. judge-records q allow) (sheet .reads)
+  on-records = when-given-by (λ q. judge-records q allow) (sheet .reads)
 
   never-past : {k : ℕ} → 12 < k → 28 ≢ k → judge-records q allow ≢ refused k
   unfolding judge-records
@@ -54,12 +45,12 @@ module _ (s : List ℕ) (allow : Bool) (q : Records) (sheet : IsSheet s q) where
   past : (f : ℕ → Outcome ℕ) (k : ℕ) → 12 < k → 28 ≢ k → (when-given (judge-records q allow) f ≡ refused k) ↔ ((v : ℕ) × (judged s allow ≡ given v) × (f v ≡ refused k))
   past f k h z =
       let r = when-given-refused (judge-records q allow) f k (never-past h z) in
-      (λ e. let a = r .0 e in (a .0, as-judged ∙ a .1, a .2), λ a. r .1 (a .0, sym as-judged ∙ a .1, a .2))
+      (λ e. let a = r .0 e in (a .0, on-records ∙ a .1, a .2), λ a. r .1 (a .0, sym on-records ∙ a .1, a .2))
 
   answered : (f : ℕ → Outcome ℕ) (w : ℕ) → (when-given (judge-records q allow) f ≡ given w) ↔ ((v : ℕ) × (judged s allow ≡ given v) × (f v ≡ given w))
   answered f w = (
-    λ e. let a = when-given-has (judge-records q allow) f e in (a .0, as-judged ∙ a .1, a .2),
-    λ a. when-given-by f (sym as-judged ∙ a .1) ∙ a .2,
+    λ e. let a = when-given-has (judge-records q allow) f e in (a .0, on-records ∙ a .1, a .2),
+    λ a. when-given-by f (sym on-records ∙ a .1) ∙ a .2,
   )
 
   module _ (table : List ℕ) where
@@ -78,6 +69,7 @@ module _ (s : List ℕ) (allow : Bool) (q : Records) (sheet : IsSheet s q) where
     plan-numbers = rw (sheet .reads)
 
     plan-call : PlanCall s allow q table
+    unfolding written
     plan-call = record {
       refused-14 = (
         λ h. let a = past after-plan 14 (omega arith) (λ e. omega arith) .0 (sym plan-is ∙ h) in ((a .0, a .1), short-iff table (count-of q * count-of q) .0 (refuse-own short 14 (given (a .0)) (λ e. given-not-refused e) .0 (a .2))),
@@ -87,8 +79,8 @@ module _ (s : List ℕ) (allow : Bool) (q : Records) (sheet : IsSheet s q) where
         λ h. let a = answered after-plan v .0 (sym plan-is ∙ h) in let b = refuse-given short 14 (given (a .0)) v .0 (a .2) in (a .1 ∙ b .1, long-iff table (count-of q * count-of q) .0 (b .0)),
         λ x. plan-is ∙ answered after-plan v .1 (v, x .0, refuse-given short 14 (given v) v .1 (long-iff table (count-of q * count-of q) .1 (x .1), refl)),
       );
-      numbers = λ v h. plan-numbers ∙ written-given (plan-table (count-of q) (serialized-of q)) table h ∙ ap (λ (k : ℕ). plan-table (count-of q) (serialized-of q) ++ drop k table) (plan-table-length (count-of q) (serialized-of q));
-      untouched = λ k h. plan-numbers ∙ written-refused (plan-table (count-of q) (serialized-of q)) table h;
+      numbers = λ v h. plan-numbers ∙ ap (λ (o : Outcome ℕ). written o (plan-table (count-of q) (serialized-of q)) table) h ∙ ap (λ (k : ℕ). plan-table (count-of q) (serialized-of q) ++ drop k table) (plan-table-length (count-of q) (serialized-of q));
+      untouched = λ k h. plan-numbers ∙ ap (λ (o : Outcome ℕ). written o (plan-table (count-of q) (serialized-of q)) table) h;
     }
 
   module _ (list out : List ℕ) where
@@ -105,7 +97,7 @@ module _ (s : List ℕ) (allow : Bool) (q : Records) (sheet : IsSheet s q) where
     after-starts v = refuse-if wrong 13 (after-list v)
 
     right-iff : (wrong ≡ false) ↔ WithinLimits q list
-    right-iff = limits-meant q (read-fits s q (sheet .bytes) (sheet .reads) .some) list
+    right-iff = limits-meant q (fits-of sheet .some) list
 
     lacking-iff : (lacking ≡ true) ↔ ((length list < count-of q) ⊎ (length out < count-of q))
     lacking-iff = (λ h. found (or-split (too-short list (count-of q)) (too-short out (count-of q)) h), test)
@@ -147,6 +139,7 @@ module _ (s : List ℕ) (allow : Bool) (q : Records) (sheet : IsSheet s q) where
         (λ h. let a = r .0 h in let b = t .0 (a .1) in (a .0, b .0, b .1), λ x. r .1 (x .0, t .1 (x .1, x .2)))
 
     starts-call : StartsCall s allow q list out
+    unfolding written
     starts-call = record {
       refused-13 = (
         λ h. let a = past after-starts 13 (omega arith) (λ e. omega arith) .0 (sym starts-are ∙ h) in ((a .0, a .1), passes-unless wrong right-iff .0 (thirteen (a .0) .0 (a .2))),
@@ -160,8 +153,8 @@ module _ (s : List ℕ) (allow : Bool) (q : Records) (sheet : IsSheet s q) where
         λ h. let a = answered after-starts v .0 (sym starts-are ∙ h) in let b = worked-out (a .0) v .0 (a .2) in let e = enough-iff .0 (b .1) in (a .1 ∙ b .2, right-iff .0 (b .0), e .0, e .1),
         λ x. starts-are ∙ answered after-starts v .1 (v, x .0, worked-out v v .1 (right-iff .1 (x .1), enough-iff .1 (x .2, x .3), refl)),
       );
-      numbers = λ v h. starts-numbers ∙ written-given (start-times (count-of q) (serialized-of q) (delays list)) out h ∙ ap (λ (k : ℕ). start-times (count-of q) (serialized-of q) (delays list) ++ drop k out) (start-times-length (count-of q) (serialized-of q) (delays list));
-      untouched = λ k h. starts-numbers ∙ written-refused (start-times (count-of q) (serialized-of q) (delays list)) out h;
+      numbers = λ v h. starts-numbers ∙ ap (λ (o : Outcome ℕ). written o (start-times (count-of q) (serialized-of q) (delays list)) out) h ∙ ap (λ (k : ℕ). start-times (count-of q) (serialized-of q) (delays list) ++ drop k out) (start-times-length (count-of q) (serialized-of q) (delays list));
+      untouched = λ k h. starts-numbers ∙ ap (λ (o : Outcome ℕ). written o (start-times (count-of q) (serialized-of q) (delays list)) out) h;
     }
 
 -- Listing waits.
@@ -189,7 +182,7 @@ module _ (s : List ℕ) (q : Records) (sheet : IsSheet s q) where
   waits-call : WaitsCall s q
   unfolding no-waits
   waits-call =
-      let j = as-judged s true q sheet in
+      let j = on-records s true q sheet in
       record {
         accepted = λ v. (λ h. j ∙ sym verdict-is ∙ h, λ h. verdict-is ∙ sym j ∙ h);
         maps = λ v h. ap (λ (w : Waits). w .maps) (waits-are ∙ waits-of-given (sym verdict-is ∙ h));

@@ -1,7 +1,8 @@
 -- The theorems: one for each statement of specs/Demands.antt, in its order.
 use mathlib.Core.Path.{refl}
-use Rattle.demands.specs.Demands.{EdgesMeant, ListsMeant, ImpossibleExactly, ReadExactly, WellFormedExactly, JudgedExactly, EachCallRefuses, StartsReturned, CallsExactly, StartsKept, NobodyEarlier, NobodyEarlierWithWaits, OursAmongRivals, NobodyEarlierWithoutForesight, OursWithoutForesight, Refused28Exactly, NothingNew, TestsMeant, WaitsListed, WaitsSound, OffsetsRight, StartRule, DecidingSets, PlanTable, LinesListed, FrontDecides, HypothesesMet}
-use Rattle.demands.proofs.Reading.{read-fits}
+use Rattle.demands.specs.Demands.{EdgesMeant, ListsMeant, ImpossibleExactly, ReadExactly, WellFormedExactly, JudgedExactly, EachCallRefuses, StartsReturned, CallsExactly, StartsKept, NobodyEarlier, NobodyEarlierWithWaits, OursAmongRivals, NobodyEarlierWithoutForesight}
+use Rattle.demands.specs.Demands.{OursWithoutForesight, Refused28Exactly, NothingNew, TestsMeant, WaitsListed, WaitsSound, OffsetsRight, StartRule, DecidingSets, PlanTable, LinesListed, FrontDecides, HypothesesMet}
+use Rattle.demands.proofs.Reading.{fits-of}
 use Rattle.demands.proofs.FirstBytes.{front-for}
 use Rattle.demands.proofs.Meaning.{meant-for}
 use Rattle.demands.proofs.Listing.{listed-for, lines-for}
@@ -24,7 +25,7 @@ edges-meant = keeps-sheet
 
 -- By each entry's limit.
 pub lists-meant : ListsMeant
-lists-meant s q sheet = limits-meant q (read-fits s q (sheet .bytes) (sheet .reads) .some)
+lists-meant s q sheet = limits-meant q (fits-of sheet .some)
 
 -- ## Demand 3
 
@@ -95,11 +96,11 @@ nothing-new = nothing-new-for
 
 -- Rounds over the edges reach what a walk reaches: a walk can be cut to fewer edges than there are steps.
 pub tests-meant : TestsMeant
-tests-meant s q sheet = meant-for (read-fits s q (sheet .bytes) (sheet .reads))
+tests-meant s q sheet = meant-for (fits-of sheet)
 
 -- The list is a selection of pairs by the test; the maps are the same pairs.
 pub waits-listed : WaitsListed
-waits-listed s q sheet = listed-for (read-fits s q (sheet .bytes) (sheet .reads))
+waits-listed s q sheet = listed-for (fits-of sheet)
 
 -- The waits carry each anchor over the returns that it may use; that they close no circle and leave start times is what 28 tests.
 pub waits-sound : WaitsSound
@@ -123,7 +124,7 @@ plan-table s allow q v accepted = plan-for accepted
 
 -- The lines are a selection of pairs by the test.
 pub lines-listed : LinesListed
-lines-listed s allow q v accepted = lines-for (read-fits s q (accepted .sheet .bytes) (accepted .sheet .reads)) accepted
+lines-listed s allow q v accepted = lines-for (fits-of (accepted .sheet)) accepted
 
 -- ## How much of an input decides
 

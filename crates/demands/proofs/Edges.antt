@@ -1,14 +1,16 @@
 -- The edges of a sheet: what holds of each, and that start times keep a link exactly if they keep its edge. The sheet may be a rival's, of any length.
 use mathlib.Core.Path.{_≡_, refl, sym, ap, subst, _∙_}
-use mathlib.Core.Bool.{Bool, true, false, not}
+use mathlib.Core.Bool.{Bool, true, false, not, false≢true}
 use mathlib.Core.Logic.{_⊎_, inl, inr, _≢_, _↔_}
 use mathlib.Core.List.{List, _++_, List·Memᴰ, List·Memᴰ·not-nil, List·Memᴰ·append-cases, List·Memᴰ·eq-of-singleton, Memᴰ·map, Memᴰ·of-map}
 use Prim.Native.Nat.{ℕ, zero, suc, _+_, _≤_, _<_}
 use native.Mathlib.Omega.{arith}
 use lib.Dec.{eqb}
 use borrow.Author.Tests.{eq-eqb, ne-eqb}
+use Rattle.definitions.specs.Limits.{most-ticks, most-gain, most-loss}
 use Rattle.definitions.specs.Bytes.{Records}
-use Rattle.definitions.specs.Links.{Constraint, sequencing, minimum, maximum, finish-maximum, sequencing-of, minimum-of, maximum-of, finish-maximum-of, link-constraints, constraints, delay-at, duration-with, duration, Keeps, KeepsAll, Edge, sequencing-edge, finish-edge, edge-of, edges, members, _⊑_}
+use Rattle.definitions.specs.Links.{Constraint, sequencing, minimum, maximum, finish-maximum, sequencing-of, minimum-of, maximum-of, finish-maximum-of, link-constraints, constraints, delay-at}
+use Rattle.definitions.specs.Links.{duration-with, duration, Keeps, KeepsAll, Edge, sequencing-edge, finish-edge, edge-of, edges, members, _⊑_}
 use Rattle.definitions.specs.Rival.{Further, Extension, Lasts}
 use Rattle.definitions.specs.Answers.{count-of, edges-of}
 use Rattle.definitions.specs.declared.Delay.{Delay}
@@ -17,7 +19,7 @@ use Rattle.definitions.specs.declared.Operation.{Operation}
 use Rattle.definitions.specs.declared.Bound.{Bound}
 use Rattle.definitions.specs.declared.Bound.the-variants.{Absent, Ticks}
 use Rattle.definitions.specs.declared.Link.{Link}
-use Rattle.laws.proofs.Bools.{same-or-not}
+use Rattle.laws.proofs.Bools.{both-ways, same-or-not}
 use Rattle.laws.proofs.Tests.{flatMap-only}
 use Rattle.theory.specs.Graphs.{KeepsEdge, Schedule, Shape, Gains, Losses, Timely}
 use Rattle.demands.specs.Demands.{NoLateLinks}
@@ -50,29 +52,57 @@ pub record EdgeFits (os : List Operation) (n : ℕ) (e : Edge) : Type 0 where
   pub late-not-source : e .late ≡ true → e .to ≢ 0
 
 false-true : {A : Type 0} → false ≡ true → A
-false-true e = let z : _≡_ {A = ℕ} 0 1 = cc in absurd (omega arith)
+false-true e = absurd (false≢true e)
+
+-- An edge that is neither counted nor late.
+plain-fits : {os : List Operation} {n : ℕ} {e : Edge} → e .from < n → e .to < n → e .counted ≡ false → e .late ≡ false → (e .back ≡ false → e .loss ≡ 0) → EdgeFits os n e
+plain-fits from to uncounted timely lossless = record {
+  from-below = from;
+  to-below = to;
+  back-uncounted = λ z. uncounted;
+  forward-lossless = lossless;
+  counted-open = λ z. absurd (both-ways z uncounted);
+  counted-not-source = λ z. absurd (both-ways z uncounted);
+  forward-timely = λ z. timely;
+  late-open = λ z. absurd (both-ways z timely);
+  late-not-source = λ z. absurd (both-ways z timely);
+}
 
 sequencing-fits : (os : List Operation) (n i j : ℕ) (d : Delay) → delay-at os i ≡ d → i < n → j < n → EdgeFits os n (sequencing-edge d i j)
 unfolding sequencing-edge
-sequencing-fits os n i j (Fixed x) h a b =
-    record { from-below = a; to-below = b; back-uncounted = λ z. refl; forward-lossless = λ z. refl; counted-open = λ z. false-true z; counted-not-source = λ z. false-true z; forward-timely = λ z. refl; late-open = λ z. false-true z; late-not-source = λ z. false-true z }
-sequencing-fits os n i j Open h a b =
-    record { from-below = a; to-below = b; back-uncounted = λ z. false-true z; forward-lossless = λ z. refl; counted-open = λ z. h; counted-not-source = λ z e. false-true (sym (ap not (eq-eqb i 0 e)) ∙ z); forward-timely = λ z. refl; late-open = λ z. false-true z; late-not-source = λ z. false-true z }
+sequencing-fits os n i j (Fixed x) h a b = plain-fits a b refl refl (λ z. refl)
+sequencing-fits os n i j Open h a b = record {
+  from-below = a;
+  to-below = b;
+  back-uncounted = λ z. false-true z;
+  forward-lossless = λ z. refl;
+  counted-open = λ z. h;
+  counted-not-source = λ z e. false-true (sym (ap not (eq-eqb i 0 e)) ∙ z);
+  forward-timely = λ z. refl;
+  late-open = λ z. false-true z;
+  late-not-source = λ z. false-true z;
+}
 
 finish-fits : (os : List Operation) (n i j u : ℕ) (d : Delay) → delay-at os i ≡ d → i < n → j < n → EdgeFits os n (finish-edge d i j u)
 unfolding finish-edge
-finish-fits os n i j u (Fixed x) h a b =
-    record { from-below = b; to-below = a; back-uncounted = λ z. refl; forward-lossless = λ z. false-true (sym z); counted-open = λ z. false-true z; counted-not-source = λ z. false-true z; forward-timely = λ z. refl; late-open = λ z. false-true z; late-not-source = λ z. false-true z }
-finish-fits os n i j u Open h a b =
-    record { from-below = b; to-below = a; back-uncounted = λ z. refl; forward-lossless = λ z. false-true (sym z); counted-open = λ z. false-true z; counted-not-source = λ z. false-true z; forward-timely = λ z. false-true (sym z); late-open = λ z. h; late-not-source = λ z e. false-true (sym (ap not (eq-eqb i 0 e)) ∙ z) }
+finish-fits os n i j u (Fixed x) h a b = plain-fits b a refl refl (λ z. false-true (sym z))
+finish-fits os n i j u Open h a b = record {
+  from-below = b;
+  to-below = a;
+  back-uncounted = λ z. refl;
+  forward-lossless = λ z. false-true (sym z);
+  counted-open = λ z. false-true z;
+  counted-not-source = λ z. false-true z;
+  forward-timely = λ z. false-true (sym z);
+  late-open = λ z. h;
+  late-not-source = λ z e. false-true (sym (ap not (eq-eqb i 0 e)) ∙ z);
+}
 
 edge-fits : (os : List Operation) (n : ℕ) (c : Constraint) → Ends n c → EdgeFits os n (edge-of os c)
 unfolding edge-of
 edge-fits os n (sequencing i j) h = sequencing-fits os n i j (delay-at os i) refl (h .0) (h .1)
-edge-fits os n (minimum i j m) h =
-    record { from-below = h .0; to-below = h .1; back-uncounted = λ z. refl; forward-lossless = λ z. refl; counted-open = λ z. false-true z; counted-not-source = λ z. false-true z; forward-timely = λ z. refl; late-open = λ z. false-true z; late-not-source = λ z. false-true z }
-edge-fits os n (maximum i j u) h =
-    record { from-below = h .1; to-below = h .0; back-uncounted = λ z. refl; forward-lossless = λ z. false-true (sym z); counted-open = λ z. false-true z; counted-not-source = λ z. false-true z; forward-timely = λ z. refl; late-open = λ z. false-true z; late-not-source = λ z. false-true z }
+edge-fits os n (minimum i j m) h = plain-fits (h .0) (h .1) refl refl (λ z. refl)
+edge-fits os n (maximum i j u) h = plain-fits (h .1) (h .0) refl refl (λ z. false-true (sym z))
 edge-fits os n (finish-maximum i j u) h = finish-fits os n i j u (delay-at os i) refl (h .0) (h .1)
 
 -- An edge of a list of links is the edge of one of them.
@@ -90,7 +120,14 @@ all-fit os n cs ends e m =
     subst (EdgeFits os n) (r .2) (edge-fits os n (r .0) (ends (r .0) (r .1)))
 
 pub edges-shape : (os : List Operation) (n : ℕ) (cs : List Constraint) → ((c : Constraint) → List·Memᴰ c cs → Ends n c) → Shape n (members (edges os cs))
-edges-shape os n cs ends = record { from-below = λ e m. all-fit os n cs ends e m .from-below; to-below = λ e m. all-fit os n cs ends e m .to-below; back-uncounted = λ e m. all-fit os n cs ends e m .back-uncounted; forward-lossless = λ e m. all-fit os n cs ends e m .forward-lossless; forward-timely = λ e m. all-fit os n cs ends e m .forward-timely; late-not-source = λ e m. all-fit os n cs ends e m .late-not-source }
+edges-shape os n cs ends = record {
+  from-below = λ e m. all-fit os n cs ends e m .from-below;
+  to-below = λ e m. all-fit os n cs ends e m .to-below;
+  back-uncounted = λ e m. all-fit os n cs ends e m .back-uncounted;
+  forward-lossless = λ e m. all-fit os n cs ends e m .forward-lossless;
+  forward-timely = λ e m. all-fit os n cs ends e m .forward-timely;
+  late-not-source = λ e m. all-fit os n cs ends e m .late-not-source;
+}
 
 -- A link's edge is late where it counts from the finish of an open step other than 0, and nowhere else.
 finish-timely : (os : List Operation) (i j u : ℕ) (d : Delay) → delay-at os i ≡ d → ¬ Lasts os i → finish-edge d i j u .late ≡ false
@@ -187,7 +224,7 @@ unfolding finish-maximum-of
 finish-is n g i j (Ticks x) c a b h m = subst (LinkIs n g) (sym (List·Memᴰ·eq-of-singleton m)) (record { ends = (a, b); within = h x refl })
 finish-is n g i j Absent c a b h m = absurd (List·Memᴰ·not-nil m)
 
-record-is : (n : ℕ) (l : Link) (c : Constraint) → LinkFits n l → List·Memᴰ c (link-constraints l) → LinkIs n 65535 c
+record-is : (n : ℕ) (l : Link) (c : Constraint) → LinkFits n l → List·Memᴰ c (link-constraints l) → LinkIs n most-ticks c
 unfolding link-constraints
 record-is n l c f m = go (List·Memᴰ·append-cases (three l) m)
   where
@@ -197,21 +234,21 @@ record-is n l c f m = go (List·Memᴰ·append-cases (three l) m)
     three : Link → List Constraint
     three l = two l ++ maximum-of (l .from) (l .to) (l .maximum)
 
-    first : List·Memᴰ c (sequencing-of (l .from) (l .to) (l .sequencing)) ⊎ List·Memᴰ c (minimum-of (l .from) (l .to) (l .minimum)) → LinkIs n 65535 c
-    first (inl i) = sequencing-is n 65535 (l .from) (l .to) (l .sequencing) c (f .from-below) (f .to-below) i
-    first (inr i) = minimum-is n 65535 (l .from) (l .to) (l .minimum) c (f .from-below) (f .to-below) (f .minimum-few) i
+    first : List·Memᴰ c (sequencing-of (l .from) (l .to) (l .sequencing)) ⊎ List·Memᴰ c (minimum-of (l .from) (l .to) (l .minimum)) → LinkIs n most-ticks c
+    first (inl i) = sequencing-is n most-ticks (l .from) (l .to) (l .sequencing) c (f .from-below) (f .to-below) i
+    first (inr i) = minimum-is n most-ticks (l .from) (l .to) (l .minimum) c (f .from-below) (f .to-below) (f .minimum-few) i
 
-    second : List·Memᴰ c (two l) ⊎ List·Memᴰ c (maximum-of (l .from) (l .to) (l .maximum)) → LinkIs n 65535 c
+    second : List·Memᴰ c (two l) ⊎ List·Memᴰ c (maximum-of (l .from) (l .to) (l .maximum)) → LinkIs n most-ticks c
     second (inl i) = first (List·Memᴰ·append-cases (sequencing-of (l .from) (l .to) (l .sequencing)) i)
-    second (inr i) = maximum-is n 65535 (l .from) (l .to) (l .maximum) c (f .from-below) (f .to-below) (f .maximum-few) i
+    second (inr i) = maximum-is n most-ticks (l .from) (l .to) (l .maximum) c (f .from-below) (f .to-below) (f .maximum-few) i
 
-    go : List·Memᴰ c (three l) ⊎ List·Memᴰ c (finish-maximum-of (l .from) (l .to) (l .latest)) → LinkIs n 65535 c
+    go : List·Memᴰ c (three l) ⊎ List·Memᴰ c (finish-maximum-of (l .from) (l .to) (l .latest)) → LinkIs n most-ticks c
     go (inl i) = second (List·Memᴰ·append-cases (two l) i)
-    go (inr i) = finish-is n 65535 (l .from) (l .to) (l .latest) c (f .from-below) (f .to-below) (f .latest-few) i
+    go (inr i) = finish-is n most-ticks (l .from) (l .to) (l .latest) c (f .from-below) (f .to-below) (f .latest-few) i
 
 -- The edges of a sheet that has been read.
 module _ {q : Records} (fits : Fits q) where
-  sheet-link : (c : Constraint) → List·Memᴰ c (constraints (q .pairs)) → LinkIs (count-of q) 65535 c
+  sheet-link : (c : Constraint) → List·Memᴰ c (constraints (q .pairs)) → LinkIs (count-of q) most-ticks c
   unfolding constraints
   sheet-link c m = let r = flatMap-only link-constraints (q .pairs) m in record-is (count-of q) (r .0) c (fits .links (r .0) (r .1)) (r .2)
 
@@ -226,17 +263,18 @@ module _ {q : Records} (fits : Fits q) where
   unfolding edges-of
   sheet-shape = edges-shape (q .steps) (count-of q) (constraints (q .pairs)) sheet-ends
 
-  sheet-weights : (e : Edge) → members (edges-of q) e → (e .gain ≤ 65535) × (e .loss ≤ 131070)
+  -- The numbers of a sheet are of two bytes: a gain is one of them, a loss one or two.
+  sheet-weights : (e : Edge) → members (edges-of q) e → (e .gain ≤ most-ticks) × (e .loss ≤ most-ticks + most-ticks)
   unfolding edges-of
   sheet-weights e m =
       let r = edge-link (q .steps) (constraints (q .pairs)) e m in
-      subst (λ (x : Edge). (x .gain ≤ 65535) × (x .loss ≤ 131070)) (r .2) (edge-weights (q .steps) 65535 (fits .ticks) (r .0) (sheet-link (r .0) (r .1) .within))
+      subst (λ (x : Edge). (x .gain ≤ most-ticks) × (x .loss ≤ most-ticks + most-ticks)) (r .2) (edge-weights (q .steps) most-ticks (fits .ticks) (r .0) (sheet-link (r .0) (r .1) .within))
 
-  pub sheet-gains : Gains (members (edges-of q)) 65535
-  sheet-gains e m = sheet-weights e m .0
+  pub sheet-gains : Gains (members (edges-of q)) most-gain
+  sheet-gains e m = omega (arith, sheet-weights e m .0)
 
-  pub sheet-losses : Losses (members (edges-of q)) 131070
-  sheet-losses e m = sheet-weights e m .1
+  pub sheet-losses : Losses (members (edges-of q)) most-loss
+  sheet-losses e m = omega (arith, sheet-weights e m .1)
 
   -- Without late links no edge is late: by the link that it is.
   pub sheet-timely : NoLateLinks q → Timely (members (edges-of q))

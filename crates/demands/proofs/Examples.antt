@@ -2,29 +2,26 @@
 use mathlib.Core.Path.{_≡_, refl, sym, subst}
 use mathlib.Core.Bool.{Bool, true, false}
 use mathlib.Core.Logic.{_⊎_, inl, inr}
-use mathlib.Core.List.{List, [], _∷_, _++_, flatMap, List·Memᴰ, List·Memᴰ·head, List·Memᴰ·tail, List·Memᴰ·not-nil, List·Memᴰ·cases-cons, List·Memᴰ·append-cases, Memᴰ·append-left}
+use mathlib.Core.List.{List, [], _∷_, _++_, List·Memᴰ, List·Memᴰ·head, List·Memᴰ·tail, List·Memᴰ·not-nil, List·Memᴰ·cases-cons, List·Memᴰ·append-cases, Memᴰ·append-left}
 use Prim.Native.Nat.{ℕ, zero, suc, _+_, _<_}
 use native.Mathlib.Omega.{arith}
 use lib.Dec.{leb, ltb}
 use lib.ListN.{length, getD}
 use borrow.Author.Tests.{ltb-true, leb-true}
-use Rattle.definitions.specs.Basics.{any, all, any-below, all-below, tabulate, select-below, largest, test-bit, bits-below, Outcome, given, refused, refuse-if, when-given}
-use Rattle.definitions.specs.Bytes.{demand, byte, two-bytes, ticks-if, operation-map, delay-from, operation, link-map, sequenced, endpoints, rises, bound-from, link, records, operations, pair-of, links, at-end, Records, sheet, read}
-use Rattle.definitions.specs.Links.{Constraint, sequencing, minimum, maximum, finish-maximum, sequencing-of, minimum-of, maximum-of, finish-maximum-of, link-constraints, constraints, delay-at, duration-with, duration, Keeps, sequencing-edge, finish-edge, edge-of, edges, forwards, late-into, usable}
-use Rattle.definitions.specs.Rounds.{extend, raise, round, rounds, stable, source-row, seed, seeds, after-row, bares, reaches, after-reaches}
-use Rattle.definitions.specs.Anchors.{in-anchor-set, well-posed}
-use Rattle.definitions.specs.Waits.{waits-for, waits-of, wait-list, wait-count, needs-waits, serialized}
-use Rattle.definitions.specs.Plan.{first-row, offset-row, offset, start-from, start-turns, start-times}
+use Rattle.definitions.specs.Basics.{all, Outcome, given, refused}
+use Rattle.definitions.specs.Bytes.{links, Records, sheet, read}
+use Rattle.definitions.specs.Links.{Constraint, sequencing, minimum, maximum, finish-maximum, constraints, delay-at, duration-with, duration, Keeps, edges}
+use Rattle.definitions.specs.Anchors.{well-posed}
 use Rattle.definitions.specs.Rival.{Further, DelayAssignment}
-use Rattle.definitions.specs.Answers.{closes-circle, unreached, infeasible, inconsistent, unserializable, judge-edges, count-of, edges-of, serialized-of, judge-records, judged}
-use Rattle.definitions.specs.Worked.{Worked, listing, lists, worked-sheets}
+use Rattle.definitions.specs.Answers.{closes-circle, unreached, infeasible, inconsistent, count-of, edges-of, serialized-of, judged}
+use Rattle.definitions.specs.Worked.{Worked, every-definition, listing, lists, worked-sheets}
 use Rattle.definitions.specs.declared.Delay.the-variants.{Open}
 use Rattle.definitions.specs.declared.Operation.{Operation}
 use Rattle.laws.proofs.Tests.{all-each}
 use Rattle.laws.proofs.Lists.{mem-at}
 use Rattle.theory.proofs.Reachability.{well-posed-iff}
 use Rattle.demands.specs.Demands.{Bytes, IsSheet, WellFormed, WorkedBytes, RivalMet, ForesightEarlier, HypothesesMet, our-start}
-use Rattle.demands.proofs.Reading.{read-fits}
+use Rattle.demands.proofs.Reading.{fits-of}
 use Rattle.demands.proofs.Edges.{Ends, edges-shape, sheet-ends}
 use Rattle.demands.proofs.Impossibility.{impossible-for}
 
@@ -35,7 +32,7 @@ no-sheet = record { bytes = []; question = listing true; expected = lists (refus
 abbrev worked : ℕ → List ℕ
 worked k = getD worked-sheets k no-sheet .bytes
 
-abbrev records-in : Outcome Records → Records
+abbrev pub records-in : Outcome Records → Records
 records-in (given q) = q
 records-in (refused k) = record { steps = []; pairs = [] }
 
@@ -152,7 +149,7 @@ each-used P a b c d e f g k m = go (List·Memᴰ·cases-cons m)
     go (inr i) = second (List·Memᴰ·cases-cons i)
 
 computed : Computed
-unfolding any all any-below all-below tabulate select-below largest test-bit bits-below refuse-if when-given demand byte two-bytes ticks-if operation-map delay-from operation link-map sequenced endpoints rises bound-from link records operations pair-of links at-end sheet read sequencing-of minimum-of maximum-of finish-maximum-of link-constraints constraints delay-at duration-with duration sequencing-edge finish-edge edge-of edges forwards late-into usable extend raise round rounds stable source-row seed seeds after-row bares reaches after-reaches in-anchor-set well-posed waits-for waits-of wait-list wait-count needs-waits serialized first-row offset-row offset start-from start-turns start-times closes-circle unreached infeasible inconsistent unserializable judge-edges edges-of serialized-of judge-records judged worked-sheets flatMap keeps-test
+unfolding every-definition duration-with duration well-posed judged worked-sheets keeps-test
 computed = record {
   size = refl;
   bytes = each-used (λ k. all (λ b. ltb b 256) (worked k) ≡ true) refl refl refl refl refl refl refl;
@@ -234,7 +231,7 @@ rival-ends : (c : Constraint) → List·Memᴰ c rival-links → Ends (count-of 
 rival-ends c m = go (rival-only c (List·Memᴰ·append-cases (constraints (hands .pairs)) m))
   where
     go : List·Memᴰ c (constraints (hands .pairs)) ⊎ Further (count-of hands) c → Ends (count-of hands) c
-    go (inl i) = sheet-ends (read-fits (worked 3) hands (is-sheet 3 is-3 .bytes) (is-sheet 3 is-3 .reads)) c i
+    go (inl i) = sheet-ends (fits-of (is-sheet 3 is-3)) c i
     go (inr f) = further-ends c f
 
 rival-met : RivalMet hands

@@ -3,12 +3,13 @@
 use mathlib.Core.Path.{_≡_, refl, ap, _∙_}
 use mathlib.Core.Bool.{Bool, true, false, _&&_}
 use mathlib.Core.List.{List, [], _∷_}
-use Prim.Native.Nat.{ℕ, zero, suc, _+_, _*_, _≤_}
+use Prim.Native.Nat.{ℕ, zero, suc, _+_, _-_, _*_, _≤_}
 use native.Mathlib.Omega.{arith}
 use native.Mathlib.Nat.{suc-mul}
 use lib.Dec.{leb}
 use lib.ListN.{take}
 use borrow.Author.Tests.{leb-true, eqb-true}
+use Rattle.definitions.specs.Limits.{most-steps, most-records, longest-sheet, longest-step, longest-record}
 use Rattle.definitions.specs.Basics.{test-bit, Outcome, given, refused, when-given}
 use Rattle.definitions.specs.Bytes.{Taken, Parser, _>>=_, _>>_, give, demand, byte, two-bytes, ticks-if, operation-map, operation, link-map, sequenced, endpoints, rises, link, records, operations, pair-of, links, at-end, Records, sheet, read}
 use Rattle.definitions.specs.Output.{listed, list-records, listing-text, standplan}
@@ -77,8 +78,8 @@ unfolding ticks-if
 looks-ticks true = looks-two-bytes
 looks-ticks false = looks-more (omega arith) (looks-give 0)
 
--- A step record has at most 3 bytes, that of step 0 one.
-looks-operation : (first : Bool) → Looks (operation first) 3
+-- A step record, that of step 0 with one byte.
+looks-operation : (first : Bool) → Looks (operation first) longest-step
 unfolding operation
 looks-operation first = looks-bind looks-byte (λ m. looks-demand (operation-map first m) 4 (λ h. looks-bind (looks-ticks (test-bit m 1)) (λ ticks. looks-give _)))
 
@@ -86,8 +87,8 @@ looks-first : Looks (operation true) 1
 unfolding operation operation-map test-bit ticks-if
 looks-first = looks-bind {k = 0} looks-byte (λ m. looks-demand (operation-map true m) 4 (λ h. rw (eqb-true m 1 h) (looks-bind (looks-give 0) (λ ticks. looks-give _))))
 
--- A link record has at most 9.
-looks-link : (n : ℕ) (previous : Previous) → Looks (link n previous) 9
+-- A link record.
+looks-link : (n : ℕ) (previous : Previous) → Looks (link n previous) longest-record
 unfolding link
 looks-link n previous =
     looks-bind looks-byte
@@ -109,28 +110,28 @@ looks-records item next j each zero state = looks-more (omega arith) (looks-give
 looks-records item next j each (suc k) state =
     looks-more (omega (arith, suc-mul k j)) (looks-bind (each state) (λ x. looks-bind (looks-records item next j each k (next x)) (λ xs. looks-give (x ∷ xs))))
 
-looks-operations : (n : ℕ) → 1 ≤ n → n ≤ 64 → Looks (operations n) (1 + 63 * 3)
+looks-operations : (n : ℕ) → 1 ≤ n → n ≤ most-steps → Looks (operations n) (1 + (most-steps - 1) * longest-step)
 unfolding operations records
 looks-operations zero low high = absurd (omega arith)
 looks-operations (suc n) low high =
-    looks-more (omega arith) (looks-bind looks-first (λ x. looks-bind (looks-records operation (λ o. false) 3 looks-operation n false) (λ xs. looks-give (x ∷ xs))))
+    looks-more (omega arith) (looks-bind looks-first (λ x. looks-bind (looks-records operation (λ o. false) longest-step looks-operation n false) (λ xs. looks-give (x ∷ xs))))
 
-looks-links : (n r : ℕ) → r ≤ 512 → Looks (links n r) (512 * 9)
+looks-links : (n r : ℕ) → r ≤ most-records → Looks (links n r) (most-records * longest-record)
 unfolding links
-looks-links n r high = looks-more (omega arith) (looks-records (link n) pair-of 9 (looks-link n) r Nothing)
+looks-links n r high = looks-more (omega arith) (looks-records (link n) pair-of longest-record (looks-link n) r Nothing)
 
 -- Three bytes in front, the records, and one for the end.
-looks-sheet : Looks sheet (3 + (1 + 63 * 3) + 512 * 9 + 1)
+looks-sheet : Looks sheet (longest-sheet + 1)
 unfolding sheet
 looks-sheet =
     looks-bind looks-byte
-    (λ n. looks-demand (leb 1 n && leb n 64) 2
+    (λ n. looks-demand (leb 1 n && leb n most-steps) 2
     (λ h2. looks-bind looks-two-bytes
-    (λ r. looks-demand (leb r 512) 3
+    (λ r. looks-demand (leb r most-records) 3
     (λ h3.
-    let c = and-split (leb 1 n) (leb n 64) h2 in
-    looks-bind (looks-operations n (leb-true 1 n (c .0)) (leb-true n 64 (c .1)))
-    (λ os. looks-bind (looks-links n r (leb-true r 512 h3))
+    let c = and-split (leb 1 n) (leb n most-steps) h2 in
+    looks-bind (looks-operations n (leb-true 1 n (c .0)) (leb-true n most-steps (c .1)))
+    (λ os. looks-bind (looks-links n r (leb-true r most-records h3))
     (λ ls. looks-bind looks-end (λ u. looks-give (record { steps = os; pairs = ls }))))))))
 
 -- The theorem of this file: what is left is dropped in the end, so its cut does not show.

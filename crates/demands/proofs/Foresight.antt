@@ -11,13 +11,13 @@ use Rattle.definitions.specs.Bytes.{Records}
 use Rattle.definitions.specs.Links.{Edge, Graph, LateInto, members, constraints, delay-at, duration-with, duration}
 use Rattle.definitions.specs.Rival.{Lasts, DelayAssignment, FinishedBy, DynamicStrategy}
 use Rattle.definitions.specs.Waits.{Wait, serialized}
-use Rattle.definitions.specs.Answers.{infeasible, inconsistent, unserializable, judged, judge-edges, count-of, edges-of, serialized-of}
+use Rattle.definitions.specs.Answers.{infeasible, inconsistent, unserializable, judged, count-of, edges-of, serialized-of}
 use Rattle.definitions.specs.declared.Delay.{Delay}
 use Rattle.definitions.specs.declared.Delay.the-variants.{Open, Fixed}
 use Rattle.definitions.specs.declared.Operation.{Operation}
-use Rattle.laws.proofs.Bools.{bool-cases, both-ways, not-passing}
+use Rattle.laws.proofs.Bools.{bool-cases, both-ways}
 use Rattle.laws.proofs.Outcomes.{refused-same}
-use Rattle.theory.specs.Graphs.{Carries, ForwardAcyclic, Serializable, Shape, Timely, Well}
+use Rattle.theory.specs.Graphs.{Carries, Serializable, Timely, Well}
 use Rattle.theory.specs.Strategies.{Ended, Strategy, Unbounded}
 use Rattle.theory.proofs.Plans.{plan-least-strategy, plan-strategy, plan-strategy-serializable, plan-timely}
 use Rattle.theory.proofs.Serialization.{waited-timely}
@@ -25,12 +25,11 @@ use Rattle.theory.proofs.Usables.{timely-usable, usable-sub, usable-timely}
 use Rattle.theory.proofs.WaitLists.{serialized-waited}
 use Rattle.theory.proofs.Walks.{after-mono, offset-same, some-after}
 use Rattle.demands.specs.Demands.{Accepted, IsSheet, WellFormed, NoLateLinks, NoRival, NothingNewFor, PlainWait, Sound, our-start}
-use Rattle.demands.proofs.Reading.{Fits, read-fits}
+use Rattle.demands.proofs.Reading.{Fits, fits-of}
 use Rattle.demands.proofs.Edges.{sheet-fits, sheet-shape, sheet-timely}
-use Rattle.demands.proofs.Judging.{judge-10, judge-11, judge-28, judged-edges}
-use Rattle.demands.proofs.Sheets.{not-8, not-9, not-10-11, serializable-iff}
 use Rattle.demands.proofs.Impossibility.{keeps-sheet}
-use Rattle.demands.proofs.OurStarts.{accepted-fits, accepted-serial, accepted-well, open-duration}
+use Rattle.demands.proofs.Formed.{accepted-fits, accepted-serial, accepted-well, formed-acyclic, formed-fits, formed-serial, formed-shape, formed-well, judged-28, not-judged-10, not-judged-11}
+use Rattle.demands.proofs.OurStarts.{open-duration}
 use Rattle.demands.proofs.Verdicts.{refused-formed}
 use Rattle.demands.proofs.Listing.{listed-for}
 use Rattle.demands.proofs.Planning.{offset-for}
@@ -59,8 +58,11 @@ lasting os d v o = open-duration d v (delay-at os v) (o .not-source) (o .open-st
 
 module _ {q : Records} (fits : Fits q) where
   unbounded : Unbounded (Lasts (q .steps)) (members (edges-of q))
-  unbounded =
-      record { not-source = λ o. o .not-source refl; counted-open = λ e m c z. record { not-source = z; open-step = sheet-fits fits e m .counted-open c }; late-open = λ e m l. record { not-source = sheet-fits fits e m .late-not-source l; open-step = sheet-fits fits e m .late-open l } }
+  unbounded = record {
+    not-source = λ o. o .not-source refl;
+    counted-open = λ e m c z. record { not-source = z; open-step = sheet-fits fits e m .counted-open c };
+    late-open = λ e m l. record { not-source = sheet-fits fits e m .late-not-source l; open-step = sheet-fits fits e m .late-open l };
+  }
 
   -- Where two lists give the same durations, and where they give the same delays.
   module _ (ρ : (ℕ → ℕ) → ℕ → ℕ) (d d′ : ℕ → ℕ) (L : DelayAssignment (q .steps) d) (L′ : DelayAssignment (q .steps) d′) (t v : ℕ) where
@@ -103,69 +105,44 @@ module _ {s : List ℕ} {allow : Bool} {q : Records} {v : ℕ} (accepted : Accep
 
 -- 28: a rival keeps the waits and shows that they can be put in; and where they can, ours is one.
 module _ (s : List ℕ) (allow : Bool) (q : Records) (formed : WellFormed s q) where
-  abbrev n : ℕ
-  n = count-of q
+  abbrev unserial : Bool
+  unserial = unserializable (count-of q) (edges-of q)
 
-  abbrev es : List Edge
-  es = edges-of q
+  refused-no-rival : judged s allow ≡ refused 28 → NoRival q
+  refused-no-rival h ρ R =
+      let serial = plan-strategy-serializable (formed-shape formed) (formed-acyclic formed) (unbounded (formed-fits formed)) (on-edges (formed-fits formed) R) in
+      both-ways (judged-28 formed allow .0 h .2) (formed-serial formed .1 serial)
 
-  fits : Fits q
-  fits = read-fits s q (formed .sheet .bytes) (formed .sheet .reads)
+  no-rival-refused : judged s allow ≢ refused 10 → judged s allow ≢ refused 11 → NoRival q → judged s allow ≡ refused 28
+  no-rival-refused h k nobody = go (bool-cases unserial)
+    where
+      feasible : infeasible (count-of q) (edges-of q) ≡ false
+      feasible = not-judged-10 formed allow h
 
-  shape : Shape n (members es)
-  shape = sheet-shape fits
+      consistent : inconsistent (count-of q) (edges-of q) ≡ false
+      consistent = not-judged-11 formed allow feasible k
 
-  as-judged : judged s allow ≡ judge-edges n es allow
-  as-judged = judged-edges s (formed .sheet .reads) allow
-
-  acyclic : ForwardAcyclic (members es)
-  acyclic = not-8 (fits .some) shape (formed .no-circle)
-
-  serial : (unserializable n es ≡ false) ↔ Serializable (members (serialized n es))
-  serial = serializable-iff (fits .some) shape (not-9 (fits .some) shape (formed .all-reached))
+      go : (unserial ≡ true) ⊎ (unserial ≡ false) → judged s allow ≡ refused 28
+      go (inl t) = judged-28 formed allow .1 (feasible, consistent, t)
+      go (inr f) = absurd (nobody (our-start q) (ours-by (formed-fits formed) (formed-well formed feasible consistent) (formed-serial formed .0 f)))
 
   pub rivals-28 : (judged s allow ≡ refused 28) ↔ ((judged s allow ≢ refused 10) × (judged s allow ≢ refused 11) × NoRival q)
-  rivals-28 = (λ h. (λ k. let z : _≡_ {A = ℕ} 28 10 = refused-same (sym h ∙ k) in omega arith, λ k. let z : _≡_ {A = ℕ} 28 11 = refused-same (sym h ∙ k) in omega arith, none h), λ r. given-28 (r .0) (r .1) (r .2))
+  rivals-28 = (λ h. (other h (λ e. omega arith), other h (λ e. omega arith), refused-no-rival h), λ r. no-rival-refused (r .0) (r .1) (r .2))
     where
-      twenty-eight : (judge-edges n es allow ≡ refused 28) ↔ ((infeasible n es ≡ false) × (inconsistent n es ≡ false) × (unserializable n es ≡ true))
-      twenty-eight = judge-28 n es allow (formed .no-circle) (formed .all-reached)
-
-      none : judged s allow ≡ refused 28 → NoRival q
-      none h ρ R = both-ways (twenty-eight .0 (sym as-judged ∙ h) .2) (serial .1 (plan-strategy-serializable shape acyclic (unbounded fits) (on-edges fits R)))
-
-      given-28 : judged s allow ≢ refused 10 → judged s allow ≢ refused 11 → NoRival q → judged s allow ≡ refused 28
-      given-28 h k nobody = go (bool-cases (unserializable n es))
-        where
-          feasible : infeasible n es ≡ false
-          feasible = not-passing (infeasible n es) (λ t. h (as-judged ∙ judge-10 n es allow (formed .no-circle) (formed .all-reached) .1 t))
-
-          consistent : inconsistent n es ≡ false
-          consistent = not-passing (inconsistent n es) (λ t. k (as-judged ∙ judge-11 n es allow (formed .no-circle) (formed .all-reached) .1 (feasible, t)))
-
-          well : Well n (members es)
-          well = not-10-11 (fits .some) shape (not-9 (fits .some) shape (formed .all-reached)) feasible consistent
-
-          go : (unserializable n es ≡ true) ⊎ (unserializable n es ≡ false) → judged s allow ≡ refused 28
-          go (inl t) = as-judged ∙ twenty-eight .1 (feasible, consistent, t)
-          go (inr f) = absurd (nobody (our-start q) (ours-by fits well (serial .0 f)))
+      other : {k : ℕ} → judged s allow ≡ refused 28 → 28 ≢ k → judged s allow ≢ refused k
+      other h apart e = apart (refused-same (sym h ∙ e))
 
 -- Without late links every walk may take every edge, and the waits can always be put in.
 module _ (s : List ℕ) (allow : Bool) (q : Records) (sheet : IsSheet s q) (none : NoLateLinks q) where
   abbrev E : Graph
   E = members (edges-of q)
 
-  fits-new : Fits q
-  fits-new = read-fits s q (sheet .bytes) (sheet .reads)
-
-  shape-new : Shape (count-of q) E
-  shape-new = sheet-shape fits-new
-
   timely : Timely E
-  timely = sheet-timely fits-new none
+  timely = sheet-timely (fits-of sheet) none
 
   timely-serialized : Timely (members (serialized-of q))
   unfolding serialized-of
-  timely-serialized = waited-timely (serialized-waited shape-new) shape-new timely
+  timely-serialized = waited-timely (serialized-waited (sheet-shape (fits-of sheet))) (sheet-shape (fits-of sheet)) timely
 
   plain-sound : Sound q ↔ ((a : ℕ) → Carries E a)
   plain-sound = (λ posed a e m b i. here a e (posed a e m b i) (timely e m), λ carries a e m b i. inl (carries a e m b i))
@@ -182,18 +159,16 @@ module _ (s : List ℕ) (allow : Bool) (q : Records) (sheet : IsSheet s q) (none
 
   never : judged s allow ≢ refused 28
   never h =
-      let f = refused-formed s allow q sheet (λ e. omega arith) (λ e. omega arith) h in
-      let r = judge-28 (count-of q) (edges-of q) allow (f .no-circle) (f .all-reached) .0 (sym (judged-edges s (sheet .reads) allow) ∙ h) in
-      let rooted = not-9 (fits-new .some) shape-new (f .all-reached) in
-      let well = not-10-11 (fits-new .some) shape-new rooted (r .0) (r .1) in
-      both-ways (r .2) (serializable-iff (fits-new .some) shape-new rooted .1 (plan-timely timely well (not-8 (fits-new .some) shape-new (f .no-circle))))
+      let formed = refused-formed s allow q sheet (λ e. omega arith) (λ e. omega arith) h in
+      let r = judged-28 formed allow .0 h in
+      both-ways (r .2) (formed-serial formed .1 (plan-timely timely (formed-well formed (r .0) (r .1)) (formed-acyclic formed)))
 
   pub nothing-new-for : NothingNewFor s allow q
   nothing-new-for = record {
     as-sent = λ a. usable-timely (edges-of q) a timely;
     with-waits = λ a. usable-timely (serialized-of q) a timely-serialized;
     sound = plain-sound;
-    waits = λ a i. let l = listed-for fits-new .listed a i in (λ m. plain-waits a i .0 (l .0 m), λ w. l .1 (plain-waits a i .1 w));
+    waits = λ a i. let l = listed-for (fits-of sheet) .listed a i in (λ m. plain-waits a i .0 (l .0 m), λ w. l .1 (plain-waits a i .1 w));
     offsets = λ v h a i b m. offset-same (usable-sub (members (serialized-of q)) a) (timely-usable timely-serialized a) (offset-for (record { sheet = sheet; accepts = h }) a i b m .heaviest);
     never-28 = never;
   }

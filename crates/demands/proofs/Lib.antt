@@ -9,6 +9,7 @@ pub mod Orders
 pub mod DelayLists
 pub mod Calls
 pub mod Sheets
+pub mod Formed
 pub mod Impossibility
 pub mod Answering
 pub mod Verdicts

@@ -7,11 +7,12 @@ use Prim.Native.Nat.{ℕ, _^_, _<_}
 use native.Mathlib.Omega.{arith}
 use native.Mathlib.Decide.{decLt}
 use lib.Pow.{pow-mono}
+use Rattle.definitions.specs.Limits.{most-steps}
 use Rattle.definitions.specs.Basics.{test-bit, given}
 use Rattle.definitions.specs.Bytes.{Records}
 use Rattle.definitions.specs.Links.{Edge, members}
 use Rattle.definitions.specs.Rounds.{cell}
-use Rattle.definitions.specs.Waits.{Wait, waits-for, waits-of, wait-list, wait-map, wait-maps, wait-count}
+use Rattle.definitions.specs.Waits.{Wait, waits-for, waits-of, wait-list, wait-map, wait-maps, wait-count, wait-pair}
 use Rattle.definitions.specs.Plan.{offset, decides}
 use Rattle.definitions.specs.Answers.{count-of, edges-of, judge-records, judged}
 use Rattle.definitions.specs.Output.{StartLine, lines-of, start-lines, list-records, listed}
@@ -23,7 +24,7 @@ use Rattle.laws.proofs.Tests.{tabulate-length}
 use Rattle.theory.specs.Graphs.{Shape}
 use Rattle.theory.proofs.WaitLists.{wait-listed, listed-wait, wait-map-small, wait-maps-at, wait-maps-iff, wait-maps-past}
 use Rattle.theory.proofs.WaitCounts.{wait-count-bits}
-use Rattle.demands.specs.Demands.{Rising, WaitBefore, ListedFor, LinesFor, Accepted, LineBefore, sheet-lines, wait-pair, sheet-waits}
+use Rattle.demands.specs.Demands.{Rising, WaitBefore, ListedFor, LinesFor, Accepted, LineBefore, sheet-lines, sheet-waits}
 use Rattle.demands.proofs.Reading.{Fits}
 use Rattle.demands.proofs.Edges.{sheet-shape}
 use Rattle.demands.proofs.Orders.{pairs-rising, pairs-has, pairs-only}
@@ -50,13 +51,22 @@ module _ {q : Records} (fits : Fits q) where
       let l = listed-iff a i in
       (λ h. l .1 (r .0 h), λ m. r .1 (l .0 m))
 
-  maps-small : (i : ℕ) → Dec (i < 64) → cell (wait-maps n es) i < 2 ^ 64
+  maps-small : (i : ℕ) → Dec (i < most-steps) → cell (wait-maps n es) i < 2 ^ 64
   maps-small i (yes c) = omega (arith, wait-maps-at n es i c, wait-map-small n es i, pow-mono (fits .few))
   maps-small i (no c) = omega (arith, wait-maps-past n es i (omega arith))
 
   pub listed-for : ListedFor q
   unfolding wait-maps wait-count
-  listed-for = record { listed = listed-iff; each = wait-of fits; order = waits-rising n es; maps-size = tabulate-length (wait-map n es) 64; maps-small = λ i. maps-small i (decLt i 64); maps-bits = maps-bits; count-list = refl; count-maps = wait-count-bits n es (fits .few) }
+  listed-for = record {
+    listed = listed-iff;
+    each = wait-of fits;
+    order = waits-rising n es;
+    maps-size = tabulate-length (wait-map n es) most-steps;
+    maps-small = λ i. maps-small i (decLt i most-steps);
+    maps-bits = maps-bits;
+    count-list = refl;
+    count-maps = wait-count-bits n es (fits .few);
+  }
 
 -- Start lines are the pairs of a step and one that decides it, in rising order. One that decides is a member of a start set, and so a step.
 line-of : (n : ℕ) (es : List Edge) (i a : ℕ) → StartLine

@@ -1,6 +1,6 @@
 -- An accepted sheet: our starts keep every link and wait, nobody is earlier, and the sheet with its waits is one of the rivals' sheets.
 use mathlib.Core.Path.{_≡_, refl, sym, ap, subst, _∙_}
-use mathlib.Core.Bool.{Bool, true, false, cond, not, _&&_}
+use mathlib.Core.Bool.{Bool, true, false, cond}
 use mathlib.Core.Logic.{_⊎_, inl, inr, _≢_, _↔_}
 use mathlib.Core.List.{List, [], _∷_, _++_, map, List·Memᴰ, List·Memᴰ·head, List·Memᴰ·tail, List·Memᴰ·append-cases, Memᴰ·append-left, Memᴰ·append-right, Memᴰ·map, Memᴰ·of-map, map-append, map-map}
 use Prim.Native.Nat.{ℕ, zero, suc, _≤_, _<_}
@@ -11,38 +11,17 @@ use Rattle.definitions.specs.Links.{Edge, members, Constraint, constraints, del
 use Rattle.definitions.specs.Waits.{WaitPair, needs-waits, wait-edge, serialized}
 use Rattle.definitions.specs.Anchors.{WellPosed}
 use Rattle.definitions.specs.Rival.{Further, Extension}
-use Rattle.definitions.specs.Answers.{count-of, edges-of, serialized-of, unserializable}
+use Rattle.definitions.specs.Answers.{count-of, edges-of, serialized-of}
 use Rattle.definitions.specs.declared.Delay.{Delay}
 use Rattle.definitions.specs.declared.Delay.the-variants.{Open, Fixed}
-use Rattle.theory.specs.Graphs.{Schedule, Serializable, Well}
+use Rattle.theory.specs.Graphs.{Schedule}
 use Rattle.theory.proofs.Plans.{plan-posed, plan-keeps-waits, plan-least-unwaited, plan-least-rival}
 use Rattle.demands.specs.Demands.{Accepted, KeepsLinks, KeptFor, OursAmong, our-start, sheet-waits, wait-link, links-and-waits, NoLateLinks}
-use Rattle.demands.proofs.Reading.{Fits, read-fits}
-use Rattle.demands.proofs.Edges.{keeps-schedule, schedule-keeps, sheet-shape, sheet-timely, rival-shape, rival-above, rival-timely}
-use Rattle.demands.proofs.Judging.{Passes, judge-given, judged-edges}
+use Rattle.demands.proofs.Reading.{Fits}
+use Rattle.demands.proofs.Edges.{keeps-schedule, schedule-keeps, sheet-timely, rival-shape, rival-above, rival-timely}
 use Rattle.demands.proofs.Meaning.{wait-of}
-use Rattle.demands.proofs.Sheets.{passes-well, serializable-iff}
+use Rattle.demands.proofs.Formed.{accepted-fits, accepted-serial, accepted-verdict, accepted-well}
 use Rattle.demands.proofs.Impossibility.{keeps-sheet}
-
--- What acceptance says.
-module _ {s : List ℕ} {allow : Bool} {q : Records} {v : ℕ} (accepted : Accepted s allow q v) where
-  pub accepted-fits : Fits q
-  accepted-fits = read-fits s q (accepted .sheet .bytes) (accepted .sheet .reads)
-
-  accepted-judged : Passes (count-of q) (edges-of q) × (unserializable (count-of q) (edges-of q) ≡ false) × ((needs-waits (count-of q) (edges-of q) && not allow) ≡ false) × (cond (needs-waits (count-of q) (edges-of q)) 1 0 ≡ v)
-  accepted-judged = judge-given (count-of q) (edges-of q) allow v .0 (sym (judged-edges s (accepted .sheet .reads) allow) ∙ accepted .accepts)
-
-  pub accepted-passes : Passes (count-of q) (edges-of q)
-  accepted-passes = accepted-judged .0
-
-  pub accepted-verdict : cond (needs-waits (count-of q) (edges-of q)) 1 0 ≡ v
-  accepted-verdict = accepted-judged .3
-
-  pub accepted-well : Well (count-of q) (members (edges-of q))
-  accepted-well = passes-well (accepted-fits .some) (sheet-shape accepted-fits) accepted-passes
-
-  pub accepted-serial : Serializable (members (serialized (count-of q) (edges-of q)))
-  accepted-serial = serializable-iff (accepted-fits .some) (sheet-shape accepted-fits) (accepted-well .rooted) .0 (accepted-judged .1)
 
 -- Verdict 0 says that no waits are needed.
 pub verdict-zero : (b : Bool) → (cond {A = ℕ} b 1 0 ≡ 0) ↔ (b ≡ false)
@@ -98,7 +77,14 @@ module _ {s : List ℕ} {allow : Bool} {q : Records} {v : ℕ} (accepted : Accep
   -- The waits' links are further links, and with them the sheet is sound.
   pub ours-among : (d : ℕ → ℕ) → d 0 ≡ 0 → OursAmong q d (links-and-waits q)
   unfolding serialized-of
-  ours-among d d0 = record { extension = record { keeps-all = λ c m. Memᴰ·append-left (map wait-link (sheet-waits q)) m; only = λ c m. only c (List·Memᴰ·append-cases (constraints (q .pairs)) m); well-posed = subst (λ (l : List Edge). WellPosed (members l)) (sym (edges-with-waits fits)) (plan-posed (accepted-well accepted) (accepted-serial accepted)) }; kept = all-kept d d0 }
+  ours-among d d0 = record {
+    extension = record {
+      keeps-all = λ c m. Memᴰ·append-left (map wait-link (sheet-waits q)) m;
+      only = λ c m. only c (List·Memᴰ·append-cases (constraints (q .pairs)) m);
+      well-posed = subst (λ (l : List Edge). WellPosed (members l)) (sym (edges-with-waits fits)) (plan-posed (accepted-well accepted) (accepted-serial accepted));
+    };
+    kept = all-kept d d0;
+  }
     where
       further : (w : WaitPair) → List·Memᴰ w (sheet-waits q) → Further (count-of q) (wait-link w)
       further w m = let r = wait-of fits w m in (r .anchor-below, r .target-below)

@@ -3,21 +3,22 @@ use mathlib.Core.Path.{_≡_, refl, sym, ap, subst, _∙_}
 use mathlib.Core.Bool.{Bool, true, false, cond, not}
 use mathlib.Core.Logic.{_⊎_, inl, inr, _↔_}
 use mathlib.Core.List.{List, [], _∷_}
-use Prim.Native.Nat.{ℕ, suc, _+_, _*_, _≤_, _<_}
+use Prim.Native.Nat.{ℕ, suc, _≤_, _<_}
 use native.Mathlib.Omega.{arith}
 use native.Mathlib.Decide.{decLt}
 use lib.ListN.{length, List·getD-eq-default}
 use borrow.Author.Tests.{ltb-false, le-ltb}
+use Rattle.definitions.specs.Limits.{most-offset, most-start}
 use Rattle.definitions.specs.Basics.{any-below, largest}
 use Rattle.definitions.specs.Bytes.{Records}
-use Rattle.definitions.specs.Links.{Edge, members, Forward, delay-at}
+use Rattle.definitions.specs.Links.{Edge, members, Forward}
 use Rattle.definitions.specs.Anchors.{InAnchorSet}
 use Rattle.definitions.specs.Waits.{WaitPair, wait-list, wait-count, needs-waits, serialized}
 use Rattle.definitions.specs.Plan.{start-times, overrides, decides, plan-entry, delays}
 use Rattle.definitions.specs.Answers.{count-of, edges-of, serialized-of}
 use Rattle.laws.proofs.Bools.{bool-cases, both-ways, and-join, not-passing}
 use Rattle.laws.proofs.Tests.{any-below-has, any-below-by}
-use Rattle.theory.specs.Graphs.{Shape, Well, Acyclic, Relative, Decides, Overrides, Serializable, sole-delay}
+use Rattle.theory.specs.Graphs.{Shape, Well, Acyclic, Relative, Decides, Overrides, Serializable}
 use Rattle.theory.proofs.Walks.{member-below}
 use Rattle.theory.proofs.Serialization.{forward-acyclic}
 use Rattle.theory.proofs.Reachability.{in-anchor-set-iff}
@@ -25,14 +26,16 @@ use Rattle.theory.proofs.WaitLists.{needs-waits-iff}
 use Rattle.theory.proofs.StartTimes.{start-times-length, start-times-source, start-times-rule}
 use Rattle.theory.proofs.DecidingSets.{overrides-iff, decides-iff}
 use Rattle.theory.proofs.PlanTables.{plan-table-length, plan-table-at, plan-table-row}
-use Rattle.theory.proofs.Plans.{plan-some, plan-posed, plan-wait-other, plan-wait-not-source, plan-relative, plan-enough, plan-offset-limit, plan-start-limit-64, plan-strict, plan-deciding-least}
+use Rattle.theory.proofs.Plans.{plan-some, plan-posed, plan-wait-other, plan-wait-not-source, plan-relative, plan-enough, plan-offset-limit, plan-start-limit, plan-strict, plan-deciding-least}
 use Rattle.demands.specs.Demands.{Accepted, IsDelayList, in-start-set, sheet-offset, sheet-decides, our-start, term, WaitsFor, OffsetFor, StartRuleFor, GivesStart, Needed, LeftOut, DecidingFor, PlanFor}
 use Rattle.demands.proofs.Reading.{Fits}
 use Rattle.demands.proofs.Edges.{sheet-shape, sheet-gains}
 use Rattle.demands.proofs.Meaning.{waits-shape, meant-for}
 use Rattle.demands.proofs.Listing.{listed-iff}
-use Rattle.demands.proofs.DelayLists.{list-within, limit-most, source-zero, sole-list, sole-delays, sole-allowed}
-use Rattle.demands.proofs.OurStarts.{accepted-fits, accepted-serial, accepted-verdict, accepted-well, verdict-zero}
+use Rattle.theory.proofs.DelayLimits.{source-zero, list-most}
+use Rattle.demands.proofs.DelayLists.{sole-list, sole-delays, sole-allowed}
+use Rattle.demands.proofs.Formed.{accepted-fits, accepted-serial, accepted-verdict, accepted-well}
+use Rattle.demands.proofs.OurStarts.{verdict-zero}
 
 -- Waits are needed exactly if the list of waits is not empty.
 needs-none : (n : ℕ) (es : List Edge) → (needs-waits n es ≡ false) ↔ (wait-list n es ≡ [])
@@ -97,7 +100,7 @@ module _ {s : List ℕ} {allow : Bool} {q : Records} {v : ℕ} (accepted : Accep
   unfolding serialized-of
   relative d d0 = plan-relative well serial d d0
 
-  offset-most : (a i : ℕ) → i < n → in-start-set q a i ≡ true → sheet-offset q a i ≤ 4128705
+  offset-most : (a i : ℕ) → i < n → in-start-set q a i ≡ true → sheet-offset q a i ≤ most-offset
   unfolding serialized-of
   offset-most a i b h = plan-offset-limit well serial (sheet-gains fits) (fits .few) a i b (member a i .0 h)
 
@@ -105,14 +108,19 @@ module _ {s : List ℕ} {allow : Bool} {q : Records} {v : ℕ} (accepted : Accep
   offset-for a i b h = record { heaviest = relative (λ x. 0) refl .offsets a i b (member a i .0 h); small = offset-most a i b h }
 
   -- A list's durations are within the limit, and past its end 0.
-  starts-most : (list : List ℕ) → IsDelayList q list → (i : ℕ) → Dec (i < n) → our-start q (delays list) i ≤ 64 * (16777215 + 4128705)
+  starts-most : (list : List ℕ) → IsDelayList q list → (i : ℕ) → Dec (i < n) → our-start q (delays list) i ≤ most-start
   unfolding serialized-of
   starts-most list L i (no c) = omega (arith, List·getD-eq-default (start-times n (serialized-of q) (delays list)) 0 {n = i} (omega (arith, start-times-length n (serialized-of q) (delays list))))
   starts-most list L i (yes c) =
-      plan-start-limit-64 well serial (sheet-gains fits) (fits .few) (delays list) (source-zero (q .steps) list (fits .some) (L .within)) (λ a b. omega (arith, list-within (q .steps) list (L .within) a b, limit-most a (delay-at (q .steps) a))) i c
+      plan-start-limit well serial (sheet-gains fits) (fits .few) (delays list) (source-zero (q .steps) list (fits .some) (L .within)) (list-most (q .steps) list (L .within)) i c
 
   pub start-rule-for : StartRuleFor q
-  start-rule-for = record { source = λ d. start-times-source shape d; rule = λ d i b. start-times-rule shape d acyclic (suc i) b (λ e. omega arith); small = λ list L i. starts-most list L i (decLt i n); narrow = λ list L i. omega (arith, starts-most list L i (decLt i n)) }
+  start-rule-for = record {
+    source = λ d. start-times-source shape d;
+    rule = λ d i b. start-times-rule shape d acyclic (suc i) b (λ e. omega arith);
+    small = λ list L i. starts-most list L i (decLt i n);
+    narrow = λ list L i. omega (arith, starts-most list L i (decLt i n));
+  }
 
   module _ (i : ℕ) (inside : i < n) where
     decided : (a : ℕ) → (sheet-decides q a i ≡ true) ↔ Decides (members (serialized-of q)) (sheet-offset q) a i
@@ -142,10 +150,14 @@ module _ {s : List ℕ} {allow : Bool} {q : Records} {v : ℕ} (accepted : Accep
     smallest : (part : ℕ → Bool) → GivesStart q i part → (a : ℕ) → sheet-decides q a i ≡ true → part a ≡ true
     unfolding serialized-of
     smallest part P a h =
-        let m = decided-member a h in
-        let b = P .some .0 in
-        let same : our-start q (sole-delay 16777215 a) i ≡ largest part (term q (sole-delay 16777215 a) i) n = subst (λ (d : ℕ → ℕ). our-start q d i ≡ largest part (term q d i) n) (sole-delays n a (below a m)) (P .same (sole-list n a) (shows a m)) in
-        plan-deciding-least well serial (sheet-gains fits) (fits .few) part a i inside (P .within) (any-below-by part n (below b (P .within b (P .some .1))) (P .some .1)) same h
+        plan-deciding-least well serial (sheet-gains fits) (fits .few) part a i inside (record {
+          within = P .within;
+          some = any-below-by part n (below (P .some .0) (P .within (P .some .0) (P .some .1))) (P .some .1);
+          same = subst (λ (d : ℕ → ℕ). our-start q d i ≡ largest part (term q d i) n) (sole-delays n a (below a m)) (P .same (sole-list n a) (shows a m));
+        }) h
+      where
+        m : in-start-set q a i ≡ true
+        m = decided-member a h
 
     needed-by : (a : ℕ) → sheet-decides q a i ≡ true → Needed q a i
     unfolding serialized-of
@@ -189,4 +201,9 @@ module _ {s : List ℕ} {allow : Bool} {q : Records} {v : ℕ} (accepted : Accep
     deciding-for = record { enough = enough; part = deciding-part; smallest = smallest; needed = λ a m. (needed-by a, needed-decides a m); left-out = λ a m. (left-out-by a m, λ r. out-left a (r .0) (r .1)) }
 
   pub plan-for : PlanFor q
-  plan-for = record { size = plan-table-length n (serialized-of q); entry = λ i a b c. unfold plan-entry in plan-table-at n (serialized-of q) i a 0 b c; row = λ i b rest. plan-table-row n (serialized-of q) i b rest; apart = λ i a b h. omega (arith, offset-most a i b (decided-member i b a h)) }
+  plan-for = record {
+    size = plan-table-length n (serialized-of q);
+    entry = λ i a b c. unfold plan-entry in plan-table-at n (serialized-of q) i a 0 b c;
+    row = λ i b rest. plan-table-row n (serialized-of q) i b rest;
+    apart = λ i a b h. omega (arith, offset-most a i b (decided-member i b a h));
+  }

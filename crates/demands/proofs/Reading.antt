@@ -10,6 +10,7 @@ use lib.Dec.{eqb, leb, ltb}
 use native.Mathlib.Decide.{decLt}
 use lib.ListN.{length, getD, List·getD-eq-default}
 use borrow.Author.Tests.{ltb-true, leb-true, eqb-true, eqb-false, not-true}
+use Rattle.definitions.specs.Limits.{most-steps, most-records, most-ticks}
 use Rattle.definitions.specs.Basics.{test-bit, Outcome, given, refused, when-given}
 use Rattle.definitions.specs.Bytes.{Taken, Parser, _>>=_, give, demand, byte, two-bytes, ticks-if, operation-map, delay-from, operation, link-map, sequenced, endpoints, rises, bound-from, link, records, operations, pair-of, links, at-end, Records, sheet, read, blank-operation}
 use Rattle.definitions.specs.Links.{delay-at}
@@ -22,7 +23,7 @@ use Rattle.definitions.specs.declared.Previous.the-variants.{Nothing}
 use Rattle.laws.proofs.Bools.{and-split}
 use Rattle.laws.proofs.Lists.{mem-at}
 use Rattle.laws.proofs.Outcomes.{given-same, given-not-refused, refused-same, when-given-has}
-use Rattle.demands.specs.Demands.{Bytes, FromReading}
+use Rattle.demands.specs.Demands.{Bytes, FromReading, IsSheet}
 
 -- Whatever a parser takes from bytes has the property P, and bytes are left; whatever it refuses with is a refusal of reading.
 record Takes {A : Type 0} (p : Parser A) (P : A → Type 0) : Type 0 where
@@ -63,11 +64,11 @@ takes-byte = record { each = taken; most = refuses }
     refuses [] b k e = subst FromReading (refused-same e) (inl (omega arith))
     refuses (x ∷ s) b k e = absurd (given-not-refused e)
 
-takes-two-bytes : Takes two-bytes (λ x. x ≤ 65535)
+takes-two-bytes : Takes two-bytes (λ x. x ≤ most-ticks)
 unfolding two-bytes
 takes-two-bytes = takes-bind takes-byte (λ low l. takes-bind takes-byte (λ high h. takes-give (low + 256 * high) (omega arith)))
 
-takes-ticks : (b : Bool) → Takes (ticks-if b) (λ x. x ≤ 65535)
+takes-ticks : (b : Bool) → Takes (ticks-if b) (λ x. x ≤ most-ticks)
 unfolding ticks-if
 takes-ticks true = takes-two-bytes
 takes-ticks false = takes-give 0 (omega arith)
@@ -75,9 +76,9 @@ takes-ticks false = takes-give 0 (omega arith)
 -- A step record: the first one is open, and a fixed duration is of two bytes.
 record OperationFits (first : Bool) (o : Operation) : Type 0 where
   source : first ≡ true → o .delay ≡ Open
-  ticks : (x : ℕ) → o .delay ≡ Fixed x → x ≤ 65535
+  ticks : (x : ℕ) → o .delay ≡ Fixed x → x ≤ most-ticks
 
-delay-fits : (b : Bool) (ticks x : ℕ) → ticks ≤ 65535 → delay-from b ticks ≡ Fixed x → x ≤ 65535
+delay-fits : (b : Bool) (ticks x : ℕ) → ticks ≤ most-ticks → delay-from b ticks ≡ Fixed x → x ≤ most-ticks
 unfolding delay-from
 delay-fits true ticks x h e = let z : _≡_ {A = ℕ} 0 1 = cc in absurd (omega arith)
 delay-fits false ticks x h e = let z : ticks ≡ x = cc in omega arith
@@ -100,11 +101,11 @@ pub record LinkFits (n : ℕ) (l : Link) : Type 0 where
   pub from-below : l .from < n
   pub to-below : l .to < n
   pub apart : l .from ≢ l .to
-  pub minimum-few : (m : ℕ) → l .minimum ≡ Ticks m → m ≤ 65535
-  pub maximum-few : (u : ℕ) → l .maximum ≡ Ticks u → u ≤ 65535
-  pub latest-few : (u : ℕ) → l .latest ≡ Ticks u → u ≤ 65535
+  pub minimum-few : (m : ℕ) → l .minimum ≡ Ticks m → m ≤ most-ticks
+  pub maximum-few : (u : ℕ) → l .maximum ≡ Ticks u → u ≤ most-ticks
+  pub latest-few : (u : ℕ) → l .latest ≡ Ticks u → u ≤ most-ticks
 
-bound-fits : (b : Bool) (ticks x : ℕ) → ticks ≤ 65535 → bound-from b ticks ≡ Ticks x → x ≤ 65535
+bound-fits : (b : Bool) (ticks x : ℕ) → ticks ≤ most-ticks → bound-from b ticks ≡ Ticks x → x ≤ most-ticks
 unfolding bound-from
 bound-fits true ticks x h e = let z : ticks ≡ x = cc in omega arith
 bound-fits false ticks x h e = let z : _≡_ {A = ℕ} 0 1 = cc in absurd (omega arith)
@@ -158,9 +159,9 @@ module _ {A S : Type 0} (P : S → A → Type 0) (next : A → S) where
 -- What document 01 says of the records of a sheet.
 pub record Fits (q : Records) : Type 0 where
   pub some : 1 ≤ length (q .steps)
-  pub few : length (q .steps) ≤ 64
+  pub few : length (q .steps) ≤ most-steps
   pub source : delay-at (q .steps) 0 ≡ Open
-  pub ticks : (i x : ℕ) → delay-at (q .steps) i ≡ Fixed x → x ≤ 65535
+  pub ticks : (i x : ℕ) → delay-at (q .steps) i ≡ Fixed x → x ≤ most-ticks
   pub links : (l : Link) → List·Memᴰ l (q .pairs) → LinkFits (length (q .steps)) l
 
 first-open : (os : List Operation) → 1 ≤ length os → Row OperationFits (λ o. false) true os → delay-at os 0 ≡ Open
@@ -168,24 +169,31 @@ unfolding delay-at
 first-open [] h r = absurd (omega arith)
 first-open (o ∷ os) h r = r .0 .source refl
 
-each-few : (os : List Operation) → Row OperationFits (λ o. false) true os → (i x : ℕ) → delay-at os i ≡ Fixed x → x ≤ 65535
+each-few : (os : List Operation) → Row OperationFits (λ o. false) true os → (i x : ℕ) → delay-at os i ≡ Fixed x → x ≤ most-ticks
 unfolding delay-at
 each-few os r i x e = go (decLt i (length os))
   where
-    go : Dec (i < length os) → x ≤ 65535
+    go : Dec (i < length os) → x ≤ most-ticks
     go (yes h) =
-        row-each OperationFits (λ o. false) (λ o. (x : ℕ) → o .delay ≡ Fixed x → x ≤ 65535) (λ state o f. f .ticks) true os r (getD os i blank-operation) (mem-at os i blank-operation h) x e
+        row-each OperationFits (λ o. false) (λ o. (x : ℕ) → o .delay ≡ Fixed x → x ≤ most-ticks) (λ state o f. f .ticks) true os r (getD os i blank-operation) (mem-at os i blank-operation h) x e
     go (no h) =
         let past : getD os i blank-operation ≡ blank-operation = List·getD-eq-default os blank-operation (omega arith) in
         let same : Fixed 0 ≡ Fixed x = sym (ap (λ (o : Operation). o .delay) past) ∙ e in
         let none : 0 ≡ x = cc in
         omega arith
 
-takes-operations : (n : ℕ) → Takes (operations n) (λ os. (length os ≡ n) × Row OperationFits (λ o. false) true os)
+-- n step records, and r link records.
+abbrev StepRow : ℕ → List Operation → Type 0
+StepRow n os = (length os ≡ n) × Row OperationFits (λ o. false) true os
+
+abbrev LinkRow : ℕ → ℕ → List Link → Type 0
+LinkRow n r ls = (length ls ≡ r) × Row (λ previous. LinkFits n) pair-of Nothing ls
+
+takes-operations : (n : ℕ) → Takes (operations n) (StepRow n)
 unfolding operations
 takes-operations n = takes-records OperationFits (λ o. false) operation takes-operation n true
 
-takes-links : (n r : ℕ) → Takes (links n r) (λ ls. (length ls ≡ r) × Row (λ previous. LinkFits n) pair-of Nothing ls)
+takes-links : (n r : ℕ) → Takes (links n r) (LinkRow n r)
 unfolding links
 takes-links n r = takes-records (λ previous. LinkFits n) pair-of (link n) (takes-link n) r Nothing
 
@@ -201,21 +209,22 @@ takes-end = record { each = taken; most = refuses }
     refuses [] b k e = absurd (given-not-refused e)
     refuses (x ∷ s) b k e = subst FromReading (refused-same e) (inl (omega arith))
 
-fits-by : (n r : ℕ) (os : List Operation) (ls : List Link) → (leb 1 n && leb n 64) ≡ true → leb r 512 ≡ true → (length os ≡ n) × Row OperationFits (λ o. false) true os → (length ls ≡ r) × Row (λ previous. LinkFits n) pair-of Nothing ls → Fits (record { steps = os; pairs = ls })
+fits-by : (n r : ℕ) (os : List Operation) (ls : List Link) → (leb 1 n && leb n most-steps) ≡ true → leb r most-records ≡ true → StepRow n os → LinkRow n r ls → Fits (record { steps = os; pairs = ls })
 fits-by n r os ls hn hr O L =
-    let c = and-split (leb 1 n) (leb n 64) hn in
+    let c = and-split (leb 1 n) (leb n most-steps) hn in
     let low = leb-true 1 n (c .0) in
-    let high = leb-true n 64 (c .1) in
-    let most = leb-true r 512 hr in
-    record { some = omega (arith, O .0); few = omega (arith, O .0); source = first-open os (omega (arith, O .0)) (O .1); ticks = each-few os (O .1); links = λ l m. rw (O .0) (row-each (λ previous. LinkFits n) pair-of (LinkFits n) (λ state x h. h) Nothing ls (L .1) l m) }
+    let high = leb-true n most-steps (c .1) in
+    let most = leb-true r most-records hr in
+    let links-fit = row-each (λ previous. LinkFits n) pair-of (LinkFits n) (λ state x h. h) Nothing ls (L .1) in
+    record { some = omega (arith, O .0); few = omega (arith, O .0); source = first-open os (omega (arith, O .0)) (O .1); ticks = each-few os (O .1); links = λ l m. rw (O .0) (links-fit l m) }
 
 takes-sheet : Takes sheet Fits
 unfolding sheet
 takes-sheet =
     takes-bind takes-byte
-    (λ n bn. takes-bind (takes-demand (leb 1 n && leb n 64) 2 (inl (omega arith)))
+    (λ n bn. takes-bind (takes-demand (leb 1 n && leb n most-steps) 2 (inl (omega arith)))
     (λ u2 hn. takes-bind takes-two-bytes
-    (λ r br. takes-bind (takes-demand (leb r 512) 3 (inl (omega arith)))
+    (λ r br. takes-bind (takes-demand (leb r most-records) 3 (inl (omega arith)))
     (λ u3 hr. takes-bind (takes-operations n)
     (λ os O. takes-bind (takes-links n r)
     (λ ls L. takes-bind takes-end
@@ -228,6 +237,9 @@ read-fits s q b e =
     let r = when-given-has (sheet s) (λ t. given (t .value)) e in
     let same : r .0 .value ≡ q = given-same (r .2) in
     rw same at (takes-sheet .each s b (r .0) (r .1) .0)
+
+pub fits-of : {s : List ℕ} {q : Records} → IsSheet s q → Fits q
+fits-of {s} {q} sheet = read-fits s q (sheet .bytes) (sheet .reads)
 
 pub read-most : (s : List ℕ) (k : ℕ) → Bytes s → read s ≡ refused k → FromReading k
 unfolding read when-given

@@ -10,18 +10,19 @@ use Rattle.definitions.specs.Basics.{refused}
 use Rattle.definitions.specs.Bytes.{Records}
 use Rattle.definitions.specs.Links.{Edge, KeepsAll, members}
 use Rattle.definitions.specs.Waits.{needs-waits, serialized}
-use Rattle.definitions.specs.Answers.{closes-circle, unreached, infeasible, inconsistent, unserializable, judged, judge-edges, count-of, edges-of, serialized-of}
+use Rattle.definitions.specs.Answers.{closes-circle, unreached, infeasible, unserializable, judged, judge-edges, count-of, edges-of, serialized-of}
 use Rattle.laws.proofs.Bools.{and-split, and-join, not-passing, both-ways, or-left, or-right, or-split}
 use Rattle.laws.proofs.Negations.{fails-unless, passes-unless}
 use Rattle.laws.proofs.Outcomes.{refused-same}
-use Rattle.theory.specs.Graphs.{Rooted, Schedule}
+use Rattle.theory.specs.Graphs.{Schedule}
 use Rattle.theory.proofs.WaitLists.{needs-waits-iff}
 use Rattle.demands.specs.Demands.{IsSheet, WellFormed, SomeListLeavesNone, ForwardCircle, Circle, SomeStepUnreached, Sound, WaitsClash, circle, no-times, JudgedFor, links-and-waits}
-use Rattle.demands.proofs.Reading.{Fits, read-fits}
+use Rattle.demands.proofs.Reading.{Fits, fits-of}
 use Rattle.demands.proofs.Edges.{keeps-schedule, schedule-keeps, sheet-shape}
-use Rattle.demands.proofs.Judging.{Passes, judge-8, judge-9, judge-10, judge-11, judge-12, judge-28, judge-given, judged-edges}
+use Rattle.demands.proofs.Judging.{Passes, judge-8, judge-9, judge-12, judge-28, judge-given, judged-edges}
 use Rattle.demands.proofs.Meaning.{meant-for, waits-shape}
 use Rattle.demands.proofs.Sheets.{is-10, not-8, not-9, passes-well, serialized-rooted, unneeded-serializable}
+use Rattle.demands.proofs.Formed.{formed-rooted, judged-10, judged-11, not-judged-10, not-judged-11}
 use Rattle.demands.proofs.Impossibility.{impossible-for}
 use Rattle.demands.proofs.OurStarts.{edges-with-waits}
 
@@ -33,10 +34,10 @@ module _ (s : List ℕ) (allow : Bool) (q : Records) (sheet : IsSheet s q) where
   es = edges-of q
 
   fits : Fits q
-  fits = read-fits s q (sheet .bytes) (sheet .reads)
+  fits = fits-of sheet
 
-  as-judged : judged s allow ≡ judge-edges n es allow
-  as-judged = judged-edges s (sheet .reads) allow
+  on-edges : judged s allow ≡ judge-edges n es allow
+  on-edges = judged-edges s (sheet .reads) allow
 
   circled : (closes-circle n es ≡ true) ↔ Circle q
   circled = meant-for fits .as-sent .circle
@@ -58,14 +59,14 @@ module _ (s : List ℕ) (allow : Bool) (q : Records) (sheet : IsSheet s q) where
       formed P = record { sheet = sheet; no-circle = P .no-circle; all-reached = P .all-reached }
 
       refuse : Passes n es → (judged s allow ≡ refused 10) ⊎ (judged s allow ≡ refused 11) → ⊥
-      refuse P (inl h) = both-ways (judge-10 n es allow (P .no-circle) (P .all-reached) .0 (sym as-judged ∙ h)) (P .feasible)
-      refuse P (inr h) = both-ways (judge-11 n es allow (P .no-circle) (P .all-reached) .0 (sym as-judged ∙ h) .1) (P .consistent)
+      refuse P (inl h) = both-ways (judged-10 (formed P) allow .0 h) (P .feasible)
+      refuse P (inr h) = both-ways (judged-11 (formed P) allow .0 h .1) (P .consistent)
 
       passes : WellFormed s q → ¬ SomeListLeavesNone q → Passes n es
       passes f none =
           let I = impossible-for s allow q f .impossible in
-          let feasible = not-passing (infeasible n es) (λ t. none (I .0 (inl (as-judged ∙ judge-10 n es allow (f .no-circle) (f .all-reached) .1 t)))) in
-          record { no-circle = f .no-circle; all-reached = f .all-reached; feasible = feasible; consistent = not-passing (inconsistent n es) (λ t. none (I .0 (inr (as-judged ∙ judge-11 n es allow (f .no-circle) (f .all-reached) .1 (feasible, t))))) }
+          let feasible = not-judged-10 f allow (λ h. none (I .0 (inl h))) in
+          record { no-circle = f .no-circle; all-reached = f .all-reached; feasible = feasible; consistent = not-judged-11 f allow feasible (λ h. none (I .0 (inr h))) }
 
   unneeded : (needs-waits n es ≡ false) ↔ Sound q
   unneeded = needs-waits-iff (sheet-shape fits)
@@ -80,18 +81,15 @@ module _ (s : List ℕ) (allow : Bool) (q : Records) (sheet : IsSheet s q) where
       (c, not-passing (unreached n es) (λ t. not-9 (refused-same (sym (judge-9 n es allow .1 (c, t)) ∙ h))))
 
   pub refused-formed : {k : ℕ} → 8 ≢ k → 9 ≢ k → judged s allow ≡ refused k → WellFormed s q
-  refused-formed a b h = let f = formed-by a b (sym as-judged ∙ h) in record { sheet = sheet; no-circle = f .0; all-reached = f .1 }
+  refused-formed a b h = let f = formed-by a b (sym on-edges ∙ h) in record { sheet = sheet; no-circle = f .0; all-reached = f .1 }
 
   -- 28: by the tests of circles and of 10, on the sheet with its waits.
   clash-iff : WellFormed s q → (unserializable n es ≡ true) ↔ WaitsClash q
   unfolding unserializable serialized-of
   clash-iff f = (λ h. found (or-split (closes-circle n (serialized n es)) (infeasible n (serialized n es)) h), test)
     where
-      rooted : Rooted n (members es)
-      rooted = not-9 (fits .some) (sheet-shape fits) (f .all-reached)
-
       ten : (infeasible n (serialized n es) ≡ true) ↔ ((t : ℕ → ℕ) → ¬ Schedule (members (serialized n es)) (λ a. 0) t)
-      ten = is-10 (fits .some) (waits-shape fits) (serialized-rooted (fits .some) (sheet-shape fits) rooted)
+      ten = is-10 (fits .some) (waits-shape fits) (serialized-rooted (fits .some) (sheet-shape fits) (formed-rooted f))
 
       kept : (t : ℕ → ℕ) → KeepsAll (q .steps) (links-and-waits q) (λ a. 0) t ↔ Schedule (members (serialized n es)) (λ a. 0) t
       kept t =
@@ -150,24 +148,24 @@ module _ (s : List ℕ) (allow : Bool) (q : Records) (sheet : IsSheet s q) where
       let none = verdict-none (needs-waits n es) allow in
       let some = verdict-bool (needs-waits n es) allow in
       record {
-        refused-8 = (λ h. circled .0 (judge-8 n es allow .0 (sym as-judged ∙ h)), λ x. as-judged ∙ judge-8 n es allow .1 (circled .1 x));
-        refused-9 = (λ h. let a = r9 .0 (sym as-judged ∙ h) in (c .0 (a .0), unreach .0 (a .1)), λ x. as-judged ∙ r9 .1 (c .1 (x .0), unreach .1 (x .1)));
+        refused-8 = (λ h. circled .0 (judge-8 n es allow .0 (sym on-edges ∙ h)), λ x. on-edges ∙ judge-8 n es allow .1 (circled .1 x));
+        refused-9 = (λ h. let a = r9 .0 (sym on-edges ∙ h) in (c .0 (a .0), unreach .0 (a .1)), λ x. on-edges ∙ r9 .1 (c .1 (x .0), unreach .1 (x .1)));
         well-formed = formed-iff;
         refused-28 = (
-          λ h. let a = twenty-eight .0 (sym as-judged ∙ h) in let p = passes-iff .0 (a .0) in (p .0, p .1, clash-iff (p .0) .0 (a .1)),
-          λ x. as-judged ∙ twenty-eight .1 (passes-iff .1 (x .0, x .1), clash-iff (x .0) .1 (x .2)),
+          λ h. let a = twenty-eight .0 (sym on-edges ∙ h) in let p = passes-iff .0 (a .0) in (p .0, p .1, clash-iff (p .0) .0 (a .1)),
+          λ x. on-edges ∙ twenty-eight .1 (passes-iff .1 (x .0, x .1), clash-iff (x .0) .1 (x .2)),
         );
         refused-12 = (
-          λ h. let a = twelve .0 (sym as-judged ∙ h) in let p = passes-iff .0 (a .0) in (p .0, p .1, clear (p .0) .0 (a .1), needed .0 (a .2), a .3),
-          λ x. as-judged ∙ twelve .1 (passes-iff .1 (x .0, x .1), clear (x .0) .1 (x .2), needed .1 (x .3), x .4),
+          λ h. let a = twelve .0 (sym on-edges ∙ h) in let p = passes-iff .0 (a .0) in (p .0, p .1, clear (p .0) .0 (a .1), needed .0 (a .2), a .3),
+          λ x. on-edges ∙ twelve .1 (passes-iff .1 (x .0, x .1), clear (x .0) .1 (x .2), needed .1 (x .3), x .4),
         );
         verdict-0 = (
-          λ h. let a = given-0 .0 (sym as-judged ∙ h) in let p = passes-iff .0 (a .0) in (p .0, p .1, unneeded .0 (none .0 (a .2, a .3))),
-          λ x. let w = unneeded .1 (x .2) in let P = passes-iff .1 (x .0, x .1) in let z = none .1 w in as-judged ∙ given-0 .1 (P, unneeded-passes P w, z .0, z .1),
+          λ h. let a = given-0 .0 (sym on-edges ∙ h) in let p = passes-iff .0 (a .0) in (p .0, p .1, unneeded .0 (none .0 (a .2, a .3))),
+          λ x. let w = unneeded .1 (x .2) in let P = passes-iff .1 (x .0, x .1) in let z = none .1 w in on-edges ∙ given-0 .1 (P, unneeded-passes P w, z .0, z .1),
         );
         verdict-1 = (
-          λ h. let a = given-1 .0 (sym as-judged ∙ h) in let p = passes-iff .0 (a .0) in let z = some .0 (a .2, a .3) in (p .0, p .1, clear (p .0) .0 (a .1), needed .0 (z .0), z .1),
-          λ x. let z = some .1 (needed .1 (x .3), x .4) in as-judged ∙ given-1 .1 (passes-iff .1 (x .0, x .1), clear (x .0) .1 (x .2), z .0, z .1),
+          λ h. let a = given-1 .0 (sym on-edges ∙ h) in let p = passes-iff .0 (a .0) in let z = some .0 (a .2, a .3) in (p .0, p .1, clear (p .0) .0 (a .1), needed .0 (z .0), z .1),
+          λ x. let z = some .1 (needed .1 (x .3), x .4) in on-edges ∙ given-1 .1 (passes-iff .1 (x .0, x .1), clear (x .0) .1 (x .2), z .0, z .1),
         );
       }
     where

@@ -15,12 +15,13 @@ use mathlib.Core.Logic.{_⊎_, _≢_, _↔_}
 use mathlib.Core.List.{List, [], _∷_, _++_, map, List·Memᴰ}
 use Prim.Native.Nat.{ℕ, suc, _+_, _*_, _^_, _≤_, _<_}
 use lib.ListN.{length, getD, take, drop, replicate}
+use Rattle.definitions.specs.Limits.{most-steps, most-duration, most-offset, most-start, longest-sheet}
 use Rattle.definitions.specs.Basics.{largest, test-bit, given, refused}
 use Rattle.definitions.specs.Bytes.{Records, read}
 use Rattle.definitions.specs.Links.{Constraint, sequencing, finish-maximum, constraints, delay-at, Keeps, KeepsAll, Edge, Graph, members, Forward, Walk, Joined, After, UsableFrom, usable}
 use Rattle.definitions.specs.Rounds.{cell, reaches, after-reaches}
 use Rattle.definitions.specs.Anchors.{InAnchorSet, in-anchor-set, WellPosed, well-posed}
-use Rattle.definitions.specs.Waits.{Wait, WaitPair, wait-list, wait-maps, wait-count}
+use Rattle.definitions.specs.Waits.{Wait, WaitPair, wait-list, wait-maps, wait-count, wait-pair}
 use Rattle.definitions.specs.Plan.{Offset, offset, start-times, decides, plan-row, plan-table, row-part, undecided, delays-wrong, delays}
 use Rattle.definitions.specs.Rival.{Extension, Lasts, DelayAssignment, DynamicStrategy}
 use Rattle.definitions.specs.Answers.{closes-circle, unreached, count-of, edges-of, serialized-of, judged, waits-answer, planned, starts-answer}
@@ -79,7 +80,7 @@ pub record IsDelayList (q : Records) (list : List ℕ) : Type 0 where
 
 -- What the test for refusal 13 says: document 01's words. An entry that is not there counts as 0. Proof: lists-meant.
 pub record WithinLimits (q : Records) (list : List ℕ) : Type 0 where
-  pub most : (i : ℕ) → i < count-of q → delays list i ≤ 16777215
+  pub most : (i : ℕ) → i < count-of q → delays list i ≤ most-duration
   pub source : delays list 0 ≡ 0
   pub fixed : (i ticks : ℕ) → i < count-of q → delay-at (q .steps) i ≡ Fixed ticks → delays list i ≡ 0
 
@@ -111,9 +112,6 @@ term q d v a = our-start q d a + d a + sheet-offset q a v
 
 abbrev pub sheet-waits : Records → List WaitPair
 sheet-waits q = wait-list (count-of q) (edges-of q)
-
-abbrev pub wait-pair : ℕ → ℕ → WaitPair
-wait-pair a i = record { anchor = a; target = i }
 
 -- "A wait is kept as an after link."
 abbrev pub wait-link : WaitPair → Constraint
@@ -206,7 +204,7 @@ pub record WaitsCall (s : List ℕ) (q : Records) : Type 0 where
   pub accepted : (v : ℕ) → (waits-answer s .verdict ≡ given v) ↔ (judged s true ≡ given v)
   pub maps : (v : ℕ) → waits-answer s .verdict ≡ given v → waits-answer s .maps ≡ wait-maps (count-of q) (edges-of q)
   pub count : (v : ℕ) → waits-answer s .verdict ≡ given v → waits-answer s .count ≡ wait-count (count-of q) (edges-of q)
-  pub no-maps : (k : ℕ) → waits-answer s .verdict ≡ refused k → waits-answer s .maps ≡ replicate 64 0
+  pub no-maps : (k : ℕ) → waits-answer s .verdict ≡ refused k → waits-answer s .maps ≡ replicate most-steps 0
   pub no-count : (k : ℕ) → waits-answer s .verdict ≡ refused k → waits-answer s .count ≡ 0
 
 pub record PlanCall (s : List ℕ) (allow : Bool) (q : Records) (table : List ℕ) : Type 0 where
@@ -346,7 +344,7 @@ pub record ListedFor (q : Records) : Type 0 where
   pub listed : (a i : ℕ) → List·Memᴰ (wait-pair a i) (sheet-waits q) ↔ Wait (members (edges-of q)) a i
   pub each : (w : WaitPair) → List·Memᴰ w (sheet-waits q) → WaitOf q w
   pub order : Rising WaitBefore (sheet-waits q)
-  pub maps-size : length (wait-maps (count-of q) (edges-of q)) ≡ 64
+  pub maps-size : length (wait-maps (count-of q) (edges-of q)) ≡ most-steps
   pub maps-small : (i : ℕ) → cell (wait-maps (count-of q) (edges-of q)) i < 2 ^ 64
   pub maps-bits : (a i : ℕ) → (test-bit (cell (wait-maps (count-of q) (edges-of q)) i) a ≡ true) ↔ List·Memᴰ (wait-pair a i) (sheet-waits q)
   pub count-list : wait-count (count-of q) (edges-of q) ≡ length (sheet-waits q)
@@ -376,7 +374,7 @@ WaitsSound = (s : List ℕ) (allow : Bool) (q : Records) (v : ℕ) → Accepted 
 -- an offset, never takes" i's own return from the finish. "Offsets never exceed 4,128,705." Proof: offsets-right.
 pub record OffsetFor (q : Records) (a v : ℕ) : Type 0 where
   pub heaviest : Offset (UsableFrom (members (serialized-of q)) a) a v (sheet-offset q a v)
-  pub small : sheet-offset q a v ≤ 4128705
+  pub small : sheet-offset q a v ≤ most-offset
 
 abbrev pub OffsetsRight : Type 0
 OffsetsRight =
@@ -386,7 +384,7 @@ OffsetsRight =
 pub record StartRuleFor (q : Records) : Type 0 where
   pub source : (d : ℕ → ℕ) → our-start q d 0 ≡ 0
   pub rule : (d : ℕ → ℕ) (i : ℕ) → suc i < count-of q → our-start q d (suc i) ≡ largest (λ a. in-start-set q a (suc i)) (term q d (suc i)) (count-of q)
-  pub small : (list : List ℕ) → IsDelayList q list → (i : ℕ) → our-start q (delays list) i ≤ 64 * (16777215 + 4128705)
+  pub small : (list : List ℕ) → IsDelayList q list → (i : ℕ) → our-start q (delays list) i ≤ most-start
   pub narrow : (list : List ℕ) → IsDelayList q list → (i : ℕ) → our-start q (delays list) i < 2 ^ 32
 
 abbrev pub StartRule : Type 0
@@ -454,14 +452,14 @@ LinesListed = (s : List ℕ) (allow : Bool) (q : Records) (v : ℕ) → Accepted
 
 -- ## How much of an input decides
 
--- The longest sheet has 3 + 1 + 63 * 3 + 512 * 9 = 4,801 bytes; one more shows that something follows it. So any longer front of any bytes decides what is read and what `standplan` prints. Proof:
+-- The longest sheet has 4,801 bytes (`longest-sheet`); one more shows that something follows it. So any longer front of any bytes decides what is read and what `standplan` prints. Proof:
 -- front-decides.
 pub record FrontFor (s : List ℕ) (limit : ℕ) : Type 0 where
   pub reads : read (take limit s) ≡ read s
   pub prints : standplan (take limit s) ≡ standplan s
 
 abbrev pub FrontDecides : Type 0
-FrontDecides = (s : List ℕ) (limit : ℕ) → 4801 < limit → FrontFor s limit
+FrontDecides = (s : List ℕ) (limit : ℕ) → longest-sheet < limit → FrontFor s limit
 
 -- ## The hypotheses are met
 

@@ -1,6 +1,6 @@
 -- Truth values: their two cases, and what a conjunction, a disjunction and a negation say.
 use mathlib.Core.Path.{_≡_, refl, sym, ap, _∙_}
-use mathlib.Core.Bool.{Bool, true, false, cond, _&&_, _||_, true≢false, false≢true}
+use mathlib.Core.Bool.{Bool, true, false, cond, not, _&&_, _||_, and-true, and-false, true≢false, false≢true}
 use mathlib.Core.Logic.{_⊎_, inl, inr, _≢_, _↔_}
 use Prim.Native.Nat.{ℕ}
 use lib.Dec.{eqb}
@@ -47,10 +47,24 @@ pub or-neither : (a b : Bool) → ((a || b) ≡ false) ↔ ((a ≡ false) × (b 
 or-neither true b = (λ h. absurd (true≢false h), λ h. h .0)
 or-neither false b = (λ h. (refl, h), λ h. h .1)
 
+pub neither : {a b : Bool} → a ≡ false → b ≡ false → (a || b) ≡ false
+neither {a} {b} h k = or-neither a b .1 (h, k)
+
 -- A test that cannot pass fails.
 pub not-passing : (b : Bool) → b ≢ true → b ≡ false
 not-passing true h = absurd (h refl)
 not-passing false h = refl
+
+-- A mark that does not stand later did not stand before, where marks stay.
+pub mark-back : {b c : Bool} → (b ≡ true → c ≡ true) → c ≡ false → b ≡ false
+mark-back {b} k h = not-passing b (λ t. both-ways (k t) h)
+
+-- A test with another taken out of it: all of it stays where that one fails, and is gone where it passes.
+pub stays : (x y : Bool) → y ≡ false → (x && not y) ≡ x
+stays x y q = ap (λ (t : Bool). x && not t) q ∙ and-true x
+
+pub gone : (x y : Bool) → y ≡ true → (x && not y) ≡ false
+gone x y q = ap (λ (t : Bool). x && not t) q ∙ and-false x
 
 -- A choice by a test whose value is known.
 pub cond-true : {A : Type 0} {b : Bool} (x y : A) → b ≡ true → cond b x y ≡ x
@@ -59,11 +73,21 @@ cond-true x y h = ap (λ b. cond b x y) h
 pub cond-false : {A : Type 0} {b : Bool} (x y : A) → b ≡ false → cond b x y ≡ y
 cond-false x y h = ap (λ b. cond b x y) h
 
+pub cond-either : {A : Type 0} (b : Bool) (x : A) → cond b x x ≡ x
+cond-either true x = refl
+cond-either false x = refl
+
 -- Two tests that pass for the same reasons are equal.
 pub same-test : (a b : Bool) → (a ≡ true → b ≡ true) → (b ≡ true → a ≡ true) → a ≡ b
 same-test true b f g = sym (f refl)
 same-test false true f g = g refl
 same-test false false f g = refl
+
+-- Two tests that are found to agree.
+pub same-truth : (a b : Bool) → cond a b (not b) ≡ true → a ≡ b
+same-truth true b h = sym h
+same-truth false true h = h
+same-truth false false h = refl
 
 -- Numbers compared either way round.
 pub eqb-turned : (x y : ℕ) → eqb x y ≡ eqb y x

@@ -1,23 +1,24 @@
--- The square of a count of steps; sums over the numbers below n, and the lengths of selections and of lists made of lists as such sums.
+-- Tables of n by n numbers; sums over the numbers below n, and the lengths of selections and of lists made of lists as such sums.
 use mathlib.Core.Path.{_≡_, refl, sym, ap, _∙_}
 use mathlib.Core.Bool.{Bool, true, false, cond}
-use mathlib.Core.List.{List, [], _∷_, _++_, flatMap, append-assoc, append-nil}
-use Prim.Native.Nat.{ℕ, zero, suc, _+_, _*_, _<_, _≤_}
+use mathlib.Core.List.{List, [], _∷_, flatMap}
+use Prim.Native.Nat.{ℕ, zero, suc, _+_, _-_, _*_, _<_, _≤_}
 use native.Mathlib.Omega.{arith}
-use native.Mathlib.Nat.{mul-le-mul}
+use native.Mathlib.Nat.{mul-le-mul, mul-le-mul-right, suc-mul}
 use native.Mathlib.Numerals.{add-one}
 use lib.ListN.{length, length-append}
-use Rattle.definitions.specs.Basics.{select-below, tabulate}
+use Rattle.definitions.specs.Limits.{most-steps, longest-table}
+use Rattle.definitions.specs.Basics.{select-below, sum-below, tabulate}
+use Rattle.laws.proofs.Lists.{flatMap-snoc}
 
--- n × n is at most 4,096 for at most 64 steps.
-pub square-small : (n : ℕ) → n ≤ 64 → n * n ≤ 4096
+-- How many numbers a table has, and where row v ends.
+pub square-small : (n : ℕ) → n ≤ most-steps → n * n ≤ longest-table
 square-small n h = mul-le-mul h h
 
--- f 0 + f 1 + … + f (n - 1).
-unfoldable pub sum-below : (ℕ → ℕ) → ℕ → ℕ
-sum-below f zero = 0
-sum-below f (suc n) = sum-below f n + f n
+pub row-end : (n v : ℕ) → v < n → v * n + n ≤ n * n
+row-end n v h = omega (arith, suc-mul v n, mul-le-mul-right {m = suc v} {n = n} n h)
 
+-- The sum of f below n: none, one more, by its terms.
 pub sum-below-none : (f : ℕ → ℕ) → sum-below f 0 ≡ 0
 unfolding sum-below
 sum-below-none f = refl
@@ -36,20 +37,25 @@ unfolding sum-below
 sum-below-bound f b zero h = omega arith
 sum-below-bound f b (suc n) h = omega (arith, sum-below-bound f b n h, h n)
 
--- Terms of 0 at the end add nothing. Induction on the number of them.
-pub sum-below-cut : (f : ℕ → ℕ) (n j : ℕ) → ((k : ℕ) → n ≤ k → f k ≡ 0) → sum-below f (j + n) ≡ sum-below f n
+pub sum-below-zero : (f : ℕ → ℕ) (n : ℕ) → ((k : ℕ) → k < n → f k ≡ 0) → sum-below f n ≡ 0
 unfolding sum-below
-sum-below-cut f n zero h =
-    let e : 0 + n ≡ n = omega arith in
-    ap (sum-below f) e
-sum-below-cut f n (suc j) h =
-    let e : suc j + n ≡ suc (j + n) = omega arith in
-    ap (sum-below f) e ∙ omega (arith, sum-below-cut f n j h, h (j + n) (omega arith))
+sum-below-zero f zero h = refl
+sum-below-zero f (suc n) h = omega (arith, sum-below-zero f n (λ k b. h k (omega arith)), h n (omega arith))
 
-sum-below-zero : (n : ℕ) → sum-below (λ k. 0) n ≡ 0
+-- Terms of 0 at the end add nothing. Induction on the number of them.
+pub sum-below-cut : (f : ℕ → ℕ) (n m : ℕ) → n ≤ m → ((k : ℕ) → n ≤ k → f k ≡ 0) → sum-below f m ≡ sum-below f n
 unfolding sum-below
-sum-below-zero zero = refl
-sum-below-zero (suc n) = omega (arith, sum-below-zero n)
+sum-below-cut f n m b h =
+    let e : m ≡ (m - n) + n = omega arith in
+    ap (sum-below f) e ∙ go (m - n)
+  where
+    go : (j : ℕ) → sum-below f (j + n) ≡ sum-below f n
+    go zero =
+        let e : 0 + n ≡ n = omega arith in
+        ap (sum-below f) e
+    go (suc j) =
+        let e : suc j + n ≡ suc (j + n) = omega arith in
+        ap (sum-below f) e ∙ omega (arith, go j, h (j + n) (omega arith))
 
 sum-below-plus : (f g : ℕ → ℕ) (n : ℕ) → sum-below (λ k. f k + g k) n ≡ sum-below f n + sum-below g n
 unfolding sum-below
@@ -59,7 +65,7 @@ sum-below-plus f g (suc n) = omega (arith, sum-below-plus f g n)
 -- A table is summed by rows or by columns. Induction on the number of rows: the last row is added to each column.
 pub sum-below-swap : (f : ℕ → ℕ → ℕ) (m n : ℕ) → sum-below (λ a. sum-below (f a) m) n ≡ sum-below (λ i. sum-below (λ a. f a i) n) m
 unfolding sum-below
-sum-below-swap f m zero = sym (sum-below-zero m)
+sum-below-swap f m zero = sym (sum-below-zero (λ i. 0) m (λ k b. refl))
 sum-below-swap f m (suc n) = ap (λ (x : ℕ). x + sum-below (f n) m) (sum-below-swap f m n) ∙ sym (sum-below-plus (λ i. sum-below (λ a. f a i) n) (f n) m)
 
 -- A selection is as long as the sum of its tests.
@@ -78,11 +84,6 @@ select-length-bound test n = omega (arith, select-length test n, sum-below-bound
     at-most-one : (t : Bool) → cond t 1 0 ≤ 1
     at-most-one true = omega arith
     at-most-one false = omega arith
-
-flatMap-snoc : {A B : Type 0} (f : A → List B) (xs : List A) (x : A) → flatMap f (xs ++ x ∷ []) ≡ flatMap f xs ++ f x
-unfolding flatMap
-flatMap-snoc f [] x = append-nil (f x)
-flatMap-snoc f (y ∷ xs) x = ap (λ r. f y ++ r) (flatMap-snoc f xs x) ∙ sym (append-assoc (f y) (flatMap f xs) (f x))
 
 -- A list made of the lists of the numbers below n.
 pub flatMap-length : {B : Type 0} (f : ℕ → List B) (n : ℕ) → length (flatMap f (tabulate (λ a. a) n)) ≡ sum-below (λ a. length (f a)) n

@@ -45,6 +45,23 @@ module _ {A : Type 0} (b : Bool) (k : ℕ) (rest : Outcome A) where
   pub refuse-never : {l : ℕ} → k ≢ l → rest ≢ refused l → refuse-if b k rest ≢ refused l
   refuse-never apart never h = never (refuse-other apart .0 h .1)
 
+-- A refusal whose test fails, and one whose test passes.
+pub passes-by : {A : Type 0} {b : Bool} (k : ℕ) (rest : Outcome A) → b ≡ false → refuse-if b k rest ≡ rest
+unfolding refuse-if
+passes-by k rest h = ap (λ b. refuse-if b k rest) h
+
+pub stops-at : {A : Type 0} {b : Bool} (k : ℕ) (rest : Outcome A) → b ≡ true → refuse-if b k rest ≡ refused k
+unfolding refuse-if
+stops-at k rest h = ap (λ b. refuse-if b k rest) h
+
+-- A row of three refusals that gives an answer: the first and the last test fail, and it is the answer at the end.
+pub three-pass : {A : Type 0} (a b c : Bool) (i j k : ℕ) (x g : A) → refuse-if a i (refuse-if b j (refuse-if c k (given x))) ≡ given g → (a ≡ false) × (c ≡ false) × (g ≡ x)
+three-pass a b c i j k x g h =
+    let r = refuse-given a i (refuse-if b j (refuse-if c k (given x))) g .0 h in
+    let r₂ = refuse-given b j (refuse-if c k (given x)) g .0 (r .1) in
+    let r₃ = refuse-given c k (given x) g .0 (r₂ .1) in
+    (r .0, r₃ .0, sym (given-same (r₃ .1)))
+
 -- What comes after an outcome, where it is an answer, and where the whole is.
 pub when-given-by : {A B : Type 0} {o : Outcome A} {a : A} (f : A → Outcome B) → o ≡ given a → when-given o f ≡ f a
 unfolding when-given

@@ -1,17 +1,13 @@
 -- More laws of `any`, `any-below` and `all-below`: two lists, one element more, tests that agree.
 use mathlib.Core.Path.{_≡_, refl, sym, ap, _∙_}
-use mathlib.Core.Bool.{Bool, true, false, _&&_, _||_, or-assoc}
-use mathlib.Core.List.{List, [], _∷_, _++_, List·Memᴰ, List·Memᴰ·head, List·Memᴰ·tail, map}
+use mathlib.Core.Bool.{Bool, true, false, _&&_, _||_, or-assoc, or-false}
+use mathlib.Core.List.{List, [], _∷_, _++_, map}
 use Prim.Native.Nat.{ℕ, zero, suc, _+_, _<_}
 use native.Mathlib.Omega.{arith}
 use native.Mathlib.Numerals.{add-one}
 use lib.ListN.{length, getD, take}
 use lib.Seq.{take-suc}
 use Rattle.definitions.specs.Basics.{any, any-below, all-below}
-
-pub or-none : (b : Bool) → (b || false) ≡ b
-or-none true = refl
-or-none false = refl
 
 -- Two lists, one after the other; and one element more, at the end.
 pub any-append : {A : Type 0} (test : A → Bool) (xs ys : List A) → any test (xs ++ ys) ≡ (any test xs || any test ys)
@@ -21,15 +17,9 @@ any-append test (x ∷ xs) ys = ap (λ (b : Bool). test x || b) (any-append test
 
 pub any-snoc : {A : Type 0} (test : A → Bool) (xs : List A) (x : A) → any test (xs ++ x ∷ []) ≡ (any test xs || test x)
 unfolding any
-any-snoc test xs x = any-append test xs (x ∷ []) ∙ ap (λ (b : Bool). any test xs || b) (or-none (test x))
+any-snoc test xs x = any-append test xs (x ∷ []) ∙ ap (λ (b : Bool). any test xs || b) (or-false (test x))
 
--- Tests that agree on the members, or on the numbers below n, give the same answer.
-pub any-same : {A : Type 0} (t u : A → Bool) (xs : List A) → ((x : A) → List·Memᴰ x xs → t x ≡ u x) → any t xs ≡ any u xs
-unfolding any
-any-same t u [] h = refl
-any-same t u (x ∷ xs) h =
-    ap (λ (b : Bool). b || any t xs) (h x (List·Memᴰ·head refl)) ∙ ap (λ (b : Bool). u x || b) (any-same t u xs (λ y m. h y (List·Memᴰ·tail m)))
-
+-- Tests that agree on the numbers below n give the same answer.
 pub any-below-same : (t u : ℕ → Bool) (n : ℕ) → ((k : ℕ) → k < n → t k ≡ u k) → any-below t n ≡ any-below u n
 unfolding any-below
 any-below-same t u zero h = refl

@@ -1,6 +1,6 @@
 -- The laws of the general tests: some or every element, some or every number below n, tables, selections, the largest value, maps of bits.
 use mathlib.Core.Path.{_≡_, refl, sym, ap, subst, _∙_}
-use mathlib.Core.Bool.{Bool, true, false, cond, _&&_, _||_, true≢false, false≢true}
+use mathlib.Core.Bool.{Bool, true, false, cond, _||_, false≢true}
 use mathlib.Core.Logic.{_⊎_, inl, inr}
 use mathlib.Core.List.{List, [], _∷_, _++_, List·Memᴰ, List·Memᴰ·head, List·Memᴰ·tail, List·Memᴰ·not-nil, List·Memᴰ·cases-cons, List·Memᴰ·append-cases, List·Memᴰ·eq-of-singleton, Memᴰ·append-left, Memᴰ·append-right, flatMap}
 use Prim.Native.Nat.{ℕ, zero, suc, _≤_, _<_, max}
@@ -51,15 +51,6 @@ module _ {A : Type 0} (test : A → Bool) where
   unfolding all
   all-by [] f = refl
   all-by (y ∷ xs) f = and-join (f y (List·Memᴰ·head refl)) (all-by xs (λ x m. f x (List·Memᴰ·tail m)))
-
-  pub all-fails : (xs : List A) → all test xs ≡ false → (x : A) × List·Memᴰ x xs × (test x ≡ false)
-  unfolding all
-  all-fails [] h = absurd (true≢false h)
-  all-fails (y ∷ xs) h = go (bool-cases (test y)) (all-fails xs)
-    where
-      go : (test y ≡ true) ⊎ (test y ≡ false) → (all test xs ≡ false → (x : A) × List·Memᴰ x xs × (test x ≡ false)) → (x : A) × List·Memᴰ x (y ∷ xs) × (test x ≡ false)
-      go (inl t) below = let r = below (sym (ap (λ (b : Bool). b && all test xs) t) ∙ h) in (r .0, List·Memᴰ·tail (r .1), r .2)
-      go (inr t) below = (y, List·Memᴰ·head refl, t)
 
 -- The numbers below n. Induction on n.
 pub last-or-below : (n k : ℕ) → k < suc n → (k ≡ n) ⊎ (k < n)
@@ -203,12 +194,16 @@ largest-above test f (suc n) k b h = go (last-or-below n k b) (λ c. largest-abo
     go (inl e) below = omega (arith, cond-true (f n) 0 (ap test (sym e) ∙ h), ap f e)
     go (inr c) below = omega (arith, below c)
 
+-- The largest value is 0, or that of some number below n that passes.
+abbrev Attained : (ℕ → Bool) → (ℕ → ℕ) → ℕ → ℕ → Type 0
+Attained test f n x = (x ≡ 0) ⊎ ((k : ℕ) × (k < n) × (test k ≡ true) × (x ≡ f k))
+
 pub largest-attained : (test : ℕ → Bool) (f : ℕ → ℕ) (n : ℕ) → (largest test f n ≡ 0) ⊎ ((k : ℕ) × (k < n) × (test k ≡ true) × (largest test f n ≡ f k))
 unfolding largest
 largest-attained test f zero = inl refl
 largest-attained test f (suc n) = go (bool-cases (test n)) (decLe (f n) (largest test f n)) (largest-attained test f n)
   where
-    go : (test n ≡ true) ⊎ (test n ≡ false) → Dec (f n ≤ largest test f n) → (largest test f n ≡ 0) ⊎ ((k : ℕ) × (k < n) × (test k ≡ true) × (largest test f n ≡ f k)) → (max (largest test f n) (cond (test n) (f n) 0) ≡ 0) ⊎ ((k : ℕ) × (k < suc n) × (test k ≡ true) × (max (largest test f n) (cond (test n) (f n) 0) ≡ f k))
+    go : (test n ≡ true) ⊎ (test n ≡ false) → Dec (f n ≤ largest test f n) → Attained test f n (largest test f n) → Attained test f (suc n) (max (largest test f n) (cond (test n) (f n) 0))
     go (inl t) (no c) r = inr (n, omega arith, t, omega (arith, cond-true (f n) 0 t))
     go (inl t) (yes c) (inl e) = inl (omega (arith, cond-true (f n) 0 t))
     go (inl t) (yes c) (inr r) = inr (r .0, omega (arith, r .1), r .2, omega (arith, r .3, cond-true (f n) 0 t))

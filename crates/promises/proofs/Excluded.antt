@@ -9,7 +9,7 @@ use Rattle.definitions.specs.Numbers.{verdict-of}
 use Rattle.definitions.specs.Worked.{every-definition, stand}
 use Rattle.definitions.specs.declared.Verdict.{Verdict}
 use Rattle.laws.proofs.Outcomes.{given-not-refused}
-use Rattle.promises.specs.Promises.{JudgeReturned}
+use Rattle.plan_answer.specs.Returned.{JudgeReturned}
 
 -- The stand sheet has a return, and is accepted. Computed.
 stand-return : when-given (read (stand 2)) (λ q. given (any (λ e. e .back) (edges-of q))) ≡ given true
@@ -23,4 +23,4 @@ stand-judged false = refl
 
 -- A planner that calls each sheet with a return impossible.
 pub return-not-impossible : (allow : Bool) (r : Verdict) (k : ℕ) → JudgeReturned (stand 2) allow r → ¬ (verdict-of r ≡ refused k)
-return-not-impossible allow r k e h = given-not-refused (sym (stand-judged allow) ∙ sym e ∙ h)
+return-not-impossible allow r k e h = given-not-refused (sym (stand-judged allow) ∙ sym (e .verdict) ∙ h)

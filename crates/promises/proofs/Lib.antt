@@ -1,2 +1,4 @@
 pub mod Promises
 pub mod Excluded
+pub mod Runs
+mod Ties

@@ -3,10 +3,10 @@ use mathlib.Core.Path.{_≡_, refl, sym, ap, _∙_}
 use mathlib.Core.Bool.{Bool, true}
 use mathlib.Core.Logic.{_⊎_, inl, inr, _≢_, _↔_}
 use mathlib.Core.List.{List}
-use Prim.Native.Nat.{ℕ, suc, _+_, _*_, _<_}
+use Prim.Native.Nat.{ℕ, _+_, _*_, _<_}
 use native.Mathlib.Omega.{arith}
 use native.Mathlib.Decide.{decLt}
-use native.Mathlib.Nat.{mul-le-mul-right, suc-mul}
+use lib.Arith.{digits-lt}
 use lib.ListN.{List·getD-append, List·getD-eq-default, drop, length-take, take}
 use lib.Seq.{getD-take}
 use Rattle.definitions.specs.Answers.{count-of, judged, serialized-of}
@@ -65,10 +65,10 @@ same-refused k e h = (λ f. h .0 (sym e ∙ f), λ f. e ∙ h .1 f)
 
 pub impossible-from-each-call : ImpossibleFromEachCall
 impossible-from-each-call s allow q well = record {
-  judge = λ r e. impossible-by allow r well (λ k a b. (λ f. sym e ∙ f, λ f. e ∙ f));
+  judge = λ r e. impossible-by allow r well (λ k a b. (λ f. sym (e .verdict) ∙ f, λ f. e .verdict ∙ f));
   waits = λ r e. impossible-by true (r .verdict) well (λ k a b. same-refused k (e .verdict) (each-call-refuses s true k a b .waits));
-  plan = λ table after r e. impossible-by allow r well (λ k a b. same-refused k (e .0) (each-call-refuses s allow k a b .plan table));
-  starts = λ list out after r e. impossible-by allow r well (λ k a b. same-refused k (e .0) (each-call-refuses s allow k a b .starts list out));
+  plan = λ table after r e. impossible-by allow r well (λ k a b. same-refused k (e .verdict) (each-call-refuses s allow k a b .plan table));
+  starts = λ list out after r e. impossible-by allow r well (λ k a b. same-refused k (e .verdict) (each-call-refuses s allow k a b .starts list out));
 }
 
 -- Start times that agree on the steps keep the same links.
@@ -100,14 +100,14 @@ module _ (q : Records) (list : List ℕ) (within : WithinLimits q list) where
 
 pub starts-keep-and-nobody-is-earlier : StartsKeepAndNobodyIsEarlier
 starts-keep-and-nobody-is-earlier s allow q list out r after v sheet e h =
-    let returned = starts-returned s allow q v list out sheet (sym (e .0) ∙ h) in
-    let numbers : (i : ℕ) → i < count-of q → cell after i ≡ our-start q (delays list) i = λ i b. ap (λ (l : List ℕ). cell l i) (e .1) ∙ returned .numbers i b in
+    let returned = starts-returned s allow q v list out sheet (sym (e .verdict) ∙ h) in
+    let numbers : (i : ℕ) → i < count-of q → cell after i ≡ our-start q (delays list) i = λ i b. ap (λ (l : List ℕ). cell l i) (e .numbers) ∙ returned .numbers i b in
     let accepted = returned .accepted in
     let kept = starts-kept s allow q v accepted (delays list) (returned .source) in
     let fits = read-fits s q (sheet .bytes) (sheet .reads) in
     let same = keeps-same (q .steps) (delays list) (our-start q (delays list)) (cell after) (count-of q) numbers in
     let waits = waits-listed s q sheet in
-    let within = calls-exactly s allow q sheet .starts list out .accepted v .0 (sym (e .0) ∙ h) .1 in
+    let within = calls-exactly s allow q sheet .starts list out .accepted v .0 (sym (e .verdict) ∙ h) .1 in
     record {
       links = record { starts = numbers 0 (omega (arith, fits .some)) ∙ kept .links .starts; keeps = λ c m. same c (sheet-ends fits c m) (kept .links .keeps c m) };
       waits = λ w m. same (wait-link w) (waits .each w m .anchor-below, waits .each w m .target-below) (kept .waits w m);
@@ -130,19 +130,15 @@ waits-are-those s q r v sheet e h =
       count = count ∙ rw maps (waits .count-maps);
     }
 
--- The place of an entry lies within the plan.
-inside : (n v a : ℕ) → v < n → a < n → v * n + a < n * n
-inside n v a b c = omega (arith, suc-mul v n, mul-le-mul-right {m = suc v} {n = n} n b)
-
 pub plan-is-that : PlanIsThat
 plan-is-that s allow q table r after v sheet e h =
     let call = calls-exactly s allow q sheet .plan table in
-    let accepts = call .accepted v .0 (sym (e .0) ∙ h) .0 in
+    let accepts = call .accepted v .0 (sym (e .verdict) ∙ h) .0 in
     let accepted : Accepted s allow q v = record { sheet = sheet; accepts = accepts } in
     let plan = Demands.plan-table s allow q v accepted in
-    let numbers = e .1 ∙ call .numbers v (sym (e .0) ∙ h) in
+    let numbers = e .numbers ∙ call .numbers v (sym (e .verdict) ∙ h) in
     record {
-      entry = λ i a b c. ap (λ (l : List ℕ). cell l (i * count-of q + a)) numbers ∙ List·getD-append (Plan.plan-table (count-of q) (serialized-of q)) (drop (count-of q * count-of q) table) 0 (i * count-of q + a) (omega (arith, plan .size, inside (count-of q) i a b c)) ∙ plan .entry i a b c;
+      entry = λ i a b c. ap (λ (l : List ℕ). cell l (i * count-of q + a)) numbers ∙ List·getD-append (Plan.plan-table (count-of q) (serialized-of q)) (drop (count-of q * count-of q) table) 0 (i * count-of q + a) (omega (arith, plan .size, digits-lt b c)) ∙ plan .entry i a b c;
       deciding = deciding-sets s allow q v accepted;
       offsets = offsets-right s allow q v accepted;
     }

@@ -1,12 +1,12 @@
 -- The demands 2 and 3 on the planner, stated of what the library's functions return. Definitions alone: the theorem of the same name in small letters, in proofs/Promises.antt, proves it.
--- s are the bytes of the sheet, q its records, r the verdict that is returned. What a function returned is said by its contract, word for word as in the source of the crates judging, planning and timing.
+-- s are the bytes of the sheet, q its records, r the verdict that is returned. What a function returned is said by the record that its contract is (crates/plan_answer/specs/Returned.antt): proofs/Ties.antt shows of each function that it is.
 use mathlib.Core.Path.{_≡_}
 use mathlib.Core.Bool.{Bool, true, cond}
 use mathlib.Core.Logic.{_⊎_, _≢_, _↔_}
 use mathlib.Core.List.{List, List·Memᴰ}
 use Prim.Native.Nat.{ℕ, _+_, _*_, _≤_, _<_}
 use lib.ListN.{take}
-use Rattle.definitions.specs.Answers.{count-of, edges-of, judged, planned, starts-answer, waits-answer}
+use Rattle.definitions.specs.Answers.{count-of, edges-of}
 use Rattle.definitions.specs.Basics.{given, refused, test-bit}
 use Rattle.definitions.specs.Bytes.{Records}
 use Rattle.definitions.specs.Links.{Constraint, Keeps, KeepsAll, constraints, members}
@@ -19,23 +19,7 @@ use Rattle.definitions.specs.declared.Verdict.{Verdict}
 use Rattle.demands.specs.Demands.{DecidingFor, IsSheet, KeepsLinks, NoLateLinks, NoRival, NoStarts, OffsetFor, SomeListLeavesNone, WellFormed, in-start-set, sheet-decides, sheet-offset, sheet-waits, wait-link}
 use Rattle.theory.specs.Counts.{standing-bits}
 use Rattle.definitions.specs.declared.WaitMaps.{WaitMaps}
-use Rattle.judging.specs.Answers.{Lists}
-
--- ## What the functions return
-
-abbrev pub JudgeReturned : List ℕ → Bool → Verdict → Type 0
-JudgeReturned s allow r = verdict-of r ≡ judged s allow
-
-abbrev pub WaitsReturned : List ℕ → WaitMaps → Type 0
-WaitsReturned s r = Lists (waits-answer s) r
-
--- The lent table before and after.
-abbrev pub PlanReturned : List ℕ → Bool → List ℕ → Verdict → List ℕ → Type 0
-PlanReturned s allow table r after = (verdict-of r ≡ planned s allow table .verdict) × (after ≡ planned s allow table .numbers)
-
--- The list of durations, and the lent numbers before and after.
-abbrev pub StartsReturned : List ℕ → Bool → List ℕ → List ℕ → Verdict → List ℕ → Type 0
-StartsReturned s allow list out r after = (verdict-of r ≡ starts-answer s allow list out .verdict) × (after ≡ starts-answer s allow list out .numbers)
+use Rattle.plan_answer.specs.Returned.{JudgeReturned, PlanReturned, StartsReturned, WaitsReturned}
 
 -- ## Demand 3
 

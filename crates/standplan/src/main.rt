@@ -1,15 +1,20 @@
 // Reads one sheet from standard input, allows waits, and prints its plan or its refusal.
-// The longest sheet has 4,801 bytes, so the first 8,192 bytes of an input decide what is printed of it: `front-decides` (crates/demands/proofs/Demands.antt).
+
+// More bytes than the longest sheet has, so those of an input that are read decide what is printed of it: `front-decides` (crates/demands/proofs/Demands.antt).
+const INPUT_ROOM: usize = 8192;
+
+// Room for the longest text: `plan-room` (crates/print_plan/specs/Texts.antt).
+const TEXT_ROOM: usize = 139300;
 
 // Prints the text of the bytes of a sheet.
 fn print(s: &[u8]) {
-    let mut text = [0u8; 139300];
-    let size = listing::standplan(s, &mut text);
+    let mut text = [0u8; TEXT_ROOM];
+    let size = print_sheet::standplan(s, &mut text);
     io::write_all(libc::STDOUT_FILENO, &text[..size]);
 }
 
 fn main() {
-    let mut input = [0u8; 8192];
+    let mut input = [0u8; INPUT_ROOM];
     let n = io::read_full(libc::STDIN_FILENO, &mut input);
     print(&input[..n]);
 }

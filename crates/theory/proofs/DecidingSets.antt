@@ -9,17 +9,16 @@ use lib.Dec.{eqb, leb}
 use borrow.Author.Tests.{eqb-false, le-leb, leb-true, ne-eqb, not-true}
 use Rattle.definitions.specs.Anchors.{InAnchorSet, WellPosed, chain, in-anchor-set}
 use Rattle.definitions.specs.Basics.{any-below, largest}
-use Rattle.definitions.specs.Links.{Edge, Forward, members}
-use Rattle.definitions.specs.Plan.{decides, offset, overrides, start-times}
-use Rattle.definitions.specs.Rounds.{cell}
+use Rattle.definitions.specs.Links.{Edge, members}
+use Rattle.definitions.specs.Plan.{decides, offset, overrides}
 use Rattle.laws.proofs.Bools.{and-join, and-split, both-ways, not-passing, same-or-not}
 use Rattle.laws.proofs.Tests.{any-below-has, any-below-none, largest-above, largest-attained, largest-below, none-any-below}
-use Rattle.theory.specs.Graphs.{Acyclic, Decides, Overrides, Relative, Shape, Well, sole-delay}
-use Rattle.theory.proofs.Irredundance.{deciding-attains, offset-triangle, strictly-largest}
+use Rattle.theory.specs.Graphs.{Decides, Overrides, Relative, Shape, Well, sole-delay}
+use Rattle.theory.proofs.Irredundance.{Small, deciding-attains, offset-triangle, strictly-largest}
 use Rattle.theory.proofs.Reachability.{dec-member, in-anchor-set-iff}
 use Rattle.theory.proofs.SoleDelays.{sole-delay-other, sole-delay-own, sole-delay-source}
-use Rattle.theory.proofs.StartTimes.{start-times-relative}
-use Rattle.theory.proofs.Usables.{consistent-acyclic}
+use Rattle.theory.proofs.StartTimes.{start-term, start-time, start-times-relative}
+use Rattle.theory.proofs.Usables.{well-acyclic}
 use Rattle.theory.proofs.Walks.{after-trans, member-below}
 
 module _ {n : ℕ} {es : List Edge} (shape : Shape n (members es)) where
@@ -58,52 +57,54 @@ module _ {n : ℕ} {es : List Edge} (shape : Shape n (members es)) where
 
 -- Enough: the largest term over the deciding members is the start.
 module _ {n : ℕ} {es : List Edge} (well : Well n (members es)) (posed : WellPosed (members es)) where
-  forward-acyclic : Acyclic (Forward (members es))
-  forward-acyclic = consistent-acyclic (well .shape) (well .consistent)
-
-  pub deciding-enough : (d : ℕ → ℕ) → d 0 ≡ 0 → (v : ℕ) → v < n → cell (start-times n es d) v ≡ largest (λ a. decides n es a v) (λ a. cell (start-times n es d) a + d a + offset n es a v) n
+  pub deciding-enough : (d : ℕ → ℕ) → d 0 ≡ 0 → (v : ℕ) → v < n → start-time n es d v ≡ largest (λ a. decides n es a v) (start-term n es d v) n
   deciding-enough d d0 v b =
-      let r = deciding-attains (well .shape) forward-acyclic (well .rooted) (dec-member (well .shape)) rel v b in
+      let r = deciding-attains (well .shape) (well-acyclic well) (well .rooted) (dec-member (well .shape)) rel v b in
       let low : S v ≤ largest (λ a. decides n es a v) value n = omega (arith, r .2, largest-above (λ a. decides n es a v) value n (r .0) (member-below (well .shape) b (r .1 .inside)) (decides-iff (well .shape) (r .0) v b .1 (r .1))) in
       let high : largest (λ a. decides n es a v) value n ≤ S v = largest-below (λ a. decides n es a v) value n (S v) (λ a c i. rel .above a v b (decides-iff (well .shape) a v b .0 i .inside)) in
       omega arith
     where
       S : ℕ → ℕ
-      S x = cell (start-times n es d) x
+      S x = start-time n es d x
 
       value : ℕ → ℕ
-      value a = cell (start-times n es d) a + d a + offset n es a v
+      value a = start-term n es d v a
 
-      rel : Relative n (members es) d (cell (start-times n es d)) (offset n es)
+      rel : Relative n (members es) d (start-time n es d) (offset n es)
       rel = start-times-relative well posed d d0
 
   -- So some member decides.
   pub deciding-some : (v : ℕ) → v < n → (a : ℕ) × (a < n) × (decides n es a v ≡ true)
   deciding-some v b =
-      let r = deciding-attains (well .shape) forward-acyclic (well .rooted) (dec-member (well .shape)) (start-times-relative well posed (λ x. 0) refl) v b in
+      let r = deciding-attains (well .shape) (well-acyclic well) (well .rooted) (dec-member (well .shape)) (start-times-relative well posed (λ x. 0) refl) v b in
       (r .0, member-below (well .shape) b (r .1 .inside), decides-iff (well .shape) (r .0) v b .1 (r .1))
 
+-- A part of the anchor set of v whose largest term is the start.
+pub record Suffices (n : ℕ) (es : List Edge) (d : ℕ → ℕ) (part : ℕ → Bool) (v : ℕ) : Type 0 where
+  pub within : (b : ℕ) → part b ≡ true → in-anchor-set n es b v ≡ true
+  pub some : any-below part n ≡ true
+  pub same : start-time n es d v ≡ largest part (start-term n es d v) n
+
 -- Needed: where a lasts x, more than twice what any offset is, its term alone is the largest.
-module _ {n : ℕ} {es : List Edge} (well : Well n (members es)) (posed : WellPosed (members es)) (limit : ℕ) (small : (a v : ℕ) → v < n → InAnchorSet (members es) a v → offset n es a v ≤ limit) (x : ℕ) (long : limit + limit < x) where
-  pub deciding-strict : (a v : ℕ) → v < n → decides n es a v ≡ true → (b : ℕ) → b ≢ a → InAnchorSet (members es) b v → cell (start-times n es (sole-delay x a)) b + sole-delay x a b + offset n es b v < cell (start-times n es (sole-delay x a)) a + sole-delay x a a + offset n es a v
+module _ {n : ℕ} {es : List Edge} (well : Well n (members es)) (posed : WellPosed (members es)) (limit : ℕ) (small : Small n (members es) (offset n es) limit) (x : ℕ) (long : limit + limit < x) where
+  pub deciding-strict : (a v : ℕ) → v < n → decides n es a v ≡ true → (b : ℕ) → b ≢ a → InAnchorSet (members es) b v → start-term n es (sole-delay x a) v b < start-term n es (sole-delay x a) v a
   deciding-strict a v b D =
       strictly-largest
       (well .shape)
-      (consistent-acyclic (well .shape) (well .consistent))
+      (well-acyclic well)
       rel
-      (λ c y u h k i j. offset-triangle (well .shape) (consistent-acyclic (well .shape) (well .consistent)) posed i (j .walk .not-source) (rel .offsets c y h (chain i)) (rel .offsets y u k (chain j)) (rel .offsets c u k (chain (after-trans i j))))
+      (λ c y u h k i j. offset-triangle (well .shape) (well-acyclic well) posed i (j .walk .not-source) (rel .offsets c y h (chain i)) (rel .offsets y u k (chain j)) (rel .offsets c u k (chain (after-trans i j))))
       b
       (decides-iff (well .shape) a v b .0 D)
       limit
-      (λ z. omega (arith, sole-delay-own x a z))
-      (sole-delay-other x a)
+      (record { long = λ z. omega (arith, sole-delay-own x a z); none = sole-delay-other x a })
       small
     where
-      rel : Relative n (members es) (sole-delay x a) (cell (start-times n es (sole-delay x a))) (offset n es)
+      rel : Relative n (members es) (sole-delay x a) (start-time n es (sole-delay x a)) (offset n es)
       rel = start-times-relative well posed (sole-delay x a) (sole-delay-source x a)
 
   -- So every part P of the anchor set that has the start among its terms, for the delays that show a, contains a.
-  pub deciding-needed : (P : ℕ → Type 0) (a v : ℕ) → v < n → ((b : ℕ) → P b → InAnchorSet (members es) b v) → ((b : ℕ) × P b × (cell (start-times n es (sole-delay x a)) v ≡ cell (start-times n es (sole-delay x a)) b + sole-delay x a b + offset n es b v)) → decides n es a v ≡ true → P a
+  pub deciding-needed : (P : ℕ → Type 0) (a v : ℕ) → v < n → ((b : ℕ) → P b → InAnchorSet (members es) b v) → ((b : ℕ) × P b × (start-time n es (sole-delay x a) v ≡ start-term n es (sole-delay x a) v b)) → decides n es a v ≡ true → P a
   deciding-needed P a v h part r D = go (same-or-not (r .0) a)
     where
       go : (r .0 ≡ a) ⊎ (r .0 ≢ a) → P a
@@ -118,15 +119,15 @@ module _ {n : ℕ} {es : List Edge} (well : Well n (members es)) (posed : WellPo
           ))
 
   -- The same for a part given by a test, with the largest of its terms. A part with no member has no largest term.
-  pub deciding-least : (part : ℕ → Bool) (a v : ℕ) → v < n → ((b : ℕ) → part b ≡ true → in-anchor-set n es b v ≡ true) → any-below part n ≡ true → cell (start-times n es (sole-delay x a)) v ≡ largest part (λ b. cell (start-times n es (sole-delay x a)) b + sole-delay x a b + offset n es b v) n → decides n es a v ≡ true → part a ≡ true
-  deciding-least part a v h inside some same =
-      deciding-needed (λ b. part b ≡ true) a v h (λ b i. in-anchor-set-iff (well .shape) b v .0 (inside b i)) (attained (largest-attained part value n))
+  pub deciding-least : (part : ℕ → Bool) (a v : ℕ) → v < n → Suffices n es (sole-delay x a) part v → decides n es a v ≡ true → part a ≡ true
+  deciding-least part a v h part-of =
+      deciding-needed (λ b. part b ≡ true) a v h (λ b i. in-anchor-set-iff (well .shape) b v .0 (part-of .within b i)) (attained (largest-attained part value n))
     where
       value : ℕ → ℕ
-      value b = cell (start-times n es (sole-delay x a)) b + sole-delay x a b + offset n es b v
+      value = start-term n es (sole-delay x a) v
 
-      attained : (largest part value n ≡ 0) ⊎ ((b : ℕ) × (b < n) × (part b ≡ true) × (largest part value n ≡ value b)) → (b : ℕ) × (part b ≡ true) × (cell (start-times n es (sole-delay x a)) v ≡ value b)
-      attained (inr r) = (r .0, r .2, same ∙ r .3)
+      attained : (largest part value n ≡ 0) ⊎ ((b : ℕ) × (b < n) × (part b ≡ true) × (largest part value n ≡ value b)) → (b : ℕ) × (part b ≡ true) × (start-time n es (sole-delay x a) v ≡ value b)
+      attained (inr r) = (r .0, r .2, part-of .same ∙ r .3)
       attained (inl e) =
-          let r = any-below-has part n some in
-          (r .0, r .2, omega (arith, same, largest-above part value n (r .0) (r .1) (r .2)))
+          let r = any-below-has part n (part-of .some) in
+          (r .0, r .2, omega (arith, part-of .same, largest-above part value n (r .0) (r .1) (r .2)))

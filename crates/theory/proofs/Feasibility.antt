@@ -1,17 +1,18 @@
 -- When start times exist. With all delays 0: exactly if the row of the source is stable after n rounds. For every list of delays: exactly if, besides, no walk from the end of a step comes back to it.
 use mathlib.Core.Path.{_∙_, _≡_, ap, refl, sym}
-use mathlib.Core.Bool.{Bool, cond, false, true}
+use mathlib.Core.Bool.{Bool, false, true}
 use mathlib.Core.Logic.{_↔_}
 use mathlib.Core.List.{List, List·Memᴰ}
 use Prim.Native.Nat.{_*_, _+_, _-_, _<_, _≤_, suc, zero, ℕ}
 use native.Mathlib.Omega.{arith}
 use native.Mathlib.Nat.{mul-le-mul-right, suc-mul}
+use Rattle.definitions.specs.Limits.{most-steps, most-duration, most-loss}
 use Rattle.definitions.specs.Anchors.{is-source}
 use Rattle.definitions.specs.Basics.{all-below, any}
 use Rattle.definitions.specs.Links.{After, AfterWalk, Edge, Graph, UsableFrom, Walk, forwards, members, step, stop, usable}
 use Rattle.definitions.specs.Plan.{Span, after, source}
 use Rattle.definitions.specs.Rounds.{after-reaches, cell, extend, reaches, rounds, source-row, stable}
-use Rattle.laws.proofs.Bools.{both-ways, not-passing}
+use Rattle.laws.proofs.Bools.{both-ways, cond-either, not-passing}
 use Rattle.laws.proofs.Tests.{all-below-by, all-below-each, any-none, none-any}
 use Rattle.theory.specs.Graphs.{ForwardAcyclic, KeepsEdge, Losses, NonPositive, Rooted, Schedule, Shape, Well, sole-delay}
 use Rattle.theory.proofs.FirstRows.{source-start}
@@ -33,13 +34,9 @@ extend-keeps (suc w) s g l h k = omega arith
 stable-schedule : {n : ℕ} {es : List Edge} → Shape n (members es) → (row : List ℕ) → Stable es row → ((v : ℕ) → v < n → 1 ≤ cell row v) → cell row 0 ≡ 1 → Schedule (members es) (λ v. 0) (λ v. cell row v - 1)
 stable-schedule {n} {es} shape row st full z = record { starts = omega arith; keeps = keeps-each }
   where
-    none : (b : Bool) → cond {A = ℕ} b 0 0 ≡ 0
-    none true = refl
-    none false = refl
-
     keeps-each : (e : Edge) → List·Memᴰ e es → KeepsEdge (λ v. 0) (λ v. cell row v - 1) e
     keeps-each e m =
-        omega (arith, extend-keeps (cell row (e .from)) (cell row (e .to)) (e .gain) (e .loss) (full (e .from) (shape .from-below e m)) (st e m), none (e .counted), none (e .late))
+        omega (arith, extend-keeps (cell row (e .from)) (cell row (e .to)) (e .gain) (e .loss) (full (e .from) (shape .from-below e m)) (st e m), cond-either {A = ℕ} (e .counted) 0, cond-either {A = ℕ} (e .late) 0)
 
 module _ {n : ℕ} {es : List Edge} (some : 0 < n) (shape : Shape n (members es)) (rooted : Rooted n (members es)) where
   -- For the source every graph is well-posed, and so grounded.
@@ -163,6 +160,6 @@ closed-after-unschedulable {n} {l} {x} {a} {E} shape losses w h s =
       mul-le-mul-right l (b .few),
     )
 
--- With the limits of a sheet: a return from the finish of a fixed step loses up to twice 65,535.
-pub closed-after-64 : {n a : ℕ} {E : Graph} {t : ℕ → ℕ} → Shape n E → n ≤ 64 → Losses E 131070 → After (UsableFrom E a) a a → ¬ Schedule E (sole-delay 16777215 a) t
-closed-after-64 {n} {a} shape few losses w = closed-after-unschedulable shape losses w (omega (arith, mul-le-mul-right 131070 few))
+-- With the limits of a sheet: the longest duration is more than as many of the largest losses as there may be steps.
+pub closed-after-limit : {n a : ℕ} {E : Graph} {t : ℕ → ℕ} → Shape n E → n ≤ most-steps → Losses E most-loss → After (UsableFrom E a) a a → ¬ Schedule E (sole-delay most-duration a) t
+closed-after-limit {n} {a} shape few losses w = closed-after-unschedulable shape losses w (omega (arith, mul-le-mul-right most-loss few))

@@ -3,7 +3,7 @@ use mathlib.Core.Path.{_∙_, _≡_, refl, sym}
 use mathlib.Core.Bool.{Bool, _&&_, cond, false, true}
 use mathlib.Core.Logic.{_≢_, _⊎_, inl, inr}
 use mathlib.Core.List.{List, List·Memᴰ, List·Memᴰ·cases-cons, List·Memᴰ·head, List·Memᴰ·not-nil, List·Memᴰ·tail, [], _∷_}
-use Prim.Native.Nat.{_-_, _<_, _≤_, suc, zero, ℕ}
+use Prim.Native.Nat.{_-_, _<_, _≤_, suc, ℕ}
 use native.Mathlib.Omega.{arith}
 use native.Mathlib.Decide.{decLe}
 use lib.Dec.{T, eqb, eqb-refl, eqb→eq}
@@ -11,14 +11,10 @@ use lib.ListN.{length, length-replicate, replicate}
 use Rattle.definitions.specs.Links.{Edge, Graph, members}
 use Rattle.definitions.specs.Plan.{Span, after, source}
 use Rattle.definitions.specs.Rounds.{after-row, cell, raise, seed, seeds, source-row}
+pub use Rattle.laws.proofs.Lists.{zeros-at}
 use Rattle.theory.specs.Graphs.{Shape}
 use Rattle.theory.proofs.Relaxation.{Fits, Grounded, Reach, Start, Under, raise-length, raise-same, raise-under, raise-up}
 use Rattle.theory.proofs.Walks.{after-edge, after-from, walk-none}
-
-pub zeros-at : (n v : ℕ) → cell (replicate n 0) v ≡ 0
-zeros-at zero v = refl
-zeros-at (suc n) zero = refl
-zeros-at (suc n) (suc v) = zeros-at n v
 
 pub zeros-length : (n : ℕ) → length (replicate {A = ℕ} n 0) ≡ n
 zeros-length n = length-replicate {A = ℕ} n 0
@@ -29,8 +25,18 @@ zeros-under E a n v o h = absurd (omega (arith, zeros-at n v))
 -- The source's row.
 pub source-start : {n : ℕ} {es : List Edge} → Shape n (members es) → 0 < n → Grounded n (members es) 0 → Start es 0 (source-row n 0)
 unfolding source-row
-source-start {n} {es} shape b G =
-    record { fits = λ e m. omega (arith, shape .to-below e m, raise-length (replicate n 0) 0 1, zeros-length n); under = raise-under shape G (replicate n 0) 0 1 (omega (arith, zeros-length n)) (λ o h. record { p = 0; q = 0; span = source refl (walk-none 0); under = omega arith }) (zeros-under (members es) 0 n); covers-source = λ h. record { some = omega (arith, raise-same (replicate n 0) 0 1 (omega (arith, zeros-length n))); enough = omega (arith, raise-same (replicate n 0) 0 1 (omega (arith, zeros-length n))) }; covers-after = λ h. absurd (h refl) }
+source-start {n} {es} shape b G = record {
+  fits = λ e m. omega (arith, shape .to-below e m, raise-length (replicate n 0) 0 1, zeros-length n);
+  under = raise-under shape G (replicate n 0) 0 1 inside (λ o h. record { p = 0; q = 0; span = source refl (walk-none 0); under = omega arith }) (zeros-under (members es) 0 n);
+  covers-source = λ h. record { some = omega (arith, raised); enough = omega (arith, raised) };
+  covers-after = λ h. absurd (h refl);
+}
+  where
+    inside : 0 < length (replicate {A = ℕ} n 0)
+    inside = omega (arith, zeros-length n)
+
+    raised : 1 ≤ cell (raise (replicate n 0) 0 1) 0
+    raised = omega (arith, raise-same (replicate n 0) 0 1 inside)
 
 seed-val : (b c : Bool) (x o : ℕ) → cond (b && c) x 0 ≡ suc o → (b ≡ true) × T c × (x ≡ suc o)
 seed-val true true x o h = (refl, tt, h)
@@ -101,8 +107,12 @@ seeds-hand a (x ∷ es) row h e m = go (List·Memᴰ·cases-cons m) (seeds-hand 
 -- The row of the counted edges out of a.
 pub after-start : {n : ℕ} {es : List Edge} {a : ℕ} → Shape n (members es) → a ≢ 0 → Grounded n (members es) a → Start es a (after-row n es a)
 unfolding after-row
-after-start {n} {es} {a} shape h G =
-    record { fits = λ e m. omega (arith, fits e m, seeds-length a es (replicate n 0)); under = seeds-under shape h G es (replicate n 0) fits (λ e m. m) (zeros-under (members es) a n); covers-source = λ z. absurd (h z); covers-after = λ z e m f c. let s = seeds-hand a es (replicate n 0) fits e m in let t = seed-counted a e c f in record { some = omega arith; enough = omega arith } }
+after-start {n} {es} {a} shape h G = record {
+  fits = λ e m. omega (arith, fits e m, seeds-length a es (replicate n 0));
+  under = seeds-under shape h G es (replicate n 0) fits (λ e m. m) (zeros-under (members es) a n);
+  covers-source = λ z. absurd (h z);
+  covers-after = λ z e m f c. let s = seeds-hand a es (replicate n 0) fits e m in let t = seed-counted a e c f in record { some = omega arith; enough = omega arith };
+}
   where
     fits : Fits es (replicate n 0)
     fits e m = omega (arith, shape .to-below e m, zeros-length n)

@@ -126,41 +126,56 @@ module _ {n : ℕ} {E : Graph} (shape : Shape n E) (acyclic : Acyclic (Forward E
       go (source e w) = absurd (z e)
       go (after w) = by (cross-after shape c w)
 
+-- The offsets go through an anchor; and none is above a limit.
+abbrev Triangle : ℕ → Graph → (ℕ → ℕ → ℕ) → Type 0
+Triangle n E off = (c b u : ℕ) → b < n → u < n → After (Forward E) c b → After (Forward E) b u → off c b + off b u ≤ off c u
+
+abbrev pub Small : ℕ → Graph → (ℕ → ℕ → ℕ) → ℕ → Type 0
+Small n E off limit = (b u : ℕ) → u < n → InAnchorSet E b u → off b u ≤ limit
+
+-- Delays under which a alone lasts, for more than twice the limit; where a is the source none lasts.
+pub record Alone (d : ℕ → ℕ) (limit a : ℕ) : Type 0 where
+  pub long : a ≢ 0 → limit + limit < d a
+  pub none : (b : ℕ) → b ≢ a → d b ≡ 0
+
 -- Each deciding member a is needed. Let a last more than twice what any offset is, and every other step 0; where a is the source let none last. By induction along the anchors before v, the term of every other member is smaller:
 -- its start is decided through a, and then the offsets leave it behind, or it does not depend on a at all.
-module _ {n : ℕ} {E : Graph} {d S : ℕ → ℕ} {off : ℕ → ℕ → ℕ} {a v : ℕ} (shape : Shape n E) (acyclic : Acyclic (Forward E)) (rel : Relative n E d S off) (triangle : (c b u : ℕ) → b < n → u < n → After (Forward E) c b → After (Forward E) b u → off c b + off b u ≤ off c u) (inside : v < n) (stays : Decides E off a v) (limit : ℕ) (long : a ≢ 0 → limit + limit < d a) (none : (b : ℕ) → b ≢ a → d b ≡ 0) (small : (b u : ℕ) → u < n → InAnchorSet E b u → off b u ≤ limit) where
-  smaller-source : (b : ℕ) → b ≢ a → b ≡ 0 → InAnchorSet E b v → S b + off b v < S a + d a + off a v
-  smaller-source b other e i = omega (arith, small b v inside i, ap S e, rel .starts, long (λ z. other (e ∙ sym z)))
+module _ {n : ℕ} {E : Graph} {d S : ℕ → ℕ} {off : ℕ → ℕ → ℕ} {a v : ℕ} (shape : Shape n E) (acyclic : Acyclic (Forward E)) (rel : Relative n E d S off) (triangle : Triangle n E off) (inside : v < n) (stays : Decides E off a v) (limit : ℕ) (alone : Alone d limit a) (small : Small n E off limit) where
+  abbrev Smaller : ℕ → Type 0
+  Smaller b = S b + off b v < S a + d a + off a v
+
+  smaller-source : (b : ℕ) → b ≢ a → b ≡ 0 → InAnchorSet E b v → Smaller b
+  smaller-source b other e i = omega (arith, small b v inside i, ap S e, rel .starts, alone .long (λ z. other (e ∙ sym z)))
 
   -- b's term through the anchor c that sets b's start.
-  smaller-by : (b : ℕ) → b < n → b ≢ a → After (Forward E) b v → (c : ℕ) → InAnchorSet E c b → S b ≡ S c + d c + off c b → ((x : ℕ) → x < n → After (Forward E) x b → x ≢ a → InAnchorSet E x v → S x + off x v < S a + d a + off a v) → Dec (c ≡ a) → S b + off b v < S a + d a + off a v
+  smaller-by : (b : ℕ) → b < n → b ≢ a → After (Forward E) b v → (c : ℕ) → InAnchorSet E c b → S b ≡ S c + d c + off c b → ((x : ℕ) → x < n → After (Forward E) x b → x ≢ a → InAnchorSet E x v → Smaller x) → Dec (c ≡ a) → Smaller b
   smaller-by b h other w c i e ih (yes same) =
       let j : InAnchorSet E a b = member-from (sym same) i in
       go j (decLe (off a v) (off a b + off b v))
     where
-      go : InAnchorSet E a b → Dec (off a v ≤ off a b + off b v) → S b + off b v < S a + d a + off a v
+      go : InAnchorSet E a b → Dec (off a v ≤ off a b + off b v) → Smaller b
       go j (yes l) = absurd (stays .alone b (record { other = other; inside = chain w; behind = j; heavy = l }))
       go j (no l) = omega (arith, e, ap S same, ap d same, ap (λ (x : ℕ). off x b) same)
   smaller-by b h other w c (is-source s) e ih (no differs) =
-      omega (arith, e, ap S s, rel .starts, none c differs, small c b h (is-source s), small b v inside (chain w), long (λ z. differs (s ∙ sym z)))
+      omega (arith, e, ap S s, rel .starts, alone .none c differs, small c b h (is-source s), small b v inside (chain w), alone .long (λ z. differs (s ∙ sym z)))
   smaller-by b h other w c (chain u) e ih (no differs) =
       let i : InAnchorSet E c v = chain (after-trans u w) in
       omega (
         arith,
         e,
-        none c differs,
+        alone .none c differs,
         ih c (after-start-below shape (chain-after u)) u differs i,
         triangle c b v h inside u w,
       )
 
-  smaller : (b : ℕ) → b < n → b ≢ a → InAnchorSet E b v → S b + off b v < S a + d a + off a v
-  smaller = anchor-induct n (Forward E) acyclic (λ b. b ≢ a → InAnchorSet E b v → S b + off b v < S a + d a + off a v) each
+  smaller : (b : ℕ) → b < n → b ≢ a → InAnchorSet E b v → Smaller b
+  smaller = anchor-induct n (Forward E) acyclic (λ b. b ≢ a → InAnchorSet E b v → Smaller b) each
     where
-      each : (b : ℕ) → b < n → ((x : ℕ) → x < n → After (Forward E) x b → x ≢ a → InAnchorSet E x v → S x + off x v < S a + d a + off a v) → b ≢ a → InAnchorSet E b v → S b + off b v < S a + d a + off a v
+      each : (b : ℕ) → b < n → ((x : ℕ) → x < n → After (Forward E) x b → x ≢ a → InAnchorSet E x v → Smaller x) → b ≢ a → InAnchorSet E b v → Smaller b
       each b h ih other (is-source e) = smaller-source b other e (is-source e)
       each b h ih other (chain w) =
           let A = rel .attained b h in
           smaller-by b h other w (A .anchor) (A .inside) (A .equals) ih (ℕ-discrete (A .anchor) a)
 
   pub strictly-largest : (b : ℕ) → b ≢ a → InAnchorSet E b v → S b + d b + off b v < S a + d a + off a v
-  strictly-largest b other i = omega (arith, smaller b (member-below shape inside i) other i, none b other)
+  strictly-largest b other i = omega (arith, smaller b (member-below shape inside i) other i, alone .none b other)

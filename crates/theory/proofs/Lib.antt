@@ -2,6 +2,7 @@ pub mod Walks
 pub mod Usables
 pub mod Slack
 pub mod Pigeonhole
+pub mod DelayLimits
 pub mod SoleDelays
 pub mod RelativeSchedules
 pub mod AnchorOrder

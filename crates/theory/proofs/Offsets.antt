@@ -5,6 +5,7 @@ use mathlib.Core.List.{List, List·Memᴰ}
 use Prim.Native.Nat.{_*_, _+_, _-_, _<_, _≤_, suc, zero, ℕ}
 use native.Mathlib.Omega.{arith}
 use native.Mathlib.Nat.{mul-le-mul-right, suc-mul}
+use Rattle.definitions.specs.Limits.{most-steps, most-gain, most-offset}
 use Rattle.definitions.specs.Anchors.{InAnchorSet, WellPosed, chain, is-source}
 use Rattle.definitions.specs.Links.{After, Edge, Graph, UsableFrom, Walk, members, usable}
 use Rattle.definitions.specs.Plan.{Offset, Span, after, first-row, offset, offset-row, source}
@@ -131,20 +132,20 @@ module _ {n : ℕ} {E : Graph} {g : ℕ} (shape : Shape n E) (never : NonPositiv
   pub offset-small : {a v o : ℕ} → ¬ After E a a → 0 < n → Offset E a v o → o ≤ (n - 1) * g
   offset-small once b O = omega (arith, span-gain once b (O .span), O .attained)
 
--- With the limits of a sheet.
-pub offset-64 : {n : ℕ} {E : Graph} {a v o : ℕ} → Shape n E → NonPositive E → ¬ After E a a → Gains E 65535 → 0 < n → n ≤ 64 → Offset E a v o → o ≤ 4128705
-offset-64 {n} shape never once gains b h O =
-    let few : n - 1 ≤ 63 = omega arith in
-    omega (arith, offset-small shape never gains once b O, mul-le-mul-right 65535 few)
-
-module _ {n : ℕ} {es : List Edge} (well : Well n (members es)) (posed : WellPosed (members es)) (gains : Gains (members es) 65535) (few : n ≤ 64) where
-  pub offset-limit : (a v : ℕ) → v < n → InAnchorSet (members es) a v → offset n es a v ≤ 4128705
-  offset-limit a v b i =
-      offset-64
+module _ {n g : ℕ} {es : List Edge} (well : Well n (members es)) (posed : WellPosed (members es)) (gains : Gains (members es) g) where
+  offset-gains : (a v : ℕ) → v < n → InAnchorSet (members es) a v → offset n es a v ≤ (n - 1) * g
+  offset-gains a v b i =
+      offset-small
       (usable-shape (well .shape) a)
       (nonpositive-mono (usable-sub (members es) a) (well .never))
-      (well .consistent a)
       (λ e m. gains e (m .0))
+      (well .consistent a)
       (well .some)
-      few
       (offset-found well posed a v b i)
+
+-- With the limits of a sheet.
+module _ {n : ℕ} {es : List Edge} (well : Well n (members es)) (posed : WellPosed (members es)) (gains : Gains (members es) most-gain) (few : n ≤ most-steps) where
+  pub offset-limit : (a v : ℕ) → v < n → InAnchorSet (members es) a v → offset n es a v ≤ most-offset
+  offset-limit a v b i =
+      let fewer : n - 1 ≤ most-steps - 1 = omega arith in
+      omega (arith, offset-gains well posed gains a v b i, mul-le-mul-right most-gain fewer)

@@ -117,8 +117,19 @@ split-end {k = k} {p = p} {q = q} w e =
     record { k₁ = k; p₁ = p; q₁ = q; k₂ = 0; p₂ = 0; q₂ = 0; before = walk-to w (sym e) refl refl refl; behind = stop e refl refl refl; ks = omega arith; ps = omega arith; qs = omega arith }
 
 split-step : {E : Graph} {x y k p q z y′ k′ p′ q′ : ℕ} → Split E x z y k p q → (e : Edge) → E e → e .from ≡ y → e .to ≡ y′ → k′ ≡ suc k → p′ ≡ p + e .gain → q′ ≡ q + e .loss → Split E x z y′ k′ p′ q′
-split-step s e m f o hk hp hq =
-    record { k₁ = s .k₁; p₁ = s .p₁; q₁ = s .q₁; k₂ = suc (s .k₂); p₂ = s .p₂ + e .gain; q₂ = s .q₂ + e .loss; before = s .before; behind = step (s .behind) e m f o refl refl refl; ks = omega (arith, s .ks); ps = omega (arith, s .ps); qs = omega (arith, s .qs) }
+split-step s e m f o hk hp hq = record {
+  k₁ = s .k₁;
+  p₁ = s .p₁;
+  q₁ = s .q₁;
+  k₂ = suc (s .k₂);
+  p₂ = s .p₂ + e .gain;
+  q₂ = s .q₂ + e .loss;
+  before = s .before;
+  behind = step (s .behind) e m f o refl refl refl;
+  ks = omega (arith, s .ks);
+  ps = omega (arith, s .ps);
+  qs = omega (arith, s .qs);
+}
 
 pub split-at : {E : Graph} {x y k p q z : ℕ} (w : Walk E x y k p q) → List·Memᴰ z (trail w) → Split E x z y k p q
 unfolding trail
@@ -130,13 +141,45 @@ split-at {E} {x} {y} {k} {p} {q} {z} (step w e m f o hk hp hq) i = go (List·Mem
     go (inr h) below = below h
 
 loop-step : {E : Graph} {x y k p q y′ k′ p′ q′ : ℕ} → Loop E x y k p q → (e : Edge) → E e → e .from ≡ y → e .to ≡ y′ → k′ ≡ suc k → p′ ≡ p + e .gain → q′ ≡ q + e .loss → Loop E x y′ k′ p′ q′
-loop-step s e m f o hk hp hq =
-    record { z = s .z; k₁ = s .k₁; p₁ = s .p₁; q₁ = s .q₁; k₂ = s .k₂; p₂ = s .p₂; q₂ = s .q₂; k₃ = suc (s .k₃); p₃ = s .p₃ + e .gain; q₃ = s .q₃ + e .loss; before = s .before; round = s .round; behind = step (s .behind) e m f o refl refl refl; ks = omega (arith, s .ks); ps = omega (arith, s .ps); qs = omega (arith, s .qs) }
+loop-step s e m f o hk hp hq = record {
+  z = s .z;
+  k₁ = s .k₁;
+  p₁ = s .p₁;
+  q₁ = s .q₁;
+  k₂ = s .k₂;
+  p₂ = s .p₂;
+  q₂ = s .q₂;
+  k₃ = suc (s .k₃);
+  p₃ = s .p₃ + e .gain;
+  q₃ = s .q₃ + e .loss;
+  before = s .before;
+  round = s .round;
+  behind = step (s .behind) e m f o refl refl refl;
+  ks = omega (arith, s .ks);
+  ps = omega (arith, s .ps);
+  qs = omega (arith, s .qs);
+}
 
 -- The last edge comes back to where the walk was before.
 loop-close : {E : Graph} {x y k p q y′ k′ p′ q′ : ℕ} → Split E x y′ y k p q → (e : Edge) → E e → e .from ≡ y → e .to ≡ y′ → k′ ≡ suc k → p′ ≡ p + e .gain → q′ ≡ q + e .loss → Loop E x y′ k′ p′ q′
-loop-close {y′ = y′} s e m f o hk hp hq =
-    record { z = y′; k₁ = s .k₁; p₁ = s .p₁; q₁ = s .q₁; k₂ = s .k₂; p₂ = s .p₂ + e .gain; q₂ = s .q₂ + e .loss; k₃ = 0; p₃ = 0; q₃ = 0; before = s .before; round = step (s .behind) e m f o refl refl refl; behind = walk-none y′; ks = omega (arith, s .ks); ps = omega (arith, s .ps); qs = omega (arith, s .qs) }
+loop-close {y′ = y′} s e m f o hk hp hq = record {
+  z = y′;
+  k₁ = s .k₁;
+  p₁ = s .p₁;
+  q₁ = s .q₁;
+  k₂ = s .k₂;
+  p₂ = s .p₂ + e .gain;
+  q₂ = s .q₂ + e .loss;
+  k₃ = 0;
+  p₃ = 0;
+  q₃ = 0;
+  before = s .before;
+  round = step (s .behind) e m f o refl refl refl;
+  behind = walk-none y′;
+  ks = omega (arith, s .ks);
+  ps = omega (arith, s .ps);
+  qs = omega (arith, s .qs);
+}
 
 module _ {n : ℕ} {E : Graph} (shape : Shape n E) where
   -- Either some vertex comes twice, or each of the k + 1 vertices takes a free number. Induction on the walk.

@@ -3,24 +3,24 @@ use mathlib.Core.Path.{_≡_, subst, sym}
 use mathlib.Core.Bool.{Bool, false, true}
 use mathlib.Core.Logic.{_≢_}
 use mathlib.Core.List.{List}
-use Prim.Native.Nat.{_*_, _+_, _<_, _≤_, ℕ}
+use Prim.Native.Nat.{_+_, _<_, _≤_, ℕ}
 use native.Mathlib.Omega.{arith}
 use native.Mathlib.Nat.{mul-le-mul-right}
-use Rattle.definitions.specs.Anchors.{InAnchorSet, WellPosed, in-anchor-set}
-use Rattle.definitions.specs.Basics.{any-below, largest}
+use Rattle.definitions.specs.Limits.{most-steps, most-duration, most-gain, most-offset, most-start}
+use Rattle.definitions.specs.Anchors.{InAnchorSet, WellPosed}
+use Rattle.definitions.specs.Basics.{largest}
 use Rattle.definitions.specs.Links.{After, Edge, Forward, Graph, _⊑_, members}
-use Rattle.definitions.specs.Plan.{decides, offset, start-times}
-use Rattle.definitions.specs.Rounds.{cell}
+use Rattle.definitions.specs.Plan.{decides, offset}
 use Rattle.definitions.specs.Waits.{Wait, needs-waits, serialized}
 use Rattle.theory.specs.Graphs.{Acyclic, ForwardAcyclic, Gains, Relative, Schedule, Serializable, Shape, Timely, Well, sole-delay}
 use Rattle.theory.specs.Strategies.{Assigned, Strategy, Unbounded}
 use Rattle.theory.proofs.AnchorOrder.{least-acyclic}
-use Rattle.theory.proofs.DecidingSets.{deciding-enough, deciding-least, deciding-some, deciding-strict}
+use Rattle.theory.proofs.DecidingSets.{Suffices, deciding-enough, deciding-least, deciding-some, deciding-strict}
 use Rattle.theory.proofs.Offsets.{offset-limit}
 use Rattle.theory.proofs.Reachability.{dec-member}
 use Rattle.theory.proofs.RelativeSchedules.{relative-keeps}
 use Rattle.theory.proofs.Serialization.{forward-acyclic, rival-keeps, timely-serializable, wait-chain, wait-other, waited-gains, waited-timely, waited-well}
-use Rattle.theory.proofs.StartTimes.{relative-small, start-times-relative}
+use Rattle.theory.proofs.StartTimes.{relative-small, start-term, start-time, start-times-relative}
 use Rattle.theory.proofs.Strategies.{ours-strategy, strategy-earliest, strategy-serializable, unbounded-waited}
 use Rattle.theory.proofs.WaitLists.{serialized-none, serialized-waited, serialized-well-posed, wait-anchor-below}
 use Rattle.theory.proofs.Walks.{member-below, schedule-mono, source-first}
@@ -57,62 +57,62 @@ module _ {n : ℕ} {es : List Edge} (well : Well n (members es)) (serial : Seria
       (subst (λ (x : ℕ). After (Forward (members (serialized n es))) a x) e (wait-chain (serialized-waited (well .shape)) w))
 
   -- Our starts are the relative schedule; so they keep every link and every wait, whatever the delays.
-  pub plan-relative : (d : ℕ → ℕ) → d 0 ≡ 0 → Relative n (members (serialized n es)) d (cell (start-times n (serialized n es) d)) (offset n (serialized n es))
+  pub plan-relative : (d : ℕ → ℕ) → d 0 ≡ 0 → Relative n (members (serialized n es)) d (start-time n (serialized n es) d) (offset n (serialized n es))
   plan-relative = start-times-relative plan-well plan-posed
 
-  pub plan-keeps-waits : (d : ℕ → ℕ) → d 0 ≡ 0 → Schedule (members (serialized n es)) d (cell (start-times n (serialized n es) d))
+  pub plan-keeps-waits : (d : ℕ → ℕ) → d 0 ≡ 0 → Schedule (members (serialized n es)) d (start-time n (serialized n es) d)
   plan-keeps-waits d d0 = relative-keeps (plan-well .shape) plan-posed (plan-well .never) (plan-relative d d0)
 
   -- Where no return is late, none that keep the links and waits start anything earlier.
   module _ (timely : Timely (members es)) where
-    pub plan-least : {d t : ℕ → ℕ} → d 0 ≡ 0 → Schedule (members (serialized n es)) d t → (v : ℕ) → v < n → cell (start-times n (serialized n es) d) v ≤ t v
+    pub plan-least : {d t : ℕ → ℕ} → d 0 ≡ 0 → Schedule (members (serialized n es)) d t → (v : ℕ) → v < n → start-time n (serialized n es) d v ≤ t v
     plan-least {d} d0 s = least-acyclic (plan-well .shape) (waited-timely (serialized-waited (well .shape)) (well .shape) timely) acyclic (plan-relative d d0) s
 
     -- Where no waits are needed, none that keep the links do.
-    pub plan-least-unwaited : {d t : ℕ → ℕ} → needs-waits n es ≡ false → d 0 ≡ 0 → Schedule (members es) d t → (v : ℕ) → v < n → cell (start-times n (serialized n es) d) v ≤ t v
+    pub plan-least-unwaited : {d t : ℕ → ℕ} → needs-waits n es ≡ false → d 0 ≡ 0 → Schedule (members es) d t → (v : ℕ) → v < n → start-time n (serialized n es) d v ≤ t v
     plan-least-unwaited {d} {t} h d0 s = plan-least d0 (subst (λ (l : List Edge). Schedule (members l) d t) (sym (serialized-none (well .shape) h)) s)
 
     -- And none that keep a well-posed extension do: it keeps the waits already.
-    pub plan-least-rival : {F : Graph} {d t : ℕ → ℕ} → members es ⊑ F → Shape n F → WellPosed F → Timely F → d 0 ≡ 0 → Schedule F d t → (v : ℕ) → v < n → cell (start-times n (serialized n es) d) v ≤ t v
+    pub plan-least-rival : {F : Graph} {d t : ℕ → ℕ} → members es ⊑ F → Shape n F → WellPosed F → Timely F → d 0 ≡ 0 → Schedule F d t → (v : ℕ) → v < n → start-time n (serialized n es) d v ≤ t v
     plan-least-rival above shape posed on-time d0 s = plan-least d0 (rival-keeps (serialized-waited (well .shape)) above shape posed on-time s)
 
   -- Late returns or not: no rival without foresight starts anything earlier, and our starts are such a rival.
   module _ {Open : ℕ → Type 0} (unbounded : Unbounded Open (members es)) where
-    pub plan-least-strategy : {ρ : (ℕ → ℕ) → ℕ → ℕ} → Strategy n Open (members es) ρ → (v : ℕ) → v < n → (d : ℕ → ℕ) → Assigned Open d → cell (start-times n (serialized n es) d) v ≤ ρ d v
+    pub plan-least-strategy : {ρ : (ℕ → ℕ) → ℕ → ℕ} → Strategy n Open (members es) ρ → (v : ℕ) → v < n → (d : ℕ → ℕ) → Assigned Open d → start-time n (serialized n es) d v ≤ ρ d v
     plan-least-strategy = strategy-earliest (well .shape) unbounded (serialized-waited (well .shape)) acyclic plan-posed plan-relative
 
-    pub plan-strategy : Strategy n Open (members es) (λ d. cell (start-times n (serialized n es) d))
+    pub plan-strategy : Strategy n Open (members es) (start-time n (serialized n es))
     plan-strategy =
         let R = ours-strategy (plan-well .shape) acyclic plan-relative (unbounded-waited unbounded (serialized-waited (well .shape))) plan-posed (plan-well .never) in
         record { keeps = λ d L. schedule-mono (serialized-waited (well .shape) .keeps-all) (R .keeps d L); blind = R .blind }
 
   -- The largest term over the deciding members is the start.
-  pub plan-enough : (d : ℕ → ℕ) → d 0 ≡ 0 → (v : ℕ) → v < n → cell (start-times n (serialized n es) d) v ≡ largest (λ a. decides n (serialized n es) a v) (λ a. cell (start-times n (serialized n es) d) a + d a + offset n (serialized n es) a v) n
+  pub plan-enough : (d : ℕ → ℕ) → d 0 ≡ 0 → (v : ℕ) → v < n → start-time n (serialized n es) d v ≡ largest (λ a. decides n (serialized n es) a v) (start-term n (serialized n es) d v) n
   plan-enough = deciding-enough plan-well plan-posed
 
   pub plan-some : (v : ℕ) → v < n → (a : ℕ) × (a < n) × (decides n (serialized n es) a v ≡ true)
   plan-some = deciding-some plan-well plan-posed
 
   -- With the limits of a sheet.
-  module _ (gains : Gains (members es) 65535) (few : n ≤ 64) where
-    pub plan-offset-limit : (a v : ℕ) → v < n → InAnchorSet (members (serialized n es)) a v → offset n (serialized n es) a v ≤ 4128705
+  module _ (gains : Gains (members es) most-gain) (few : n ≤ most-steps) where
+    pub plan-offset-limit : (a v : ℕ) → v < n → InAnchorSet (members (serialized n es)) a v → offset n (serialized n es) a v ≤ most-offset
     plan-offset-limit = offset-limit plan-well plan-posed (waited-gains (serialized-waited (well .shape)) gains) few
 
-    pub plan-start-limit : (d : ℕ → ℕ) → d 0 ≡ 0 → ((a : ℕ) → a < n → d a ≤ 16777215) → (v : ℕ) → v < n → cell (start-times n (serialized n es) d) v ≤ n * 20905920
-    plan-start-limit d d0 short =
-        relative-small
-        (plan-well .shape)
-        acyclic
-        (plan-relative d d0)
-        20905920
-        (λ a v b i. omega (arith, short a (member-below (plan-well .shape) b i), plan-offset-limit a v b i))
-
-    pub plan-start-limit-64 : (d : ℕ → ℕ) → d 0 ≡ 0 → ((a : ℕ) → a < n → d a ≤ 16777215) → (v : ℕ) → v < n → cell (start-times n (serialized n es) d) v ≤ 1337978880
-    plan-start-limit-64 d d0 short v b = omega (arith, plan-start-limit d d0 short v b, mul-le-mul-right 20905920 few)
+    -- Each of at most n anchors on the way to a step adds a delay and an offset.
+    pub plan-start-limit : (d : ℕ → ℕ) → d 0 ≡ 0 → ((a : ℕ) → a < n → d a ≤ most-duration) → (v : ℕ) → v < n → start-time n (serialized n es) d v ≤ most-start
+    plan-start-limit d d0 short v b =
+        omega (
+          arith,
+          relative-small (plan-well .shape) acyclic (plan-relative d d0) (most-duration + most-offset) adds v b,
+          mul-le-mul-right (most-duration + most-offset) few,
+        )
+      where
+        adds : (a v : ℕ) → v < n → InAnchorSet (members (serialized n es)) a v → d a + offset n (serialized n es) a v ≤ most-duration + most-offset
+        adds a v b i = omega (arith, short a (member-below (plan-well .shape) b i), plan-offset-limit a v b i)
 
     -- No deciding member can be left out: the delays that show it are within the limit.
-    pub plan-strict : (a v : ℕ) → v < n → decides n (serialized n es) a v ≡ true → (b : ℕ) → b ≢ a → InAnchorSet (members (serialized n es)) b v → cell (start-times n (serialized n es) (sole-delay 16777215 a)) b + sole-delay 16777215 a b + offset n (serialized n es) b v < cell (start-times n (serialized n es) (sole-delay 16777215 a)) a + sole-delay 16777215 a a + offset n (serialized n es) a v
-    plan-strict = deciding-strict plan-well plan-posed 4128705 plan-offset-limit 16777215 (omega arith)
+    pub plan-strict : (a v : ℕ) → v < n → decides n (serialized n es) a v ≡ true → (b : ℕ) → b ≢ a → InAnchorSet (members (serialized n es)) b v → start-term n (serialized n es) (sole-delay most-duration a) v b < start-term n (serialized n es) (sole-delay most-duration a) v a
+    plan-strict = deciding-strict plan-well plan-posed most-offset plan-offset-limit most-duration (omega arith)
 
-    pub plan-deciding-least : (part : ℕ → Bool) (a v : ℕ) → v < n → ((b : ℕ) → part b ≡ true → in-anchor-set n (serialized n es) b v ≡ true) → any-below part n ≡ true → cell (start-times n (serialized n es) (sole-delay 16777215 a)) v ≡ largest part (λ b. cell (start-times n (serialized n es) (sole-delay 16777215 a)) b + sole-delay 16777215 a b + offset n (serialized n es) b v) n → decides n (serialized n es) a v ≡ true → part a ≡ true
-    plan-deciding-least = deciding-least plan-well plan-posed 4128705 plan-offset-limit 16777215 (omega arith)
+    pub plan-deciding-least : (part : ℕ → Bool) (a v : ℕ) → v < n → Suffices n (serialized n es) (sole-delay most-duration a) part v → decides n (serialized n es) a v ≡ true → part a ≡ true
+    plan-deciding-least = deciding-least plan-well plan-posed most-offset plan-offset-limit most-duration (omega arith)

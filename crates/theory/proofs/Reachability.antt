@@ -1,8 +1,8 @@
 -- The executable tests of walks, anchor sets and well-posedness say what the relations say. Rounds on the edges with their weights taken away mark what a walk reaches.
 use mathlib.Core.Path.{_∙_, _≡_, ap, refl, subst, sym}
-use mathlib.Core.Bool.{Bool, _&&_, _||_, cond, false, not, true, true≢false}
+use mathlib.Core.Bool.{Bool, _&&_, _||_, false, not, true}
 use mathlib.Core.Logic.{_↔_, _≢_, _⊎_, inl, inr}
-use mathlib.Core.List.{List, List·Memᴰ, List·Memᴰ·append-cases, List·Memᴰ·cases-cons, List·Memᴰ·eq-of-singleton, List·Memᴰ·head, List·Memᴰ·not-nil, List·Memᴰ·tail, Memᴰ·append-left, Memᴰ·append-right, [], _++_, _∷_}
+use mathlib.Core.List.{List, List·Memᴰ, List·Memᴰ·head, List·Memᴰ·tail, Memᴰ·map, Memᴰ·of-map, [], _∷_}
 use Prim.Native.Nat.{_<_, _≤_, suc, zero, ℕ}
 use native.Mathlib.Omega.{arith}
 use native.Mathlib.Decide.{decLe}
@@ -14,93 +14,58 @@ use Rattle.definitions.specs.Basics.{all-below, any}
 use Rattle.definitions.specs.Links.{After, Edge, Forward, Graph, Joined, LateInto, Walk, _⊑_, forwards, late-into, members, step, stop}
 use Rattle.definitions.specs.Rounds.{after-reaches, bare, bares, cell, extend, offer, raise, reaches, relax, round, rounds, source-row}
 use Rattle.laws.proofs.Bools.{and-join, and-split, bool-cases, both-ways, or-left, or-right, or-split, same-or-not, test-decides}
+use Rattle.laws.proofs.Lists.{mem-without, without-mem, zeros-at}
 use Rattle.laws.proofs.Tests.{all-below-by, all-below-each, all-by, all-each, any-by, any-has}
 use Rattle.theory.specs.Graphs.{NonPositive, Shape}
-use Rattle.theory.proofs.FirstRows.{zeros-at, zeros-length}
+use Rattle.theory.proofs.FirstRows.{zeros-length}
 use Rattle.theory.proofs.Pigeonhole.{shorten}
 use Rattle.theory.proofs.Relaxation.{Covers, Fits, fits-head, fits-relax, fits-rounds, raise-length, raise-other, raise-same, rounds-rise, walk-covered}
-use Rattle.theory.proofs.Usables.{late-into-iff}
+use Rattle.theory.proofs.Usables.{late-into-iff, shape-part}
 use Rattle.theory.proofs.Walks.{after-by, after-mono, member-below, some-after, walk-none}
 
 -- The forward edges of a list are those of its graph.
 pub forwards-mem : (es : List Edge) → Forward (members es) ⊑ members (forwards es)
 unfolding forwards
-forwards-mem [] e m = absurd (List·Memᴰ·not-nil (m .0))
-forwards-mem (x ∷ es) e m = go (List·Memᴰ·cases-cons (m .0)) (λ i. forwards-mem es e (i, m .1))
-  where
-    kept : (b : Bool) → b ≡ false → e ≡ x → List·Memᴰ e (cond b [] (x ∷ []))
-    kept true h q = absurd (true≢false h)
-    kept false h q = List·Memᴰ·head q
-
-    go : (e ≡ x) ⊎ List·Memᴰ e es → (List·Memᴰ e es → List·Memᴰ e (forwards es)) → List·Memᴰ e (cond (x .back) [] (x ∷ []) ++ forwards es)
-    go (inl h) below = Memᴰ·append-left (forwards es) (kept (x .back) (sym (ap (λ (y : Edge). y .back) h) ∙ m .1) h)
-    go (inr i) below = Memᴰ·append-right (cond (x .back) [] (x ∷ [])) (below i)
+forwards-mem es e m = without-mem (λ x. x .back) es (m .0) (m .1)
 
 pub mem-forwards : (es : List Edge) → members (forwards es) ⊑ Forward (members es)
 unfolding forwards
-mem-forwards [] e m = absurd (List·Memᴰ·not-nil m)
-mem-forwards (x ∷ es) e m = go (List·Memᴰ·append-cases (cond (x .back) [] (x ∷ [])) m) (mem-forwards es e)
-  where
-    kept : (b : Bool) → List·Memᴰ e (cond b [] (x ∷ [])) → (b ≡ false) × (e ≡ x)
-    kept true i = absurd (List·Memᴰ·not-nil i)
-    kept false i = (refl, List·Memᴰ·eq-of-singleton i)
-
-    go : List·Memᴰ e (cond (x .back) [] (x ∷ [])) ⊎ List·Memᴰ e (forwards es) → (List·Memᴰ e (forwards es) → List·Memᴰ e es × (e .back ≡ false)) → List·Memᴰ e (x ∷ es) × (e .back ≡ false)
-    go (inl i) below = let r = kept (x .back) i in (List·Memᴰ·head (r .1), ap (λ (y : Edge). y .back) (r .1) ∙ r .0)
-    go (inr i) below = let r = below i in (List·Memᴰ·tail (r .0), r .1)
+mem-forwards es e m = mem-without (λ x. x .back) es m
 
 pub forwards-shape : {n : ℕ} {es : List Edge} → Shape n (members es) → Shape n (members (forwards es))
-forwards-shape {n} {es} shape =
-    record { from-below = λ e m. shape .from-below e (mem-forwards es e m .0); to-below = λ e m. shape .to-below e (mem-forwards es e m .0); back-uncounted = λ e m. shape .back-uncounted e (mem-forwards es e m .0); forward-lossless = λ e m. shape .forward-lossless e (mem-forwards es e m .0); forward-timely = λ e m. shape .forward-timely e (mem-forwards es e m .0); late-not-source = λ e m. shape .late-not-source e (mem-forwards es e m .0) }
+forwards-shape {n} {es} shape = shape-part (λ e m. mem-forwards es e m .0) shape
 
--- Edges without their weights: the same walks, each of weight 0.
+-- Edges without their weights: the same walks, each of weight 0. What holds of each bared edge holds of each edge of the bared list.
 mem-bare : {e : Edge} {es : List Edge} → List·Memᴰ e es → List·Memᴰ (bare e) (bares es)
 unfolding bares
-mem-bare (List·Memᴰ·head h) = List·Memᴰ·head (ap bare h)
-mem-bare (List·Memᴰ·tail m) = List·Memᴰ·tail (mem-bare m)
+mem-bare m = Memᴰ·map bare m
 
-record Bared (es : List Edge) (e : Edge) : Type 0 where
-  edge : Edge
-  mem : List·Memᴰ edge es
-  same : e ≡ bare edge
-
-bare-mem : {e : Edge} (es : List Edge) → List·Memᴰ e (bares es) → Bared es e
+bare-each : (es : List Edge) (P : Edge → Type 0) → ((x : Edge) → members es x → P (bare x)) → (e : Edge) → members (bares es) e → P e
 unfolding bares
-bare-mem [] m = absurd (List·Memᴰ·not-nil m)
-bare-mem {e} (x ∷ es) m = go (List·Memᴰ·cases-cons m) (bare-mem es)
-  where
-    go : (e ≡ bare x) ⊎ List·Memᴰ e (bares es) → (List·Memᴰ e (bares es) → Bared es e) → Bared (x ∷ es) e
-    go (inl h) below = record { edge = x; mem = List·Memᴰ·head refl; same = h }
-    go (inr i) below = let r = below i in record { edge = r .edge; mem = List·Memᴰ·tail (r .mem); same = r .same }
+bare-each es P h e m = let r = Memᴰ·of-map bare es m in subst P (r .2) (h (r .0) (r .1))
 
 bare-walk : {es : List Edge} {x y k p q : ℕ} → Walk (members es) x y k p q → Walk (members (bares es)) x y k 0 0
 bare-walk (stop e hk hp hq) = stop e hk refl refl
 bare-walk (step w e m f o hk hp hq) = step {p′ = 0} {q′ = 0} (bare-walk w) (bare e) (mem-bare m) f o hk (omega arith) (omega arith)
 
 walk-bare : {es : List Edge} {x y k p q : ℕ} → Walk (members (bares es)) x y k p q → Joined (members es) x y × (p ≡ 0)
+unfolding bares
 walk-bare (stop e hk hp hq) = (record { k = 0; p = 0; q = 0; walk = stop e refl refl refl }, hp)
 walk-bare {es} (step w e m f o hk hp hq) =
     let r = walk-bare w in
-    let b = bare-mem es m in
-    (record { k = _; p = _; q = _; walk = step (r .0 .walk) (b .edge) (b .mem) (sym (ap (λ (x : Edge). x .from) (b .same)) ∙ f) (sym (ap (λ (x : Edge). x .to) (b .same)) ∙ o) refl refl refl }, omega (arith, r .1, ap (λ (x : Edge). x .gain) (b .same)))
+    let b = Memᴰ·of-map bare es m in
+    let longer = step (r .0 .walk) (b .0) (b .1) (ap (λ (x : Edge). x .from) (b .2) ∙ f) (ap (λ (x : Edge). x .to) (b .2) ∙ o) refl refl refl in
+    (record { k = _; p = _; q = _; walk = longer }, omega (arith, r .1, ap (λ (x : Edge). x .gain) (b .2)))
 
 bare-shape : {n : ℕ} {es : List Edge} → Shape n (members es) → Shape n (members (bares es))
-bare-shape {n} {es} shape = record { from-below = λ e m. from-at e (bare-mem es m); to-below = λ e m. to-at e (bare-mem es m); back-uncounted = λ e m b. count-at e (bare-mem es m) b; forward-lossless = λ e m b. ap (λ (x : Edge). x .loss) (bare-mem es m .same); forward-timely = λ e m b. late-at e (bare-mem es m) b; late-not-source = λ e m b. source-at e (bare-mem es m) b }
-  where
-    from-at : (e : Edge) → Bared es e → e .from < n
-    from-at e r = omega (arith, shape .from-below (r .edge) (r .mem), ap (λ (x : Edge). x .from) (r .same))
-
-    to-at : (e : Edge) → Bared es e → e .to < n
-    to-at e r = omega (arith, shape .to-below (r .edge) (r .mem), ap (λ (x : Edge). x .to) (r .same))
-
-    count-at : (e : Edge) → Bared es e → e .back ≡ true → e .counted ≡ false
-    count-at e r b = ap (λ (x : Edge). x .counted) (r .same) ∙ shape .back-uncounted (r .edge) (r .mem) (sym (ap (λ (x : Edge). x .back) (r .same)) ∙ b)
-
-    late-at : (e : Edge) → Bared es e → e .back ≡ false → e .late ≡ false
-    late-at e r b = ap (λ (x : Edge). x .late) (r .same) ∙ shape .forward-timely (r .edge) (r .mem) (sym (ap (λ (x : Edge). x .back) (r .same)) ∙ b)
-
-    source-at : (e : Edge) → Bared es e → e .late ≡ true → e .to ≢ 0
-    source-at e r b z = shape .late-not-source (r .edge) (r .mem) (sym (ap (λ (x : Edge). x .late) (r .same)) ∙ b) (sym (ap (λ (x : Edge). x .to) (r .same)) ∙ z)
+bare-shape {n} {es} shape = record {
+  from-below = bare-each es (λ e. e .from < n) (shape .from-below);
+  to-below = bare-each es (λ e. e .to < n) (shape .to-below);
+  back-uncounted = bare-each es (λ e. e .back ≡ true → e .counted ≡ false) (shape .back-uncounted);
+  forward-lossless = bare-each es (λ e. e .back ≡ false → e .loss ≡ 0) (λ x m b. refl);
+  forward-timely = bare-each es (λ e. e .back ≡ false → e .late ≡ false) (shape .forward-timely);
+  late-not-source = bare-each es (λ e. e .late ≡ true → e .to ≢ 0) (shape .late-not-source);
+}
 
 bare-nonpositive : (es : List Edge) → NonPositive (members (bares es))
 bare-nonpositive es = record { closed = λ w. let r = walk-bare w in omega (arith, r .1) }
@@ -109,10 +74,10 @@ bare-nonpositive es = record { closed = λ w. let r = walk-bare w in omega (arit
 abbrev Marks : Graph → ℕ → List ℕ → Type 0
 Marks E x row = (v : ℕ) → 1 ≤ cell row v → Joined E x v
 
-extend-some : (r g l : ℕ) → 1 ≤ extend r g l → 1 ≤ r
+extended-some : (r g l : ℕ) → 1 ≤ extend r g l → 1 ≤ r
 unfolding extend
-extend-some zero g l h = omega arith
-extend-some (suc r) g l h = omega arith
+extended-some zero g l h = omega arith
+extended-some (suc r) g l h = omega arith
 
 joined-edge : {E : Graph} {x : ℕ} (e : Edge) → E e → Joined E x (e .from) → Joined E x (e .to)
 joined-edge e m J = record { k = _; p = _; q = _; walk = step (J .walk) e m refl refl refl refl refl }
@@ -137,7 +102,7 @@ round-marks (y ∷ es) row h i M =
     (relax row y)
     (fits-relax row h)
     (λ e m. i e (List·Memᴰ·tail m))
-    (raise-marks row (y .to) (offer row y) (fits-head row h) (λ s. joined-edge y (i y (List·Memᴰ·head refl)) (M (y .from) (extend-some (cell row (y .from)) (y .gain) (y .loss) s))) M)
+    (raise-marks row (y .to) (offer row y) (fits-head row h) (λ s. joined-edge y (i y (List·Memᴰ·head refl)) (M (y .from) (extended-some (cell row (y .from)) (y .gain) (y .loss) s))) M)
 
 rounds-marks : {x : ℕ} (es : List Edge) (k : ℕ) (row : List ℕ) → Fits es row → Marks (members es) x row → Marks (members es) x (rounds es k row)
 unfolding rounds

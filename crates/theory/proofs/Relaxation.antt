@@ -284,5 +284,9 @@ grounded {n} {E} shape a posed rooted v p q b s = go (member-span shape posed s)
     go (is-source h) =
         let J = rooted h v b in
         record { p = J .p; q = J .q; span = source h (walk-from h (walk-mono (λ e m. m .0) (J .walk))); under = omega (arith, forward-losses shape (J .walk)) }
-    go (chain c) =
-        record { p = c .p; q = c .q; span = after (after-mono (λ e m. m .0) (c .walk)); under = omega (arith, c .walk .losses, forward-losses shape (c .walk .rest), shape .forward-lossless (c .walk .edge) (c .walk .mem .0) (c .walk .mem .1)) }
+    go (chain c) = record {
+      p = c .p;
+      q = c .q;
+      span = after (after-mono (λ e m. m .0) (c .walk));
+      under = omega (arith, c .walk .losses, forward-losses shape (c .walk .rest), shape .forward-lossless (c .walk .edge) (c .walk .mem .0) (c .walk .mem .1));
+    }

@@ -6,11 +6,20 @@ use Prim.Native.Nat.{_+_, _<_, _≤_, suc, ℕ}
 use native.Mathlib.Omega.{arith}
 use Rattle.definitions.specs.Anchors.{InAnchorSet, WellPosed, chain, is-source}
 use Rattle.definitions.specs.Links.{After, AfterWalk, Edge, Forward, Graph, Joined, LateInto, UsableFrom, Walk, _⊑_, step, stop}
-use Rattle.definitions.specs.Waits.{Wait, wait-edge}
+use Rattle.definitions.specs.Waits.{Wait, wait-edge, wait-pair}
 use Rattle.laws.proofs.Bools.{bool-cases, both-ways, cond-true}
 use Rattle.theory.specs.Graphs.{Acyclic, Carries, Consistent, ForwardAcyclic, Gains, KeepsEdge, NonPositive, Rooted, Schedule, Serializable, Shape, Timely, WaitEdge, Waited, Well}
 use Rattle.theory.proofs.Usables.{carries-usable, dec-late-into, forward-usable, timely-usable, usable-member, usable-shape, usable-sub}
-use Rattle.theory.proofs.Walks.{after-bound, after-edge, after-from, after-join, after-joined, after-mono, after-start-below, after-to, after-trans, after-walk, chain-after, counted-forward, forward-losses, join, joined-mono, member-after, member-mono, member-to, schedule-mono, some-after, walk-edge, walk-from, walk-mono, walk-none, walk-to}
+use Rattle.theory.proofs.Walks.{after-bound, after-edge, after-from, after-join, after-joined, after-mono, after-start-below, after-to, after-trans, after-walk, chain-after, counted-forward, forward-losses}
+use Rattle.theory.proofs.Walks.{join, joined-mono, member-after, member-mono, member-to, schedule-mono, some-after, walk-edge, walk-from, walk-mono, walk-none, walk-to}
+
+-- What holds of the edges of E and of the serialization edges holds of those of E′.
+pub waited-each : {E E′ : Graph} → Waited E E′ → (P : Edge → Type 0) → ((e : Edge) → E e → P e) → ((e : Edge) → WaitEdge E e → P e) → (e : Edge) → E′ e → P e
+waited-each {E} W P sent added e m = go (W .only e m)
+  where
+    go : E e ⊎ WaitEdge E e → P e
+    go (inl h) = sent e h
+    go (inr h) = added e h
 
 -- A wait a → i stands for a walk of E from the end of a: to the return, and over it.
 pub wait-after : {E : Graph} {a i : ℕ} → Wait E a i → After (UsableFrom E a) a i
@@ -21,18 +30,18 @@ wait-walk {E} {a} w = some-after (after-mono (usable-sub E a) (wait-after w .wal
 
 module _ {E E′ : Graph} (W : Waited E E′) where
   after-first : (e : Edge) → E′ e → e .counted ≡ true → e .from ≢ 0 → After E (e .from) (e .to)
-  after-first e m c z = go (W .only e m)
-    where
-      go : E e ⊎ WaitEdge E e → After E (e .from) (e .to)
-      go (inl h) = some-after (after-edge e h c z)
-      go (inr h) = wait-walk (h .wait)
+  after-first =
+      waited-each W
+      (λ e. e .counted ≡ true → e .from ≢ 0 → After E (e .from) (e .to))
+      (λ e h c z. some-after (after-edge e h c z))
+      (λ e h c z. wait-walk (h .wait))
 
   joined-edge : (e : Edge) → E′ e → Joined E (e .from) (e .to)
-  joined-edge e m = go (W .only e m)
-    where
-      go : E e ⊎ WaitEdge E e → Joined E (e .from) (e .to)
-      go (inl h) = record { k = _; p = _; q = _; walk = walk-edge e h }
-      go (inr h) = after-joined (wait-walk (h .wait))
+  joined-edge =
+      waited-each W
+      (λ e. Joined E (e .from) (e .to))
+      (λ e h. record { k = _; p = _; q = _; walk = walk-edge e h })
+      (λ e h. after-joined (wait-walk (h .wait)))
 
   pub walk-back : {x y k p q : ℕ} → Walk E′ x y k p q → Joined E x y
   walk-back (stop e hk hp hq) = record { k = 0; p = 0; q = 0; walk = stop e refl refl refl }
@@ -50,8 +59,8 @@ module _ {E E′ : Graph} (W : Waited E E′) where
       some-after
       (after-edge
       {E = Forward E′}
-      (wait-edge (record { anchor = a; target = i }))
-      (W .adds (wait-edge (record { anchor = a; target = i })) (record { counts = refl; forward = refl; gainless = refl; lossless = refl; timely = refl; wait = w }), refl)
+      (wait-edge (wait-pair a i))
+      (W .adds (wait-edge (wait-pair a i)) (record { counts = refl; forward = refl; gainless = refl; lossless = refl; timely = refl; wait = w }), refl)
       refl
       (w .reaches .walk .not-source))
 
@@ -122,47 +131,25 @@ module _ {n : ℕ} {E E′ F : Graph} {d t : ℕ → ℕ} (W : Waited E E′) (a
       (member-to (w .enters) (carries a (w .edge) (above (w .edge) (w .mem .0)) (w .returns) (member-after shape (carries a) (after-mono (λ e m. above e (m .0)) (w .reaches .walk)))))
 
   pub rival-keeps : Schedule E′ d t
-  rival-keeps = record { starts = s .starts; keeps = λ e m. go e (W .only e m) }
+  rival-keeps = record { starts = s .starts; keeps = waited-each W (KeepsEdge d t) (λ e m. s .keeps e (above e m)) waits-kept }
     where
-      go : (e : Edge) → E e ⊎ WaitEdge E e → KeepsEdge d t e
-      go e (inl h) = s .keeps e (above e h)
-      go e (inr h) = omega (arith, rival-waits (h .wait), h .gainless, h .lossless, cond-true (d (e .from)) 0 (h .counts))
+      waits-kept : (e : Edge) → WaitEdge E e → KeepsEdge d t e
+      waits-kept e h = omega (arith, rival-waits (h .wait), h .gainless, h .lossless, cond-true (d (e .from)) 0 (h .counts))
 
 -- What E′ takes over from E.
 module _ {n : ℕ} {E E′ : Graph} (W : Waited E E′) (shape : Shape n E) where
   pub waited-shape : Shape n E′
-  waited-shape = record { from-below = λ e m. from-at e (W .only e m); to-below = λ e m. to-at e (W .only e m); back-uncounted = λ e m. back-at e (W .only e m); forward-lossless = λ e m. loss-at e (W .only e m); forward-timely = λ e m. late-at e (W .only e m); late-not-source = λ e m. source-at e (W .only e m) }
-    where
-      from-at : (e : Edge) → E e ⊎ WaitEdge E e → e .from < n
-      from-at e (inl m) = shape .from-below e m
-      from-at e (inr h) = after-start-below (usable-shape shape (e .from)) (h .wait .reaches)
-
-      to-at : (e : Edge) → E e ⊎ WaitEdge E e → e .to < n
-      to-at e (inl m) = shape .to-below e m
-      to-at e (inr h) = rw (h .wait .enters) at (shape .to-below (h .wait .edge) (h .wait .mem .0))
-
-      back-at : (e : Edge) → E e ⊎ WaitEdge E e → e .back ≡ true → e .counted ≡ false
-      back-at e (inl m) b = shape .back-uncounted e m b
-      back-at e (inr h) b = absurd (both-ways b (h .forward))
-
-      loss-at : (e : Edge) → E e ⊎ WaitEdge E e → e .back ≡ false → e .loss ≡ 0
-      loss-at e (inl m) b = shape .forward-lossless e m b
-      loss-at e (inr h) b = h .lossless
-
-      late-at : (e : Edge) → E e ⊎ WaitEdge E e → e .back ≡ false → e .late ≡ false
-      late-at e (inl m) b = shape .forward-timely e m b
-      late-at e (inr h) b = h .timely
-
-      source-at : (e : Edge) → E e ⊎ WaitEdge E e → e .late ≡ true → e .to ≢ 0
-      source-at e (inl m) b = shape .late-not-source e m b
-      source-at e (inr h) b = absurd (both-ways b (h .timely))
+  waited-shape = record {
+    from-below = waited-each W (λ e. e .from < n) (shape .from-below) (λ e h. after-start-below (usable-shape shape (e .from)) (h .wait .reaches));
+    to-below = waited-each W (λ e. e .to < n) (shape .to-below) (λ e h. rw (h .wait .enters) at (shape .to-below (h .wait .edge) (h .wait .mem .0)));
+    back-uncounted = waited-each W (λ e. e .back ≡ true → e .counted ≡ false) (shape .back-uncounted) (λ e h b. absurd (both-ways b (h .forward)));
+    forward-lossless = waited-each W (λ e. e .back ≡ false → e .loss ≡ 0) (shape .forward-lossless) (λ e h b. h .lossless);
+    forward-timely = waited-each W (λ e. e .back ≡ false → e .late ≡ false) (shape .forward-timely) (λ e h b. h .timely);
+    late-not-source = waited-each W (λ e. e .late ≡ true → e .to ≢ 0) (shape .late-not-source) (λ e h b. absurd (both-ways b (h .timely)));
+  }
 
   pub waited-timely : Timely E → Timely E′
-  waited-timely timely e m = go (W .only e m)
-    where
-      go : E e ⊎ WaitEdge E e → e .late ≡ false
-      go (inl h) = timely e h
-      go (inr h) = h .timely
+  waited-timely timely = waited-each W (λ e. e .late ≡ false) timely (λ e h. h .timely)
 
 -- Forward chains stay.
 pub waited-rooted : {n : ℕ} {E E′ : Graph} → Waited E E′ → Rooted n E → Rooted n E′
@@ -170,11 +157,7 @@ waited-rooted W rooted v b = joined-mono (λ e m. (W .keeps-all e (m .0), m .1))
 
 -- Serialization edges gain nothing.
 pub waited-gains : {E E′ : Graph} {g : ℕ} → Waited E E′ → Gains E g → Gains E′ g
-waited-gains {E} {g = g} W G e m = go (W .only e m)
-  where
-    go : E e ⊎ WaitEdge E e → e .gain ≤ g
-    go (inl h) = G e h
-    go (inr h) = omega (arith, h .gainless)
+waited-gains {g = g} W G = waited-each W (λ e. e .gain ≤ g) G (λ e h. omega (arith, h .gainless))
 
 -- In a well-posed graph what the end of b reaches, b stands before. So, where forward edges close no circle, no step waits for its own end.
 module _ {n : ℕ} {E : Graph} (shape : Shape n E) (posed : WellPosed E) where

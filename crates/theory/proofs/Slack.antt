@@ -5,7 +5,7 @@ use mathlib.Core.Logic.{_≢_}
 use Prim.Native.Nat.{_+_, _≤_, ℕ}
 use native.Mathlib.Omega.{arith}
 use Rattle.definitions.specs.Links.{AfterWalk, Graph, UsableFrom, Walk, step, stop}
-use Rattle.laws.proofs.Bools.{cond-false, cond-true}
+use Rattle.laws.proofs.Bools.{cond-either, cond-false, cond-true}
 use Rattle.theory.specs.Graphs.{NonPositive, Schedule, Shape}
 use Rattle.theory.proofs.Walks.{counted-forward}
 
@@ -45,11 +45,7 @@ slack-same {d = d} {d′ = d′} h (step w e m f o hk hp hq) =
 pub slack-zero : {E : Graph} {x y k p q : ℕ} (w : Walk E x y k p q) → slack (λ v. 0) w ≡ 0
 unfolding slack
 slack-zero (stop e hk hp hq) = refl
-slack-zero (step w e m f o hk hp hq) = omega (arith, slack-zero w, none (e .late))
-  where
-    none : (b : Bool) → cond {A = ℕ} b 0 0 ≡ 0
-    none true = refl
-    none false = refl
+slack-zero (step w e m f o hk hp hq) = omega (arith, slack-zero w, cond-either {A = ℕ} (e .late) 0)
 
 -- A graph with a schedule for delays of 0 has no closed walk above 0: around it the start times come back to where they were.
 pub schedule-nonpositive : {E : Graph} {t : ℕ → ℕ} → Schedule E (λ v. 0) t → NonPositive E

@@ -14,14 +14,15 @@ use Rattle.definitions.specs.Links.{After, Edge, Forward, Graph, UsableFrom, me
 use Rattle.definitions.specs.Plan.{Offset, Span, after, offset, source, start-from, start-times, start-turns}
 use Rattle.definitions.specs.Rounds.{cell}
 use Rattle.laws.proofs.Bools.{same-or-not}
+use Rattle.laws.proofs.Lists.{zeros-at}
 use Rattle.laws.proofs.Tests.{largest-above, largest-attained, largest-same, tabulate-at, tabulate-length, tabulate-past, tabulate-same}
 use Rattle.theory.specs.Graphs.{Acyclic, Attained, Relative, Shape, Well}
 use Rattle.theory.proofs.AnchorOrder.{Behind, behind-more, behind-new}
-use Rattle.theory.proofs.FirstRows.{zeros-at, zeros-length}
+use Rattle.theory.proofs.FirstRows.{zeros-length}
 use Rattle.theory.proofs.Offsets.{offset-found}
 use Rattle.theory.proofs.Pigeonhole.{free, free-none, free-take}
 use Rattle.theory.proofs.Reachability.{in-anchor-set-iff}
-use Rattle.theory.proofs.Usables.{consistent-acyclic, usable-sub}
+use Rattle.theory.proofs.Usables.{well-acyclic, usable-sub}
 use Rattle.theory.proofs.Walks.{after-start-below, after-trans, chain-after, member-below, source-first, walk-mono}
 
 -- A start time for each step.
@@ -59,6 +60,13 @@ start-turns-same n es d d′ h (suc k) =
 pub start-times-same : (n : ℕ) (es : List Edge) (d d′ : ℕ → ℕ) → ((a : ℕ) → a < n → d a ≡ d′ a) → start-times n es d ≡ start-times n es d′
 unfolding start-times
 start-times-same n es d d′ h = start-turns-same n es d d′ h n
+
+-- The start of v under the delays d, and the term of the anchor a in it.
+abbrev pub start-time : ℕ → List Edge → (ℕ → ℕ) → ℕ → ℕ
+start-time n es d = cell (start-times n es d)
+
+abbrev pub start-term : ℕ → List Edge → (ℕ → ℕ) → ℕ → ℕ → ℕ
+start-term n es d v a = start-time n es d a + d a + offset n es a v
 
 -- What each turn does.
 module _ {n : ℕ} {es : List Edge} (shape : Shape n (members es)) (d : ℕ → ℕ) where
@@ -150,9 +158,6 @@ module _ {n : ℕ} {es : List Edge} (well : Well n (members es)) (posed : WellPo
   abbrev value : ℕ → ℕ → ℕ
   value v a = S a + d a + offset n es a v
 
-  forward-acyclic : Acyclic (Forward (members es))
-  forward-acyclic = consistent-acyclic (well .shape) (well .consistent)
-
   -- The source's offset for itself is 0: a closed walk is not above 0.
   source-offset : offset n es 0 0 ≡ 0
   source-offset = let O = offset-found well posed 0 0 (well .some) (is-source refl) in go O (O .span)
@@ -162,7 +167,7 @@ module _ {n : ℕ} {es : List Edge} (well : Well n (members es)) (posed : WellPo
       go O (after w) = absurd (w .not-source refl)
 
   rule : (v : ℕ) → v < n → v ≢ 0 → S v ≡ largest (λ a. in-anchor-set n es a v) (value v) n
-  rule = start-times-rule (well .shape) d forward-acyclic
+  rule = start-times-rule (well .shape) d (well-acyclic well)
 
   at-source : S 0 ≡ 0
   at-source = start-times-source (well .shape) d
@@ -171,7 +176,7 @@ module _ {n : ℕ} {es : List Edge} (well : Well n (members es)) (posed : WellPo
   above-by a v b (is-source h) (inl e) =
       omega (arith, ap S h, ap S e, at-source, ap d h, no-wait, ap (λ (x : ℕ). offset n es x v) h, ap (λ (x : ℕ). offset n es 0 x) e, source-offset)
   above-by a v b (chain w) (inl e) =
-      absurd (source-first (well .rooted) forward-acyclic (after-start-below (well .shape) (chain-after w)) (subst (λ (x : ℕ). After (Forward (members es)) a x) e w))
+      absurd (source-first (well .rooted) (well-acyclic well) (after-start-below (well .shape) (chain-after w)) (subst (λ (x : ℕ). After (Forward (members es)) a x) e w))
   above-by a v b i (inr z) =
       omega (arith, rule v b z, largest-above (λ x. in-anchor-set n es x v) (value v) n a (member-below (well .shape) b i) (in-anchor-set-iff (well .shape) a v .1 i))
 
@@ -181,8 +186,11 @@ module _ {n : ℕ} {es : List Edge} (well : Well n (members es)) (posed : WellPo
   attained-by v b (inr z) = go (largest-attained (λ x. in-anchor-set n es x v) (value v) n)
     where
       go : (largest (λ x. in-anchor-set n es x v) (value v) n ≡ 0) ⊎ ((a : ℕ) × (a < n) × (in-anchor-set n es a v ≡ true) × (largest (λ x. in-anchor-set n es x v) (value v) n ≡ value v a)) → Attained (members es) d S (offset n es) v
-      go (inl e) =
-          record { anchor = 0; inside = is-source refl; equals = omega (arith, rule v b z, largest-above (λ x. in-anchor-set n es x v) (value v) n 0 (well .some) (in-anchor-set-iff (well .shape) 0 v .1 (is-source refl))) }
+      go (inl e) = record {
+        anchor = 0;
+        inside = is-source refl;
+        equals = omega (arith, rule v b z, largest-above (λ x. in-anchor-set n es x v) (value v) n 0 (well .some) (in-anchor-set-iff (well .shape) 0 v .1 (is-source refl)));
+      }
       go (inr r) = record { anchor = r .0; inside = in-anchor-set-iff (well .shape) (r .0) v .0 (r .2); equals = omega (arith, rule v b z, r .3) }
 
   pub start-times-relative : Relative n (members es) d (cell (start-times n es d)) (offset n es)

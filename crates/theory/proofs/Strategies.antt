@@ -16,7 +16,7 @@ use Rattle.theory.specs.Graphs.{Acyclic, ForwardAcyclic, KeepsEdge, NonP
 use Rattle.theory.specs.Strategies.{Assigned, Ended, Strategy, Unbounded}
 use Rattle.theory.proofs.AnchorOrder.{anchor-induct}
 use Rattle.theory.proofs.RelativeSchedules.{relative-keeps}
-use Rattle.theory.proofs.Serialization.{member-bound, wait-after, waited-forward-acyclic, waited-shape}
+use Rattle.theory.proofs.Serialization.{member-bound, wait-after, waited-each, waited-forward-acyclic, waited-shape}
 use Rattle.theory.proofs.Slack.{after-slack, schedule-nonpositive, slack, slack-same}
 use Rattle.theory.proofs.SoleDelays.{sole-delay-other, sole-delay-own}
 use Rattle.theory.proofs.Usables.{carries-usable, member-usable, usable-member, usable-shape, usable-sub}
@@ -46,15 +46,11 @@ after-open {Open = Open} unbounded w =
     subst Open (W .leaves) (unbounded .counted-open (W .edge) (W .mem .0) (W .counts) (λ z. W .not-source (sym (W .leaves) ∙ z)))
 
 pub unbounded-waited : {Open : ℕ → Type 0} {E E′ : Graph} → Unbounded Open E → Waited E E′ → Unbounded Open E′
-unbounded-waited {Open} {E} unbounded W = record { not-source = unbounded .not-source; counted-open = λ e m c z. open-at e (W .only e m) c z; late-open = λ e m l. late-at e (W .only e m) l }
-  where
-    open-at : (e : Edge) → E e ⊎ WaitEdge E e → e .counted ≡ true → e .from ≢ 0 → Open (e .from)
-    open-at e (inl h) c z = unbounded .counted-open e h c z
-    open-at e (inr h) c z = after-open unbounded (wait-after (h .wait))
-
-    late-at : (e : Edge) → E e ⊎ WaitEdge E e → e .late ≡ true → Open (e .to)
-    late-at e (inl h) l = unbounded .late-open e h l
-    late-at e (inr h) l = absurd (both-ways l (h .timely))
+unbounded-waited {Open} unbounded W = record {
+  not-source = unbounded .not-source;
+  counted-open = waited-each W (λ e. e .counted ≡ true → e .from ≢ 0 → Open (e .from)) (unbounded .counted-open) (λ e h c z. after-open unbounded (wait-after (h .wait)));
+  late-open = waited-each W (λ e. e .late ≡ true → Open (e .to)) (unbounded .late-open) (λ e h l. absurd (both-ways l (h .timely)));
+}
 
 module _ {n : ℕ} {Open : ℕ → Type 0} {E : Graph} {ρ : (ℕ → ℕ) → ℕ → ℕ} (shape : Shape n E) (unbounded : Unbounded Open E) (R : Strategy n Open E ρ) where
   -- Were a to last M, it would not have ended at v's start, if it had not before; nothing that has ended tells the two apart, so v would start at the same tick. But M is more than the walk allows.
@@ -133,8 +129,12 @@ module _ {n : ℕ} {Open : ℕ → Type 0} {E : Graph} {ρ : (ℕ → ℕ) → �
     strategy-serializable none =
         record { acyclic = waited-forward-acyclic W none strategy-acyclic; never = schedule-nonpositive (strategy-keeps-waits (λ v. 0) (λ v h. refl)) }
 
+-- S is the relative schedule under all delays.
+abbrev pub RelativeAll : ℕ → Graph → ((ℕ → ℕ) → ℕ → ℕ) → (ℕ → ℕ → ℕ) → Type 0
+RelativeAll n E S off = (d : ℕ → ℕ) → d 0 ≡ 0 → Relative n E d (S d) off
+
 -- Start times turn on the delays of the steps before v alone: longer delays there start v no earlier.
-module _ {n : ℕ} {E : Graph} {S : (ℕ → ℕ) → ℕ → ℕ} {off : ℕ → ℕ → ℕ} (shape : Shape n E) (acyclic : Acyclic (Forward E)) (rel : (d : ℕ → ℕ) → d 0 ≡ 0 → Relative n E d (S d) off) where
+module _ {n : ℕ} {E : Graph} {S : (ℕ → ℕ) → ℕ → ℕ} {off : ℕ → ℕ → ℕ} (shape : Shape n E) (acyclic : Acyclic (Forward E)) (rel : RelativeAll n E S off) where
   module _ (d d′ : ℕ → ℕ) (z : d 0 ≡ 0) (z′ : d′ 0 ≡ 0) where
     no-later : (v : ℕ) → v < n → ((a : ℕ) → a < n → After (Forward E) a v → S d a ≤ S d′ a) → ((a : ℕ) → After (Forward E) a v → d a ≤ d′ a) → S d v ≤ S d′ v
     no-later v b ih h = let A = rel d z .attained v b in go (A .anchor) (A .inside) (A .equals)
@@ -239,7 +239,11 @@ module _ {n : ℕ} {E : Graph} {S : (ℕ → ℕ) → ℕ → ℕ} {off : ℕ �
               before a (is-source h) d′ L′ = omega (arith, ap (S d′) h, rel d′ (zero-at L′) .starts)
               before a (chain w) d′ L′ = ih a (after-start-below shape (chain-after w)) w d′ L′
 
+-- S starts nothing after ρ, whatever the delays.
+abbrev pub Earliest : ℕ → (ℕ → Type 0) → ((ℕ → ℕ) → ℕ → ℕ) → ((ℕ → ℕ) → ℕ → ℕ) → Type 0
+Earliest n Open S ρ = (v : ℕ) → v < n → (d : ℕ → ℕ) → Assigned Open d → S d v ≤ ρ d v
+
 -- All together: a rival on the graph as sent, our starts on the graph with its waits.
-pub strategy-earliest : {n : ℕ} {Open : ℕ → Type 0} {E E′ : Graph} {S ρ : (ℕ → ℕ) → ℕ → ℕ} {off : ℕ → ℕ → ℕ} → Shape n E → Unbounded Open E → Waited E E′ → Acyclic (Forward E′) → WellPosed E′ → ((d : ℕ → ℕ) → d 0 ≡ 0 → Relative n E′ d (S d) off) → Strategy n Open E ρ → (v : ℕ) → v < n → (d : ℕ → ℕ) → Assigned Open d → S d v ≤ ρ d v
+pub strategy-earliest : {n : ℕ} {Open : ℕ → Type 0} {E E′ : Graph} {S ρ : (ℕ → ℕ) → ℕ → ℕ} {off : ℕ → ℕ → ℕ} → Shape n E → Unbounded Open E → Waited E E′ → Acyclic (Forward E′) → WellPosed E′ → RelativeAll n E′ S off → Strategy n Open E ρ → Earliest n Open S ρ
 strategy-earliest shape unbounded W acyclic posed rel R =
     earliest-by (waited-shape W shape) acyclic rel (unbounded-waited unbounded W) posed (strategy-keeps-waits shape unbounded R W) (strategy-patient shape unbounded R)

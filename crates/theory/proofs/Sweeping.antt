@@ -3,6 +3,7 @@ use mathlib.Core.Path.{_∙_, _≡_, ap, refl, sym}
 use mathlib.Core.List.{List}
 use Prim.Native.Nat.{_+_, _<_, _≤_, suc, zero, ℕ}
 use native.Mathlib.Omega.{arith}
+use Rattle.definitions.specs.Limits.{most-steps, most-gain, most-offset}
 use Rattle.definitions.specs.Anchors.{WellPosed, is-source}
 use Rattle.definitions.specs.Links.{Edge, Graph, LateInto, Walk, members, step, stop, usable}
 use Rattle.definitions.specs.Plan.{Span, after, first-row, offset, offset-row, source}
@@ -111,11 +112,11 @@ module _ {n : ℕ} {es : List Edge} (well : Well n (members es)) (posed : WellPo
   offsets-swept = row-swept (well .some) (usable-list-shape (well .shape) a) (usable-nonpositive (well .never) a) inside (λ h. usable-rooted (well .shape) (well .rooted) a) (carries-list (well .shape) posed a)
 
   -- The cells are small.
-  pub offsets-small : Gains (members es) 65535 → n ≤ 64 → (v : ℕ) → v < n → cell (offset-row n es a) v ≤ 4128706
+  pub offsets-small : Gains (members es) most-gain → n ≤ most-steps → (v : ℕ) → v < n → cell (offset-row n es a) v ≤ most-offset + 1
   unfolding offset
   offsets-small gains few v b = go (cell (offset-row n es a) v) refl
     where
-      go : (c : ℕ) → cell (offset-row n es a) v ≡ c → cell (offset-row n es a) v ≤ 4128706
+      go : (c : ℕ) → cell (offset-row n es a) v ≡ c → cell (offset-row n es a) v ≤ most-offset + 1
       go zero e = omega arith
       go (suc o) e = omega (arith, offset-limit well posed gains few a v b (offset-row-iff well posed a v b .0 (omega arith)))
 

@@ -1,15 +1,16 @@
 -- The edges that a walk counted from the end of a may use: all but the late returns into a. They are a graph of their own for each anchor, with the same chains and the same anchor sets.
-use mathlib.Core.Path.{_∙_, _≡_, ap, ap₂, refl, sym}
-use mathlib.Core.Bool.{Bool, cond, false, true, true≢false}
+use mathlib.Core.Path.{_≡_}
+use mathlib.Core.Bool.{false, true}
 use mathlib.Core.Logic.{_↔_, _⊎_, inl, inr}
-use mathlib.Core.List.{List, List·Memᴰ, List·Memᴰ·append-cases, List·Memᴰ·cases-cons, List·Memᴰ·eq-of-singleton, List·Memᴰ·head, List·Memᴰ·not-nil, List·Memᴰ·tail, Memᴰ·append-left, Memᴰ·append-right, [], _++_, _∷_}
+use mathlib.Core.List.{List}
 use Prim.Native.Nat.{ℕ}
 use lib.Dec.{eqb}
 use borrow.Author.Tests.{eq-eqb, eqb-true}
 use Rattle.definitions.specs.Anchors.{InAnchorSet, WellPosed, chain, is-source}
 use Rattle.definitions.specs.Links.{After, Edge, Forward, Graph, LateInto, UsableFrom, _⊑_, late-into, members, usable}
 use Rattle.laws.proofs.Bools.{and-join, and-split, both-ways, not-passing, test-decides}
-use Rattle.theory.specs.Graphs.{Acyclic, Carries, Consistent, NonPositive, Shape, Timely}
+use Rattle.laws.proofs.Lists.{mem-without, without-mem, without-none}
+use Rattle.theory.specs.Graphs.{Acyclic, Carries, Consistent, NonPositive, Shape, Timely, Well}
 use Rattle.theory.proofs.Walks.{after-mono, member-mono, some-after, walk-mono}
 
 -- The test of a late return is the relation.
@@ -26,30 +27,22 @@ usable-sub E a e m = m .0
 -- The edges of the list that walks from the end of a may use are those of its graph.
 pub usable-members : (es : List Edge) (a : ℕ) → UsableFrom (members es) a ⊑ members (usable es a)
 unfolding usable
-usable-members [] a e m = absurd (List·Memᴰ·not-nil (m .0))
-usable-members (x ∷ es) a e m = go (List·Memᴰ·cases-cons (m .0)) (λ i. usable-members es a e (i, m .1))
-  where
-    kept : (b : Bool) → b ≡ false → e ≡ x → List·Memᴰ e (cond b [] (x ∷ []))
-    kept true h q = absurd (true≢false h)
-    kept false h q = List·Memᴰ·head q
-
-    go : (e ≡ x) ⊎ List·Memᴰ e es → (List·Memᴰ e es → List·Memᴰ e (usable es a)) → List·Memᴰ e (cond (late-into a x) [] (x ∷ []) ++ usable es a)
-    go (inl h) below =
-        Memᴰ·append-left (usable es a) (kept (late-into a x) (ap (late-into a) (sym h) ∙ not-passing (late-into a e) (λ t. m .1 (late-into-iff e a .0 t))) h)
-    go (inr i) below = Memᴰ·append-right (cond (late-into a x) [] (x ∷ [])) (below i)
+usable-members es a e m = without-mem (late-into a) es (m .0) (not-passing (late-into a e) (λ t. m .1 (late-into-iff e a .0 t)))
 
 pub members-usable : (es : List Edge) (a : ℕ) → members (usable es a) ⊑ UsableFrom (members es) a
 unfolding usable
-members-usable [] a e m = absurd (List·Memᴰ·not-nil m)
-members-usable (x ∷ es) a e m = go (List·Memᴰ·append-cases (cond (late-into a x) [] (x ∷ [])) m) (members-usable es a e)
-  where
-    kept : (b : Bool) → List·Memᴰ e (cond b [] (x ∷ [])) → (b ≡ false) × (e ≡ x)
-    kept true i = absurd (List·Memᴰ·not-nil i)
-    kept false i = (refl, List·Memᴰ·eq-of-singleton i)
+members-usable es a e m = let r = mem-without (late-into a) es m in (r .0, λ l. both-ways (late-into-iff e a .1 l) (r .1))
 
-    go : List·Memᴰ e (cond (late-into a x) [] (x ∷ [])) ⊎ List·Memᴰ e (usable es a) → (List·Memᴰ e (usable es a) → UsableFrom (members es) a e) → UsableFrom (members (x ∷ es)) a e
-    go (inl i) below = let r = kept (late-into a x) i in (List·Memᴰ·head (r .1), λ l. both-ways (late-into-iff e a .1 l) (ap (late-into a) (r .1) ∙ r .0))
-    go (inr i) below = let r = below i in (List·Memᴰ·tail (r .0), r .1)
+-- A part of a graph has its shape.
+pub shape-part : {n : ℕ} {E F : Graph} → E ⊑ F → Shape n F → Shape n E
+shape-part i shape = record {
+  from-below = λ e m. shape .from-below e (i e m);
+  to-below = λ e m. shape .to-below e (i e m);
+  back-uncounted = λ e m. shape .back-uncounted e (i e m);
+  forward-lossless = λ e m. shape .forward-lossless e (i e m);
+  forward-timely = λ e m. shape .forward-timely e (i e m);
+  late-not-source = λ e m. shape .late-not-source e (i e m);
+}
 
 module _ {n : ℕ} {E : Graph} (shape : Shape n E) where
   -- Forward edges are never late, and so are usable from everywhere.
@@ -60,8 +53,7 @@ module _ {n : ℕ} {E : Graph} (shape : Shape n E) where
   forwards-usable a e m = ((m .0, forward-usable a e (m .0) (m .1)), m .1)
 
   pub usable-shape : (a : ℕ) → Shape n (UsableFrom E a)
-  usable-shape a =
-      record { from-below = λ e m. shape .from-below e (m .0); to-below = λ e m. shape .to-below e (m .0); back-uncounted = λ e m. shape .back-uncounted e (m .0); forward-lossless = λ e m. shape .forward-lossless e (m .0); forward-timely = λ e m. shape .forward-timely e (m .0); late-not-source = λ e m. shape .late-not-source e (m .0) }
+  usable-shape a = shape-part (usable-sub E a) shape
 
   -- So anchor sets are the same over them.
   pub member-usable : {a v : ℕ} (b : ℕ) → InAnchorSet E a v → InAnchorSet (UsableFrom E b) a v
@@ -86,10 +78,12 @@ module _ {n : ℕ} {E : Graph} (shape : Shape n E) where
   pub consistent-acyclic : Consistent E → Acyclic (Forward E)
   consistent-acyclic consistent a w = consistent a (chain-usable w)
 
+pub well-acyclic : {n : ℕ} {E : Graph} → Well n E → Acyclic (Forward E)
+well-acyclic well = consistent-acyclic (well .shape) (well .consistent)
+
 -- The same of the list.
 pub usable-list-shape : {n : ℕ} {es : List Edge} → Shape n (members es) → (a : ℕ) → Shape n (members (usable es a))
-usable-list-shape {n} {es} shape a =
-    record { from-below = λ e m. shape .from-below e (members-usable es a e m .0); to-below = λ e m. shape .to-below e (members-usable es a e m .0); back-uncounted = λ e m. shape .back-uncounted e (members-usable es a e m .0); forward-lossless = λ e m. shape .forward-lossless e (members-usable es a e m .0); forward-timely = λ e m. shape .forward-timely e (members-usable es a e m .0); late-not-source = λ e m. shape .late-not-source e (members-usable es a e m .0) }
+usable-list-shape {n} {es} shape a = shape-part (λ e m. members-usable es a e m .0) shape
 
 pub carries-list : {n : ℕ} {es : List Edge} → Shape n (members es) → WellPosed (members es) → (a : ℕ) → Carries (members (usable es a)) a
 carries-list {n} {es} shape posed a e m b i =
@@ -104,5 +98,4 @@ timely-usable timely a e m = (m, λ i. both-ways (i .0) (timely e m))
 
 pub usable-timely : (es : List Edge) (a : ℕ) → Timely (members es) → usable es a ≡ es
 unfolding usable
-usable-timely [] a timely = refl
-usable-timely (e ∷ es) a timely = ap₂ (λ (b : Bool) (l : List Edge). cond b [] (e ∷ []) ++ l) (not-passing (late-into a e) (λ t. both-ways (late-into-iff e a .0 t .0) (timely e (List·Memᴰ·head refl)))) (usable-timely es a (λ x m. timely x (List·Memᴰ·tail m)))
+usable-timely es a timely = without-none (late-into a) es (λ e m. not-passing (late-into a e) (λ t. both-ways (late-into-iff e a .0 t .0) (timely e m)))

@@ -9,11 +9,12 @@ use native.Mathlib.Decide.{decLt}
 use lib.Dec.{eqb, ltb}
 use lib.ListN.{getD, length}
 use borrow.Author.Tests.{eq-eqb, eqb-true, le-ltb, lt-ltb, ltb-false, not-true}
+use Rattle.definitions.specs.Limits.{most-steps}
 use Rattle.definitions.specs.Anchors.{InAnchorSet, WellPosed, chain, in-anchor-set, is-source}
 use Rattle.definitions.specs.Basics.{any, select-below, tabulate, test-bit}
 use Rattle.definitions.specs.Links.{After, Edge, Forward, LateInto, UsableFrom, members, usable}
 use Rattle.definitions.specs.Rounds.{after-reaches}
-use Rattle.definitions.specs.Waits.{Wait, WaitPair, needs-waits, serialized, wait-count, wait-edge, wait-list, wait-map, wait-maps, waits-for, waits-of}
+use Rattle.definitions.specs.Waits.{Wait, WaitPair, needs-waits, serialized, wait-count, wait-edge, wait-list, wait-map, wait-maps, waits-for, waits-of, wait-pair}
 use Rattle.laws.proofs.Bools.{and-join, and-split, both-ways, not-passing}
 use Rattle.laws.proofs.Maps.{test-bits-below, test-zero, bits-below-lt}
 use Rattle.laws.proofs.Tests.{any-by, any-has, flatMap-has, flatMap-only, mem-tabulate, select-below-has, select-below-only, tabulate-at, tabulate-mem, tabulate-past}
@@ -63,20 +64,20 @@ module _ {n : ℕ} {es : List Edge} (shape : Shape n (members es)) where
   wait-target-below w = rw (w .enters) at (shape .to-below (w .edge) (w .mem .0))
 
 -- The list holds each pair below n that passes, and only those.
-pub wait-list-has : (n : ℕ) (es : List Edge) {a i : ℕ} → a < n → i < n → waits-for n es a i ≡ true → List·Memᴰ (record { anchor = a; target = i }) (wait-list n es)
+pub wait-list-has : (n : ℕ) (es : List Edge) {a i : ℕ} → a < n → i < n → waits-for n es a i ≡ true → List·Memᴰ (wait-pair a i) (wait-list n es)
 unfolding wait-list waits-of
 wait-list-has n es {a} {i} b c h =
     flatMap-has
     (waits-of n es)
     (tabulate (λ x. x) n)
     (tabulate-mem (λ x. x) n b)
-    (Memᴰ·map (λ (x : ℕ). record { anchor = a; target = x }) (select-below-has (waits-for n es a) n c h))
+    (Memᴰ·map (wait-pair a) (select-below-has (waits-for n es a) n c h))
 
 pub wait-list-only : (n : ℕ) (es : List Edge) {w : WaitPair} → List·Memᴰ w (wait-list n es) → (w .anchor < n) × (w .target < n) × (waits-for n es (w .anchor) (w .target) ≡ true)
 unfolding wait-list waits-of
 wait-list-only n es {w} m = from-anchor (flatMap-only (waits-of n es) (tabulate (λ x. x) n) m)
   where
-    from-pair : (a : ℕ) → a < n → (i : ℕ) × List·Memᴰ i (select-below (waits-for n es a) n) × (record { anchor = a; target = i } ≡ w) → (w .anchor < n) × (w .target < n) × (waits-for n es (w .anchor) (w .target) ≡ true)
+    from-pair : (a : ℕ) → a < n → (i : ℕ) × List·Memᴰ i (select-below (waits-for n es a) n) × (wait-pair a i ≡ w) → (w .anchor < n) × (w .target < n) × (waits-for n es (w .anchor) (w .target) ≡ true)
     from-pair a b r =
         let s = select-below-only (waits-for n es a) n (r .1) in
         subst (λ (x : WaitPair). (x .anchor < n) × (x .target < n) × (waits-for n es (x .anchor) (x .target) ≡ true)) (r .2) (b, s .0, s .1)
@@ -84,10 +85,10 @@ wait-list-only n es {w} m = from-anchor (flatMap-only (waits-of n es) (tabulate 
     from-anchor : (a : ℕ) × List·Memᴰ a (tabulate (λ x. x) n) × List·Memᴰ w (waits-of n es a) → (w .anchor < n) × (w .target < n) × (waits-for n es (w .anchor) (w .target) ≡ true)
     from-anchor r =
         let s = mem-tabulate (λ x. x) n (r .1) in
-        from-pair (r .0) (omega (arith, s .1, s .2)) (Memᴰ·of-map (λ (x : ℕ). record { anchor = r .0; target = x }) (select-below (waits-for n es (r .0)) n) (r .2))
+        from-pair (r .0) (omega (arith, s .1, s .2)) (Memᴰ·of-map (wait-pair (r .0)) (select-below (waits-for n es (r .0)) n) (r .2))
 
 module _ {n : ℕ} {es : List Edge} (shape : Shape n (members es)) where
-  pub wait-listed : {a i : ℕ} → Wait (members es) a i → List·Memᴰ (record { anchor = a; target = i }) (wait-list n es)
+  pub wait-listed : {a i : ℕ} → Wait (members es) a i → List·Memᴰ (wait-pair a i) (wait-list n es)
   wait-listed {a} {i} w = wait-list-has n es (wait-anchor-below shape w) (wait-target-below shape w) (waits-for-iff shape a i .1 w)
 
   pub listed-wait : {w : WaitPair} → List·Memᴰ w (wait-list n es) → Wait (members es) (w .anchor) (w .target)
@@ -98,7 +99,7 @@ module _ {n : ℕ} {es : List Edge} (shape : Shape n (members es)) where
   unfolding serialized
   serialized-waited = record { keeps-all = λ e m. Memᴰ·append-left (map wait-edge (wait-list n es)) m; adds = adds; only = λ e m. only e (List·Memᴰ·append-cases es m) }
     where
-      is-wait-edge : (e : Edge) → WaitEdge (members es) e → e ≡ wait-edge (record { anchor = e .from; target = e .to })
+      is-wait-edge : (e : Edge) → WaitEdge (members es) e → e ≡ wait-edge (wait-pair (e .from) (e .to))
       is-wait-edge e h = λ i. record { from = e .from; to = e .to; gain = h .gainless i; loss = h .lossless i; counted = h .counts i; back = h .forward i; late = h .timely i }
 
       adds : (e : Edge) → WaitEdge (members es) e → List·Memᴰ e (es ++ map wait-edge (wait-list n es))
@@ -174,18 +175,18 @@ pub wait-map-small : (n : ℕ) (es : List Edge) (i : ℕ) → wait-map n es i < 
 unfolding wait-map
 wait-map-small n es i = bits-below-lt (λ a. ltb i n && waits-for n es a i) n
 
-pub wait-maps-at : (n : ℕ) (es : List Edge) (i : ℕ) → i < 64 → getD (wait-maps n es) i 0 ≡ wait-map n es i
+pub wait-maps-at : (n : ℕ) (es : List Edge) (i : ℕ) → i < most-steps → getD (wait-maps n es) i 0 ≡ wait-map n es i
 unfolding wait-maps
-wait-maps-at n es i b = tabulate-at (wait-map n es) 64 i 0 b
+wait-maps-at n es i b = tabulate-at (wait-map n es) most-steps i 0 b
 
-pub wait-maps-past : (n : ℕ) (es : List Edge) (i : ℕ) → 64 ≤ i → getD (wait-maps n es) i 0 ≡ 0
+pub wait-maps-past : (n : ℕ) (es : List Edge) (i : ℕ) → most-steps ≤ i → getD (wait-maps n es) i 0 ≡ 0
 unfolding wait-maps
-wait-maps-past n es i h = tabulate-past (wait-map n es) 64 i 0 h
+wait-maps-past n es i h = tabulate-past (wait-map n es) most-steps i 0 h
 
-pub wait-maps-iff : {n : ℕ} {es : List Edge} → n ≤ 64 → Shape n (members es) → (i a : ℕ) → (test-bit (getD (wait-maps n es) i 0) a ≡ true) ↔ Wait (members es) a i
-wait-maps-iff {n} {es} few shape i a = go (decLt i 64)
+pub wait-maps-iff : {n : ℕ} {es : List Edge} → n ≤ most-steps → Shape n (members es) → (i a : ℕ) → (test-bit (getD (wait-maps n es) i 0) a ≡ true) ↔ Wait (members es) a i
+wait-maps-iff {n} {es} few shape i a = go (decLt i most-steps)
   where
-    go : Dec (i < 64) → (test-bit (getD (wait-maps n es) i 0) a ≡ true) ↔ Wait (members es) a i
+    go : Dec (i < most-steps) → (test-bit (getD (wait-maps n es) i 0) a ≡ true) ↔ Wait (members es) a i
     go (yes b) =
         let r = wait-map-iff shape i a in
         (λ h. r .0 (ap (λ (m : ℕ). test-bit m a) (sym (wait-maps-at n es i b)) ∙ h), λ w. ap (λ (m : ℕ). test-bit m a) (wait-maps-at n es i b) ∙ r .1 w)

@@ -37,8 +37,19 @@ join {k = k} {p = p} {q = q} {k′ = k′} {p′ = p′} {q′ = q′} w (step v
 
 -- The same for walks that begin with a counted edge out of a.
 pub after-join : {E : Graph} {a y z p q k′ p′ q′ : ℕ} → AfterWalk E a y p q → Walk E y z k′ p′ q′ → AfterWalk E a z (p + p′) (q + q′)
-after-join {k′ = k′} {p′ = p′} {q′ = q′} w v =
-    record { not-source = w .not-source; edge = w .edge; mem = w .mem; leaves = w .leaves; counts = w .counts; k = w .k + k′; g = w .g + p′; l = w .l + q′; rest = join (w .rest) v; gains = omega (arith, w .gains); losses = omega (arith, w .losses) }
+after-join {k′ = k′} {p′ = p′} {q′ = q′} w v = record {
+  not-source = w .not-source;
+  edge = w .edge;
+  mem = w .mem;
+  leaves = w .leaves;
+  counts = w .counts;
+  k = w .k + k′;
+  g = w .g + p′;
+  l = w .l + q′;
+  rest = join (w .rest) v;
+  gains = omega (arith, w .gains);
+  losses = omega (arith, w .losses);
+}
 
 pub after-edge : {E : Graph} (e : Edge) → E e → e .counted ≡ true → e .from ≢ 0 → AfterWalk E (e .from) (e .to) (e .gain) (e .loss)
 after-edge e m c z =
@@ -49,12 +60,34 @@ after-from h w =
     record { not-source = λ z. w .not-source (sym h ∙ z); edge = w .edge; mem = w .mem; leaves = w .leaves ∙ sym h; counts = w .counts; k = w .k; g = w .g; l = w .l; rest = w .rest; gains = w .gains; losses = w .losses }
 
 pub after-to : {E : Graph} {a y z p q : ℕ} → y ≡ z → AfterWalk E a y p q → AfterWalk E a z p q
-after-to h w =
-    record { not-source = w .not-source; edge = w .edge; mem = w .mem; leaves = w .leaves; counts = w .counts; k = w .k; g = w .g; l = w .l; rest = walk-to (w .rest) h refl refl refl; gains = w .gains; losses = w .losses }
+after-to h w = record {
+  not-source = w .not-source;
+  edge = w .edge;
+  mem = w .mem;
+  leaves = w .leaves;
+  counts = w .counts;
+  k = w .k;
+  g = w .g;
+  l = w .l;
+  rest = walk-to (w .rest) h refl refl refl;
+  gains = w .gains;
+  losses = w .losses;
+}
 
 pub after-mono : {E F : Graph} {a y p q : ℕ} → E ⊑ F → AfterWalk E a y p q → AfterWalk F a y p q
-after-mono i w =
-    record { not-source = w .not-source; edge = w .edge; mem = i (w .edge) (w .mem); leaves = w .leaves; counts = w .counts; k = w .k; g = w .g; l = w .l; rest = walk-mono i (w .rest); gains = w .gains; losses = w .losses }
+after-mono i w = record {
+  not-source = w .not-source;
+  edge = w .edge;
+  mem = i (w .edge) (w .mem);
+  leaves = w .leaves;
+  counts = w .counts;
+  k = w .k;
+  g = w .g;
+  l = w .l;
+  rest = walk-mono i (w .rest);
+  gains = w .gains;
+  losses = w .losses;
+}
 
 -- The walk that an AfterWalk is: of at least one edge.
 pub after-walk : {E : Graph} {a y p q : ℕ} (w : AfterWalk E a y p q) → Walk E a y (suc (w .k)) p q

@@ -1,13 +1,10 @@
--- Sums and counts over the numbers below n.
+-- Counts over the numbers below n.
 use mathlib.Core.Bool.{Bool, cond}
 use mathlib.Core.List.{List}
-use Prim.Native.Nat.{_+_, suc, zero, ℕ}
+use Prim.Native.Nat.{ℕ}
 use lib.ListN.{getD}
-use Rattle.definitions.specs.Basics.{test-bit}
-
-unfoldable pub sum-below : (ℕ → ℕ) → ℕ → ℕ
-sum-below f zero = 0
-sum-below f (suc n) = sum-below f n + f n
+use Rattle.definitions.specs.Limits.{most-steps}
+use Rattle.definitions.specs.Basics.{sum-below, test-bit}
 
 -- How many numbers below n pass a test.
 abbrev pub count-below : (ℕ → Bool) → ℕ → ℕ
@@ -15,4 +12,4 @@ count-below test n = sum-below (λ k. cond (test k) 1 0) n
 
 -- How many bits stand in 64 maps of 64 bits.
 abbrev pub standing-bits : List ℕ → ℕ
-standing-bits maps = sum-below (λ i. count-below (test-bit (getD maps i 0)) 64) 64
+standing-bits maps = sum-below (λ i. count-below (test-bit (getD maps i 0)) most-steps) most-steps

@@ -96,9 +96,13 @@ pub fn judge(sheet: &[u8], allow: bool) -> Verdict {
 pub fn waits(sheet: &[u8]) -> Waits {
     let mut maps = [0; 64];
     let mut count = 0;
-    let code =
-        unsafe { raw::standplan_waits(sheet.as_ptr(), sheet.len(), &mut maps, &mut count) };
-    Waits { verdict: Verdict::from_code(code), maps, count }
+    let verdict = waits_into(sheet, &mut maps, &mut count);
+    Waits { verdict, maps, count }
+}
+
+/// The same, into maps and a count that are lent. On a refusal they stay as lent.
+pub fn waits_into(sheet: &[u8], maps: &mut [u64; 64], count: &mut u32) -> Verdict {
+    Verdict::from_code(unsafe { raw::standplan_waits(sheet.as_ptr(), sheet.len(), maps, count) })
 }
 
 /// Plans a sheet into the first n × n numbers of `table`. The rest stays as lent; on a refusal all of it does.
@@ -137,6 +141,9 @@ pub struct Run {
     pub start: [u32; 64],
     pub finish: [u32; 64],
 }
+
+/// What is lent for the map of a call.
+const UNWRITTEN: u64 = u64::MAX;
 
 impl Default for Run {
     fn default() -> Run {
@@ -202,10 +209,15 @@ impl Run {
 
     fn call(&mut self, call: impl FnOnce(&mut [u64; 4], &mut Run, &mut u64) -> u32) -> Started {
         let mut words = [self.n as u64, self.open, self.started, self.finished];
-        let mut map = 0;
+        let mut map = UNWRITTEN;
         let code = call(&mut words, self, &mut map);
         self.n = words[0] as usize;
         [self.open, self.started, self.finished] = [words[1], words[2], words[3]];
-        if code == 0 { Ok(map) } else { Err(code - 256) }
+        if code == 0 {
+            Ok(map)
+        } else {
+            debug_assert_eq!(map, UNWRITTEN, "a refusal writes nothing");
+            Err(code - 256)
+        }
     }
 }

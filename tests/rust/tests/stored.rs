@@ -1,5 +1,5 @@
 //! The library's answers against those of the reference planner, stored in data/answers.txt by store.py.
-use standplan::{judge, plan, starts, waits, Verdict};
+use standplan::{judge, plan, starts, waits, waits_into, Verdict};
 use std::collections::BTreeSet;
 
 const STORED: &str = include_str!("../data/answers.txt");
@@ -58,6 +58,14 @@ fn stored_answers() {
                 assert_eq!(found.verdict, verdict_of(&parts[1]), "{place}");
                 assert_eq!(found.count, number_of(parts[2][0]), "{place}");
                 assert_eq!(found.maps, maps, "{place}");
+                // Where maps and a count are lent, a refusal leaves them as they were.
+                let (mut lent_maps, mut lent_count) = ([1000; 64], 1000);
+                assert_eq!(waits_into(&sheet, &mut lent_maps, &mut lent_count), found.verdict, "{place}");
+                if let Verdict::Refused(_) = found.verdict {
+                    assert_eq!((lent_maps, lent_count), ([1000; 64], 1000), "{place}");
+                } else {
+                    assert_eq!((lent_maps, lent_count), (maps, found.count), "{place}");
+                }
             }
             "plan" => {
                 seen.insert(parts[1].join(" "));

@@ -1,0 +1,12 @@
+pub mod StartSets
+pub mod Sheets
+pub mod Sweeps
+pub mod Changes
+pub mod Invariants
+pub mod Calls
+pub mod Answers
+pub mod History
+pub mod Waiting
+pub mod Certificates
+pub mod Examples
+pub mod Runs

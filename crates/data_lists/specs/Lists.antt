@@ -1,0 +1,36 @@
+-- Adjacency lists of edge words by their start, in one array: place u, below 64, is the head of the list of step u, place 64 + i is what follows edge i.
+-- A place holds one more than the index of an edge, or 0 at the end.
+use mathlib.Core.Path.{_≡_}
+use mathlib.Core.Bool.{cond}
+use mathlib.Core.List.{List}
+use Prim.Native.Nat.{ℕ, zero, suc, _+_, _<_, _≤_}
+use lib.Dec.{eqb}
+use lib.ListN.{length, getD, set}
+use Rattle.definitions.specs.Limits.{most-edges, most-steps}
+use Rattle.data_edges.specs.Words.{unpack}
+
+-- One more than the index of the last of the first k words whose edge leaves u; 0 where there is none.
+unfoldable pub last-from : List ℕ → ℕ → ℕ → ℕ
+last-from es u zero = 0
+last-from es u (suc k) = cond (eqb (unpack (getD es k 0) .from) u) (suc k) (last-from es u k)
+
+-- The lists of all words, as many as a sheet may have at most, so that a place fits its number. Places past the last word are free: nothing is said of them.
+pub record Lists (es lists : List ℕ) : Type 0 where
+  pub few : length es ≤ most-edges
+  pub heads : (u : ℕ) → u < 64 → getD lists u 0 ≡ last-from es u (length es)
+  pub nexts : (i : ℕ) → i < length es → getD lists (64 + i) 0 ≡ last-from es (unpack (getD es i 0) .from) i
+  pub long : 64 + length es ≤ length lists
+
+-- What an analysis is given: the edges of a sheet of n steps, with their adjacency lists.
+pub record WithLists (n : ℕ) (es lists : List ℕ) : Type 0 where
+  pub some : 1 ≤ n
+  pub few : n ≤ most-steps
+  pub listed : Lists es lists
+
+-- No step's list has an edge yet.
+abbrev pub Empty : List ℕ → Type 0
+Empty lists = (u : ℕ) → u < 64 → getD lists u 0 ≡ 0
+
+-- Edge k put before the list of the step that it leaves.
+unfoldable pub put-first : List ℕ → ℕ → ℕ → List ℕ
+put-first lists from k = set (set lists (64 + k) (getD lists from 0)) from (k + 1)

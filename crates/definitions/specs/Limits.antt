@@ -1,0 +1,68 @@
+-- The limits of a sheet and of a list of durations, and what follows from them. Each stands here and nowhere else; the code has those that it needs as constants of the same names (src/lib.rt).
+use mathlib.Core.Path.{_≡_, refl}
+use Prim.Native.Nat.{ℕ, _+_, _-_, _*_}
+
+-- "N, the number of steps, 1 to 64": a map of 64 bits has one for each.
+abbrev pub most-steps : ℕ
+most-steps = 64
+
+-- "R, the number of link records, 0 to 512."
+abbrev pub most-records : ℕ
+most-records = 512
+
+-- The largest number of two bytes: a fixed duration, and each field of a link record.
+abbrev pub most-ticks : ℕ
+most-ticks = 65535
+
+-- "Each at most 16,777,215": an entry of a list of durations.
+abbrev pub most-duration : ℕ
+most-duration = 16777215
+
+-- A link record holds at most four links, and each is one edge.
+abbrev pub links-of-record : ℕ
+links-of-record = 4
+
+abbrev pub most-edges : ℕ
+most-edges = links-of-record * most-records
+
+-- What one edge gains: a fixed duration, or the ticks of an at-least link.
+abbrev pub most-gain : ℕ
+most-gain = most-ticks
+
+-- What one edge loses: the ticks of an at-most link; from the finish of a fixed step its duration besides.
+abbrev pub most-loss : ℕ
+most-loss = most-ticks + most-ticks
+
+-- "Offsets never exceed 4,128,705": a heaviest walk comes to each step once, so it has an edge less than there are steps.
+abbrev pub most-offset : ℕ
+most-offset = (most-steps - 1) * most-gain
+
+-- "At most 64 by 64": the numbers of a plan's table.
+abbrev pub longest-table : ℕ
+longest-table = most-steps * most-steps
+
+-- A start for a list: each step on the way to it adds a duration and an offset at most.
+abbrev pub most-start : ℕ
+most-start = most-steps * (most-duration + most-offset)
+
+-- The longest step record: a map and a duration; that of step 0 is its map. The longest link record: a map, a pair and three fields.
+abbrev pub longest-step : ℕ
+longest-step = 1 + 2
+
+abbrev pub longest-record : ℕ
+longest-record = 1 + 2 + 3 * 2
+
+-- The longest sheet: N and R, the map of step 0, the other steps and the link records.
+abbrev pub longest-sheet : ℕ
+longest-sheet = 3 + 1 + (most-steps - 1) * longest-step + most-records * longest-record
+
+-- "Tick when the tick is 4,294,967,295": the runner's clock ends at the largest number of 32 bits.
+abbrev pub last-tick : ℕ
+last-tick = 4294967295
+
+-- The numbers that document 01 and the documents here give for what is computed above.
+pub most-offset-said : most-offset ≡ 4128705
+most-offset-said = refl
+
+pub longest-sheet-said : longest-sheet ≡ 4801
+longest-sheet-said = refl

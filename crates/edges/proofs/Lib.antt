@@ -1,5 +1,0 @@
-pub mod Digits
-pub mod Places
-pub mod Users
-pub mod Serializing
-pub mod Waiting

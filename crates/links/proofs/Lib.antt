@@ -1,4 +1,0 @@
-pub mod Words
-pub mod Pushing
-pub mod Taking
-pub mod Listing

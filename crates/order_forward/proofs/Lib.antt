@@ -1,0 +1,3 @@
+pub mod Anchoring
+pub mod Drawing
+pub mod Faults

@@ -1,0 +1,3 @@
+pub mod Circles
+pub mod Counting
+pub mod Placing

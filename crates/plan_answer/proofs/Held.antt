@@ -1,0 +1,62 @@
+-- A sheet as the reader holds it, in a report and in words.
+use mathlib.Core.Path.{_≡_, sym, subst}
+use mathlib.Core.Logic.{_⊎_, inl, inr}
+use mathlib.Core.List.{List, [], _∷_, List·Memᴰ, List·Memᴰ·not-nil, List·Memᴰ·cases-cons}
+use Prim.Native.Nat.{ℕ, suc, _<_}
+use native.Mathlib.Omega.{arith}
+use lib.ListN.{getD, take, length-take}
+use Rattle.definitions.specs.Answers.{count-of, edges-of}
+use Rattle.definitions.specs.Bytes.{Records, read}
+use Rattle.definitions.specs.Limits.{most-gain}
+use Rattle.definitions.specs.Links.{Edge, members}
+use Rattle.definitions.specs.declared.Reading.the-variants as Readings
+use Rattle.demands.specs.Demands.{Bytes}
+use Rattle.demands.proofs.Edges.{sheet-gains, sheet-shape}
+use Rattle.demands.proofs.Reading.{Fits, read-fits}
+use Rattle.data_edges.specs.Words.{graph}
+use Rattle.read_sheet.specs.Answers.{Holds, Reports}
+use Rattle.read_sheet.specs.declared.Report.{Report}
+use Rattle.read_sheet.proofs.Reports.{Found, report-given}
+use Rattle.plan_walks.specs.Tables.{SheetEdges}
+use Rattle.theory.specs.Graphs.{Gains, Shape}
+
+-- The edges that its words stand for.
+abbrev pub word-edges : List ℕ → Report → List Edge
+word-edges words report = graph (take (report .count) words)
+
+module _ {q : Records} {words : List ℕ} {report : Report} (fits : Fits q) (holds : Holds q words report) where
+  -- What holds of its steps and edges holds of the words, and the other way round.
+  held-by : (P : ℕ → List Edge → Type 0) → P (count-of q) (edges-of q) → P (report .n) (word-edges words report)
+  held-by P p = subst (λ (n : ℕ). P n (word-edges words report)) (sym (holds .n)) (subst (λ (g : List Edge). P (count-of q) g) (sym (holds .same)) p)
+
+  pub by-held : (P : ℕ → List Edge → Type 0) → P (report .n) (word-edges words report) → P (count-of q) (edges-of q)
+  by-held P p = subst (λ (g : List Edge). P (count-of q) g) (holds .same) (subst (λ (n : ℕ). P n (word-edges words report)) (holds .n) p)
+
+  -- The words are the edges of a sheet: their number and that of the steps are within their limits.
+  pub held-sheet : SheetEdges (report .n) (take (report .count) words)
+  held-sheet = record {
+    some = omega (arith, holds .n, fits .some);
+    few = omega (arith, holds .n, fits .few);
+    edges = omega (arith, holds .few, length-take (report .count) words);
+    shape = held-by (λ n g. Shape n (members g)) (sheet-shape fits);
+    gains = held-by (λ n g. Gains (members g) most-gain) (sheet-gains fits);
+  }
+
+-- The elements of a list of bytes are below 256, from each place.
+pub bytes-by : (s : List ℕ) → ((i : ℕ) → getD s i 0 < 256) → Bytes s
+bytes-by [] h b m = absurd (List·Memᴰ·not-nil m)
+bytes-by (x ∷ s) h b m = go (List·Memᴰ·cases-cons m) (bytes-by s (λ i. h (suc i)) b)
+  where
+    go : (b ≡ x) ⊎ List·Memᴰ b s → (List·Memᴰ b s → b < 256) → b < 256
+    go (inl e) below = omega (arith, e, h 0)
+    go (inr n) below = below n
+
+-- A report on bytes that are read whole: the sheet's records, within their limits.
+pub record Whole (s words : List ℕ) (report : Report) : Type 0 where
+  pub found : Found (read s) words report
+  pub fits : Fits (found .whole)
+
+pub whole : (s words : List ℕ) (report : Report) → ((i : ℕ) → getD s i 0 < 256) → Reports (read s) words report → report .reading ≡ Readings.Whole → Whole s words report
+whole s words report small reports e =
+    let h = report-given (read s) words report reports e in
+    record { found = h; fits = read-fits s (h .whole) (bytes-by s small) (h .is-given) }

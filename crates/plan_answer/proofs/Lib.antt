@@ -1,0 +1,4 @@
+pub mod Held
+mod Overriding
+mod Writing
+pub mod Calls

@@ -1,0 +1,80 @@
+// Deciding sets (irredundant anchor sets), read off the working tables: heaviest walks and anchor sets.
+// d: cell a of row v is 0 where no walk comes from a to v, w + 1 for the weight w. sets: bit a of map v stands where a is in the anchor set of v.
+// Every function is safe for any tables with a row for v and for each member of its set; on orderly ones, as those of an accepted sheet are, its answer is the definition's.
+ghost use mathlib.Core.Path.{_≡_};
+ghost use mathlib.Core.Bool.{not, _&&_};
+ghost use Prim.Native.Nat.{ℕ, _<_, _≤_};
+ghost use lib.Dec.{eqb};
+ghost use lib.ListN.{getD, length};
+ghost use Rattle.definitions.specs.Basics.{test-bit};
+ghost use Rattle.definitions.specs.Rounds.{entry};
+ghost use Rattle.plan_deciding.specs.Working.{Full, Orderly, Rowed, Ways, weight, reaching, covering, deciding};
+
+// The offset of v for a, 0 where there is none.
+pub fn offset_at(d: &[[u32; 64]], v: usize, a: usize) -> u32
+    requires { ⌜ (v < length (now d)) × (a < 64) ⌝ }
+    ensures { λ r. ⌜ r ≡ weight (now (d .entry)) v a ⌝ }
+{
+    walk_cells::weight(d[v][a])
+}
+
+// Whether the way from a over b comes to v as late as a itself.
+fn reaches(d: &[[u32; 64]], v: usize, a: usize, b: usize) -> bool
+    requires { ⌜ (a < 64) × Ways v b (now d) ⌝ }
+    ensures { λ r. ⌜ (1 ≤ entry (now (d .entry)) v a → 1 ≤ entry (now (d .entry)) b a → 1 ≤ entry (now (d .entry)) v b → r ≡ reaching (now (d .entry)) v a b) ⌝ }
+{
+    walk_cells::sum_reaches(d[b][a], d[v][b], d[v][a])
+}
+
+// The map without a, where a is out.
+fn remove_if(map: u64, a: usize, out: bool) -> u64
+    requires { ⌜ a < 64 ⌝ }
+    ensures { λ r. ⌜ ((j : ℕ) → test-bit r j ≡ (test-bit map j && not (eqb j a && out))) ⌝ }
+{
+    if out {
+        return data_bits::remove(map, a);
+    }
+    map
+}
+
+// The map without those of the given ones from which the way over b reaches.
+fn without_reached(d: &[[u32; 64]], v: usize, b: usize, map: u64, given: u64) -> u64
+    requires { ⌜ Ways v b (now d) ⌝ }
+    ensures { λ r. ⌜ (1 ≤ entry (now (d .entry)) v b → Full (now (d .entry)) v given → Full (now (d .entry)) b given → (a : ℕ) → test-bit r a ≡ (test-bit map a && not (test-bit given a && reaching (now (d .entry)) v a b))) ⌝ }
+{
+    let mut kept = map;
+    let mut left = given;
+    while left != 0 {
+        let a = data_bits::lowest(left);
+        let out = reaches(d, v, a, b);
+        kept = remove_if(kept, a, out);
+        left = data_bits::without_lowest(left);
+    }
+    kept
+}
+
+// The map without those that b leaves out of the deciding set of v: only members of b's own anchor set are compared.
+fn without_covered(d: &[[u32; 64]], sets: &[u64; 64], v: usize, b: usize, map: u64) -> u64
+    requires { ⌜ Ways v b (now d) ⌝ }
+    ensures { λ r. ⌜ (1 ≤ entry (now (d .entry)) v b → Full (now (d .entry)) v map → Full (now (d .entry)) b (getD (now (sets .entry)) b 0) → (a : ℕ) → test-bit r a ≡ (test-bit map a && not (covering (now (d .entry)) (now (sets .entry)) v a b))) ⌝ }
+{
+    let behind = data_bits::remove(sets[b], b);
+    let given = data_sets::both(map, behind);
+    without_reached(d, v, b, map, given)
+}
+
+// The deciding set of v: its anchor set without those that a member leaves out. The largest members are often the latest and leave out most, so they come first; a member that is out is not asked whom it leaves out.
+pub fn deciding_set(d: &[[u32; 64]], sets: &[u64; 64], v: usize) -> u64
+    requires { ⌜ Rowed v (now sets) (now d) ⌝ }
+    ensures { λ r. ⌜ (Orderly (now (d .entry)) (now (sets .entry)) v → (a : ℕ) → test-bit r a ≡ deciding (now (d .entry)) (now (sets .entry)) v a) ⌝ }
+{
+    let mut kept = sets[v];
+    let mut left = sets[v];
+    while left != 0 {
+        let b = data_bits::highest(left);
+        kept = without_covered(d, sets, v, b, kept);
+        let less = data_bits::remove(left, b);
+        left = data_sets::both(less, kept);
+    }
+    kept
+}

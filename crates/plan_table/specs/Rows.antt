@@ -1,0 +1,41 @@
+-- The plan's table, a row at a time, as it is read off the working tables.
+use mathlib.Core.Path.{_≡_}
+use mathlib.Core.Bool.{Bool, true, cond}
+use mathlib.Core.List.{List, [], _++_}
+use Prim.Native.Nat.{ℕ, zero, suc, _*_, _<_, _≤_}
+use lib.ListN.{length, getD, drop}
+use Rattle.definitions.specs.Basics.{tabulate}
+use Rattle.definitions.specs.Limits.{most-steps}
+use Rattle.definitions.specs.Links.{Edge}
+use Rattle.definitions.specs.Plan.{plan-table, undecided}
+use Rattle.plan_deciding.specs.Working.{Holds, Orderly, deciding, member, weight}
+
+-- A row of members that do not decide.
+abbrev pub cleared : ℕ → ℕ
+cleared a = undecided
+
+-- The places below n that pass a test have their values, every other is as it was.
+pub record Put (n : ℕ) (test : ℕ → Bool) (value : ℕ → ℕ) (row row′ : List ℕ) : Type 0 where
+  pub long : length row′ ≡ length row
+  pub front : (a : ℕ) → a < n → getD row′ a 0 ≡ cond (test a) (value a) (getD row a 0)
+  pub rest : (a : ℕ) → n ≤ a → getD row′ a 0 ≡ getD row a 0
+
+-- The plan's entries, and its first v rows.
+unfoldable pub entry-at : List (List ℕ) → List ℕ → ℕ → ℕ → ℕ
+entry-at d sets v a = cond (deciding d sets v a) (weight d v a) undecided
+
+unfoldable pub first-rows : List (List ℕ) → List ℕ → ℕ → ℕ → List ℕ
+first-rows d sets n zero = []
+first-rows d sets n (suc v) = first-rows d sets n v ++ tabulate (entry-at d sets v) n
+
+-- The lent numbers after a plan is written to their front, where the tables are orderly: what is read off them, on those of an edge list the plan's table.
+pub record Planned (n : ℕ) (d : List (List ℕ)) (sets lent after : List ℕ) : Type 0 where
+  pub read : ((v : ℕ) → v < n → Orderly d sets v) → after ≡ first-rows d sets n n ++ drop (n * n) lent
+  pub plan : (es : List Edge) → Holds n es d sets → ((v : ℕ) → v < n → Orderly d sets v) → after ≡ plan-table n es ++ drop (n * n) lent
+
+-- Tables with a row for each step below n and each member, and room for the plan's table.
+pub record Plannable (n : ℕ) (sets : List ℕ) (d : List (List ℕ)) (table : List ℕ) : Type 0 where
+  pub few : n ≤ most-steps
+  pub inside : n ≤ length d
+  pub members : (v a : ℕ) → v < n → member sets v a ≡ true → a < length d
+  pub room : n * n ≤ length table

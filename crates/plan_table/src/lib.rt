@@ -1,0 +1,63 @@
+// The plan's table (the relative schedule), from the working tables: see crate plan_deciding for what d and sets hold.
+// Every function is safe for any tables with a row for each step and each member; on orderly ones, as those of an accepted sheet are, its answer is the definition's.
+use definitions::UNDECIDED;
+ghost use mathlib.Core.Path.{_≡_};
+ghost use mathlib.Core.List.{_++_};
+ghost use Prim.Native.Nat.{ℕ, _<_, _≤_};
+ghost use lib.ListN.{length, drop, getD};
+ghost use Rattle.definitions.specs.Basics.{tabulate, test-bit};
+ghost use Rattle.definitions.specs.Plan.{undecided};
+ghost use Rattle.plan_deciding.specs.Working.{Orderly, Rowed, weight};
+ghost use Rattle.plan_table.specs.Rows.{Plannable, Planned, Put, cleared, entry-at};
+
+// The first numbers, as many as are to be cleared, become the entries of members that do not decide.
+fn clear(count: usize, row: &mut [u32])
+    requires { ⌜ count ≤ length (now row) ⌝ }
+    ensures { λ r. ⌜ now (row .exit) ≡ tabulate cleared count ++ drop count (now (row .entry)) ⌝ }
+{
+    let mut a = 0;
+    while a < count {
+        row[a] = UNDECIDED;
+        a += 1;
+    }
+}
+
+// The offsets of v for the members of a map below n, each at its place in the row.
+fn put_offsets(d: &[[u32; 64]], map: u64, n: usize, v: usize, row: &mut [u32])
+    requires { ⌜ (v < length (now d)) × (n ≤ length (now row)) ⌝ }
+    ensures { λ r. ⌜ Put n (test-bit map) (weight (now (d .entry)) v) (now (row .entry)) (now (row .exit)) ⌝ }
+{
+    let mut left = map;
+    while left != 0 {
+        let a = data_bits::lowest(left);
+        if n <= a {
+            return;
+        }
+        let x = plan_deciding::offset_at(d, v, a);
+        row[a] = x;
+        left = data_bits::without_lowest(left);
+    }
+}
+
+// Row v of the plan, where it is cleared.
+fn fill_row(d: &[[u32; 64]], sets: &[u64; 64], n: usize, v: usize, row: &mut [u32])
+    requires { ⌜ Rowed v (now sets) (now d) × (n ≤ length (now row)) ⌝ }
+    ensures { λ r. ⌜ (Orderly (now (d .entry)) (now (sets .entry)) v → ((a : ℕ) → a < n → getD (now (row .entry)) a 0 ≡ undecided) → now (row .exit) ≡ tabulate (entry-at (now (d .entry)) (now (sets .entry)) v) n ++ drop n (now (row .entry))) ⌝ }
+{
+    let deciding = plan_deciding::deciding_set(d, sets, v);
+    put_offsets(d, deciding, n, v, row);
+}
+
+// The plan's table, at the front of the lent numbers: all of it is cleared, and then filled a row at a time, each in the part of the table where it belongs.
+pub fn fill_plan(d: &[[u32; 64]], sets: &[u64; 64], n: usize, table: &mut [u32])
+    requires { ⌜ Plannable n (now sets) (now d) (now table) ⌝ }
+    ensures { λ r. ⌜ Planned n (now (d .entry)) (now (sets .entry)) (now (table .entry)) (now (table .exit)) ⌝ }
+{
+    clear(n * n, table);
+    let mut v = 0;
+    while v < n {
+        let at = v * n;
+        fill_row(d, sets, n, v, &mut table[at..]);
+        v += 1;
+    }
+}

@@ -1,0 +1,3 @@
+mod Sourcing
+mod Tables
+mod Verdicts

@@ -1,3 +1,0 @@
-mod Overriding
-mod Writing
-mod Calls

@@ -1,0 +1,4 @@
+pub mod Cells
+pub mod Fronts
+pub mod Limits
+pub mod Listings

@@ -1,5 +1,0 @@
-pub mod Cells
-pub mod FlatMaps
-pub mod Fronts
-pub mod Limits
-pub mod Listings

@@ -1,4 +1,0 @@
-pub mod Answers
-mod Sourcing
-mod Tables
-mod Verdicts

@@ -1,2 +1,0 @@
-mod Writing
-mod Calls

@@ -1,0 +1,303 @@
+-- What columns begin with, one cell after another.
+use mathlib.Core.Path.{_≡_, refl, sym, ap, subst, _∙_}
+use mathlib.Core.Bool.{Bool, true, false, not, _&&_, and-false}
+use mathlib.Core.Logic.{_⊎_, inl, inr, _≢_}
+use mathlib.Core.List.{List, List·Memᴰ, [], _∷_, _++_, List·Memᴰ·append-cases, List·Memᴰ·eq-of-singleton, List·Memᴰ·head, List·Memᴰ·not-nil, Memᴰ·append-left, Memᴰ·append-right, map, map-append}
+use Prim.Native.Nat.{ℕ, suc, _+_, _-_, _%_, _≤_, _<_}
+use native.Mathlib.Omega.{arith}
+use native.Mathlib.Numerals.{add-one}
+use native.Mathlib.Decide.{decLt}
+use lib.Dec.{eqb}
+use lib.ListN.{length, getD, set, take}
+use lib.Seq.{take-suc, take-length}
+use borrow.Author.Tests.{eq-eqb}
+use Rattle.definitions.specs.Basics.{any-below, test-bit}
+use Rattle.definitions.specs.Links.{Edge, Graph, _⊑_, members}
+use Rattle.data_edges.specs.Words.{graph, unpack}
+use Rattle.data_edges.proofs.Places.{graph-place}
+use Rattle.laws.proofs.Bools.{bool-cases, both-ways, same-or-not}
+use Rattle.laws.proofs.Maps.{test-zero}
+use Rattle.laws.proofs.Tests.{any-below-by}
+use Rattle.data_relations.specs.Rows.{row-bit}
+use Rattle.walk_cells.specs.Cells.{value, weightless}
+use Rattle.walk_cells.specs.Tables.{Square, entry}
+use Rattle.walk_cells.proofs.Values.{value-empty, value-weightless}
+use Rattle.walk_edge.specs.Columns.{Numbers, Only, column}
+use Rattle.walk_cells.proofs.Tables.{square-stored, square-then, stored-beside, stored-here, stored-other}
+use Rattle.theory.specs.Sweeps.{Leads}
+use Rattle.walk_seed.specs.Seeds.{Begins, Begun, BegunAll, Empty, Idle, Numbered, Prepared, Raised, Seeded}
+use Rattle.walk_seed.proofs.Numbering.{left-still}
+
+-- One cell is stored to, and the others stay.
+pub record Stored (v k c : ℕ) (d d′ : List (List ℕ)) : Type 0 where
+  pub square : Square (length d) d′
+  pub here : entry d′ v k ≡ c
+  pub other : (w j : ℕ) → (w ≢ v) ⊎ (j ≢ k) → entry d′ w j ≡ entry d w j
+
+pub stored-cell : (v k c : ℕ) (d : List (List ℕ)) → Square (length d) d → v < length d → k < 64 → Stored v k c d (set d v (set (getD d v []) k c))
+stored-cell v k c d S h b = record { square = square-stored d v k c S h b; here = stored-here d v k c S h b; other = λ w j. by w j (same-or-not w v) }
+  where
+    by : (w j : ℕ) → (w ≡ v) ⊎ (w ≢ v) → (w ≢ v) ⊎ (j ≢ k) → entry (set d v (set (getD d v []) k c)) w j ≡ entry d w j
+    by w j (inl e) (inl o) = absurd (o e)
+    by w j (inl e) (inr o) = rw e (stored-beside d v k c S h b j o)
+    by w j (inr e) o = stored-other d v k c S h b w j e
+
+pub raised-stored : (v k c : ℕ) (d : List (List ℕ)) → Square (length d) d → v < length d → k < 64 → value (entry d v k) ≤ value c → Raised v k c d (set d v (set (getD d v []) k c))
+raised-stored v k c d S h b l =
+    let T = stored-cell v k c d S h b in
+    record { square = T .square; here = ap value (T .here) ∙ omega arith; other = T .other }
+
+pub raised-kept : (v k c : ℕ) (d : List (List ℕ)) → Square (length d) d → value c ≤ value (entry d v k) → Raised v k c d d
+raised-kept v k c d S l = record { square = S; here = omega arith; other = λ w j o. refl }
+
+-- The pairs of step v and the members of a map that are not left; and those of the rows of sets below v.
+abbrev pub Sown : ℕ → ℕ → ℕ → ℕ → ℕ → Type 0
+Sown v map left w a = (w ≡ v) × (a < 64) × (test-bit map a ≡ true) × (test-bit left a ≡ false)
+
+abbrev pub Below : List ℕ → ℕ → ℕ → ℕ → Type 0
+Below sets v w a = (w < v) × (a < 64) × (row-bit sets w a ≡ true)
+
+-- Seeds of no pair, of one pair, and of some pairs and then of others.
+module _ (number : List ℕ) where
+  seeded-none : {P : ℕ → ℕ → Type 0} (d : List (List ℕ)) → Square (length d) d → ((v a : ℕ) → ¬ P v a) → Seeded number P d d
+  seeded-none d S none = record { square = S; here = λ v a p. absurd (none v a p); other = λ v k o. refl; either = λ v k. inr refl }
+
+  seeded-one : {P : ℕ → ℕ → Type 0} (v a k : ℕ) {d d′ : List (List ℕ)} → k ≡ getD number a 0 % 64 → P v a → ((w b : ℕ) → P w b → (w ≡ v) × (b ≡ a)) → Stored v k weightless d d′ → Seeded number P d d′
+  seeded-one {P} v a k {d} {d′} is own only T = record { square = T .square; here = here; other = λ w j o. other w j o (same-or-not w v) (same-or-not j k); either = λ w j. either w j (same-or-not w v) (same-or-not j k) }
+    where
+      here : (w b : ℕ) → P w b → entry d′ w (getD number b 0 % 64) ≡ weightless
+      here w b p = let e = only w b p in rw (e .0, e .1, ← is) (T .here)
+
+      other : (w j : ℕ) → ((b : ℕ) → P w b → getD number b 0 % 64 ≢ j) → (w ≡ v) ⊎ (w ≢ v) → (j ≡ k) ⊎ (j ≢ k) → entry d′ w j ≡ entry d w j
+      other w j o (inl e) (inl f) = absurd (o a (subst (λ (x : ℕ). P x a) (sym e) own) (sym is ∙ sym f))
+      other w j o (inl e) (inr f) = T .other w j (inr f)
+      other w j o (inr e) f = T .other w j (inl e)
+
+      either : (w j : ℕ) → (w ≡ v) ⊎ (w ≢ v) → (j ≡ k) ⊎ (j ≢ k) → (entry d′ w j ≡ weightless) ⊎ (entry d′ w j ≡ entry d w j)
+      either w j (inl e) (inl f) = inl (rw (e, f) (T .here))
+      either w j (inl e) (inr f) = inr (T .other w j (inr f))
+      either w j (inr e) f = inr (T .other w j (inl e))
+
+  seeded-both : {P Q R : ℕ → ℕ → Type 0} {d d′ d″ : List (List ℕ)} → ((v a : ℕ) → P v a → R v a) → ((v a : ℕ) → Q v a → R v a) → ((v a : ℕ) → R v a → P v a ⊎ Q v a) → Seeded number P d d′ → Seeded number Q d′ d″ → Seeded number R d d″
+  seeded-both {P} {Q} {R} {d} {d′} {d″} i j split A B =
+      record { square = square-then (A .square) (B .square); here = λ v a r. here v a (split v a r); other = λ v k o. B .other v k (λ a q. o a (j v a q)) ∙ A .other v k (λ a p. o a (i v a p)); either = λ v k. either v k (B .either v k) (A .either v k) }
+    where
+      stays : (v k : ℕ) → entry d′ v k ≡ weightless → (entry d″ v k ≡ weightless) ⊎ (entry d″ v k ≡ entry d′ v k) → entry d″ v k ≡ weightless
+      stays v k h (inl e) = e
+      stays v k h (inr e) = e ∙ h
+
+      here : (v a : ℕ) → P v a ⊎ Q v a → entry d″ v (getD number a 0 % 64) ≡ weightless
+      here v a (inl p) = stays v (getD number a 0 % 64) (A .here v a p) (B .either v (getD number a 0 % 64))
+      here v a (inr q) = B .here v a q
+
+      either : (v k : ℕ) → (entry d″ v k ≡ weightless) ⊎ (entry d″ v k ≡ entry d′ v k) → (entry d′ v k ≡ weightless) ⊎ (entry d′ v k ≡ entry d v k) → (entry d″ v k ≡ weightless) ⊎ (entry d″ v k ≡ entry d v k)
+      either v k (inl e) f = inl e
+      either v k (inr e) (inl f) = inl (e ∙ f)
+      either v k (inr e) (inr f) = inr (e ∙ f)
+
+  seeded-as : {P R : ℕ → ℕ → Type 0} {d d′ : List (List ℕ)} → ((v a : ℕ) → P v a → R v a) → ((v a : ℕ) → R v a → P v a) → Seeded number P d d′ → Seeded number R d d′
+  seeded-as i j A = record { square = A .square; here = λ v a r. A .here v a (j v a r); other = λ v k o. A .other v k (λ a p. o a (i v a p)); either = A .either }
+
+  -- The loop over the members of a map.
+  pub sown-start : (v map : ℕ) (d : List (List ℕ)) → Square (length d) d → Seeded number (Sown v map map) d d
+  sown-start v map d S = seeded-none d S (λ w a p. both-ways (p .2) (p .3))
+
+  pub sown-more : (v map left left′ a k : ℕ) {d d′ d″ : List (List ℕ)} → a < 64 → test-bit map a ≡ true → test-bit left a ≡ true → ((j : ℕ) → test-bit left′ j ≡ (test-bit left j && not (eqb j a)))
+      → k ≡ getD number a 0 % 64 → Seeded number (Sown v map left) d d′ → Stored v k weightless d′ d″ → Seeded number (Sown v map left′) d d″
+  sown-more v map left left′ a k low within member leaves is A T =
+      seeded-both {Q = λ w b. (w ≡ v) × (b ≡ a)}
+      (λ w b p. (p .0, p .1, p .2, leaves b ∙ ap (λ (t : Bool). t && not (eqb b a)) (p .3)))
+      (λ w b p. rw (p .1) ((p .0, low, within, gone)))
+      (λ w b p. split w b p (same-or-not b a))
+      A
+      (seeded-one v a k is (refl, refl) (λ w b p. p) T)
+    where
+      gone : test-bit left′ a ≡ false
+      gone = leaves a ∙ ap (λ (t : Bool). test-bit left a && not t) (eq-eqb a a refl) ∙ and-false (test-bit left a)
+
+      split : (w b : ℕ) → Sown v map left′ w b → (b ≡ a) ⊎ (b ≢ a) → Sown v map left w b ⊎ ((w ≡ v) × (b ≡ a))
+      split w b p (inl e) = inr (p .0, e)
+      split w b p (inr o) = inl (p .0, p .1, p .2, by (bool-cases (test-bit left b)))
+        where
+          by : (test-bit left b ≡ true) ⊎ (test-bit left b ≡ false) → test-bit left b ≡ false
+          by (inl t) = absurd (both-ways (left-still left left′ a leaves b t o) (p .3))
+          by (inr t) = t
+
+  pub sown-end : (v map left : ℕ) {d d′ : List (List ℕ)} → left ≡ 0 → Seeded number (Sown v map left) d d′ → Seeded number (λ w a. (w ≡ v) × (a < 64) × (test-bit map a ≡ true)) d d′
+  sown-end v map left z A = seeded-as (λ w a p. (p .0, p .1, p .2)) (λ w a p. (p .0, p .1, p .2, ap (λ (x : ℕ). test-bit x a) z ∙ test-zero a)) A
+
+  -- The loop over the rows.
+  pub below-start : (sets : List ℕ) (d : List (List ℕ)) → Square (length d) d → Seeded number (Below sets 0) d d
+  below-start sets d S = seeded-none d S (λ w a p. omega (arith, p .0))
+
+  pub below-more : (sets : List ℕ) (v : ℕ) {d d′ d″ : List (List ℕ)} → Seeded number (Below sets v) d d′ → Seeded number (λ w a. (w ≡ v) × (a < 64) × (test-bit (getD sets v 0) a ≡ true)) d′ d″ → Seeded number (Below sets (v + 1)) d d″
+  below-more sets v A B =
+      seeded-both
+      (λ w a p. (omega (arith, p .0), p .1, p .2))
+      (λ w a p. (omega (arith, p .0), p .1, ap (λ (x : ℕ). row-bit sets x a) (p .0) ∙ p .2))
+      (λ w a p. split w a p (same-or-not w v))
+      A
+      B
+    where
+      split : (w a : ℕ) → Below sets (v + 1) w a → (w ≡ v) ⊎ (w ≢ v) → Below sets v w a ⊎ ((w ≡ v) × (a < 64) × (test-bit (getD sets v 0) a ≡ true))
+      split w a p (inl e) = inr (e, p .1, ap (λ (x : ℕ). row-bit sets x a) (sym e) ∙ p .2)
+      split w a p (inr o) = inl (omega (arith, p .0), p .1, p .2)
+
+-- Edges that begin no walk of any anchor that is not there.
+module _ (number : List ℕ) where
+  begun-none : {E : Graph} (d : List (List ℕ)) → Square (length d) d → ((e : Edge) → E e → (a : ℕ) → Leads a e → e .gain ≤ e .loss) → BegunAll E number d d
+  begun-none d S light =
+      record { square = S; each = λ width anchor N few k b. record { up = λ v. omega arith; begun = λ e m l h. omega (arith, light e m (anchor k) l); sound = λ t s below. below } }
+
+  pub begun-idle : (es : List ℕ) (d : List (List ℕ)) → Square (length d) d → Idle es (length es) → BegunAll (members (graph es)) number d d
+  begun-idle es d S idle =
+      begun-none d S (λ e m a l. let p = graph-place es e m in let z = idle (p .0) (p .1) (ap (λ (x : Edge). x .counted) (p .2) ∙ l .counts) in omega (arith, z, ap (λ (x : Edge). x .gain) (p .2)))
+
+  pub begun-uncounted : (e : Edge) (d : List (List ℕ)) → Square (length d) d → e .counted ≡ false → BegunAll (Only e) number d d
+  begun-uncounted e d S h = begun-none d S (λ x m a l. absurd (both-ways (l .counts) (ap (λ (y : Edge). y .counted) m ∙ h)))
+
+  pub begun-light : (e : Edge) (d : List (List ℕ)) → Square (length d) d → e .gain ≤ e .loss → BegunAll (Only e) number d d
+  begun-light e d S h = begun-none d S (λ x m a l. rw m h)
+
+  pub begun-source : (e : Edge) (d : List (List ℕ)) → Square (length d) d → e .from ≡ 0 → BegunAll (Only e) number d d
+  begun-source e d S h = begun-none d S (λ x m a l. absurd (l .not-source (sym (l .leaves) ∙ ap (λ (y : Edge). y .from) m ∙ h)))
+
+  -- A step without a column is no anchor.
+  pub begun-unnumbered : (e : Edge) (d : List (List ℕ)) → Square (length d) d → 64 ≤ getD number (e .from) 0 → BegunAll (Only e) number d d
+  begun-unnumbered e d S h =
+      record { square = S; each = λ width anchor N few k b. record { up = λ v. omega arith; begun = λ x m l c. absurd (omega (arith, N .there k b, ap (λ (y : ℕ). getD number y 0) (sym (l .leaves) ∙ ap (λ (y : Edge). y .from) m))); sound = λ t s below. below } }
+
+  -- One edge that leads: the cell at its end, in the column of its start, is raised.
+  module _ (e : Edge) (to k c : ℕ) (d d′ : List (List ℕ)) (p : to ≡ e .to) (counts : e .counted ≡ true) (apart : e .from ≢ 0) (low : e .from < 64) (is : k ≡ getD number (e .from) 0) (weighs : value c ≡ suc (e .gain - e .loss)) (R : Raised to k c d d′) where
+    module _ (width : ℕ) (anchor : ℕ → ℕ) (N : Numbers width number anchor) (j : ℕ) (b : j < width) where
+      other : j ≢ k → Begun (Only e) (anchor j) (column d j) (column d′ j)
+      other o =
+          record {
+            up = λ v. omega (arith, ap value (R .other v j (inr o)));
+            begun = λ x m l h. absurd (o (sym (N .there j b) ∙ ap (λ (y : ℕ). getD number y 0) (sym (l .leaves) ∙ ap (λ (y : Edge). y .from) m) ∙ sym is));
+            sound = λ t s below v. omega (arith, ap value (R .other v j (inr o)), below v);
+          }
+
+      own-anchor : j ≡ k → anchor j ≡ e .from
+      own-anchor h = ap anchor (h ∙ is) ∙ N .back (e .from) low (omega arith)
+
+      leads : j ≡ k → Leads (anchor j) e
+      leads h = record { not-source = λ z. apart (sym (own-anchor h) ∙ z); leaves = sym (own-anchor h); counts = counts }
+
+      up : j ≡ k → (v : ℕ) → (v ≡ to) ⊎ (v ≢ to) → column d j v ≤ column d′ j v
+      up h v (inl f) = rw (h, f) (omega (arith, R .here))
+      up h v (inr f) = omega (arith, ap value (R .other v j (inl f)))
+
+      sound : j ≡ k → (t : ℕ → ℕ) → ((x : Edge) → Only e x → Leads (anchor j) x → suc (x .gain - x .loss) ≤ t (x .to)) → ((v : ℕ) → column d j v ≤ t v) → (v : ℕ) → (v ≡ to) ⊎ (v ≢ to) → column d′ j v ≤ t v
+      sound h t s below v (inl f) =
+          rw f (omega (arith, s e refl (leads h), ap t p, below to, ap (λ (x : ℕ). column d x to) h, ap (λ (x : ℕ). column d′ x to) h, R .here))
+      sound h t s below v (inr f) = omega (arith, ap value (R .other v j (inl f)), below v)
+
+      own : j ≡ k → Begun (Only e) (anchor j) (column d j) (column d′ j)
+      own h =
+          record { up = λ v. up h v (same-or-not v to); begun = λ x m l q. rw (m, ← p) (omega (arith, R .here, ap (λ (y : ℕ). column d′ y to) h)); sound = λ t s below v. sound h t s below v (same-or-not v to) }
+
+      by : (j ≡ k) ⊎ (j ≢ k) → Begun (Only e) (anchor j) (column d j) (column d′ j)
+      by (inl h) = own h
+      by (inr h) = other h
+
+    pub begun-edge : BegunAll (Only e) number d d′
+    begun-edge = record { square = R .square; each = λ width anchor N few j b. by width anchor N j b (same-or-not j k) }
+
+  -- One graph and then another.
+  begun-both : {E F G : Graph} {d d′ d″ : List (List ℕ)} → E ⊑ G → F ⊑ G → ((e : Edge) → G e → E e ⊎ F e) → BegunAll E number d d′ → BegunAll F number d′ d″ → BegunAll G number d d″
+  begun-both {E} {F} {G} {d} {d′} {d″} i j split A B = record { square = square-then (A .square) (B .square); each = each }
+    where
+      each : (width : ℕ) (anchor : ℕ → ℕ) → Numbers width number anchor → width ≤ 64 → (k : ℕ) → k < width → Begun G (anchor k) (column d k) (column d″ k)
+      each width anchor N few k b =
+          let P = A .each width anchor N few k b in
+          let Q = B .each width anchor N few k b in
+          record { up = λ v. omega (arith, P .up v, Q .up v); begun = λ e m l h. by P Q e l h (split e m); sound = λ t s below. Q .sound t (λ e m l. s e (j e m) l) (P .sound t (λ e m l. s e (i e m) l) below) }
+        where
+          by : Begun E (anchor k) (column d k) (column d′ k) → Begun F (anchor k) (column d′ k) (column d″ k) → (e : Edge) → Leads (anchor k) e → 1 ≤ column d k (e .to) → E e ⊎ F e → suc (e .gain - e .loss) ≤ column d″ k (e .to)
+          by P Q e l h (inl m) = omega (arith, P .begun e m l h, Q .up (e .to))
+          by P Q e l h (inr m) = Q .begun e m l (omega (arith, P .up (e .to)))
+
+  -- The loop over a list: the words before place k.
+  pub begun-start : (es : List ℕ) (d : List (List ℕ)) → Square (length d) d → BegunAll (members (graph (take 0 es))) number d d
+  unfolding graph
+  begun-start es d S = begun-none d S (λ e m. absurd (List·Memᴰ·not-nil m))
+
+  pub begun-more : (es : List ℕ) (k : ℕ) {d d′ d″ : List (List ℕ)} → k < length es → BegunAll (members (graph (take k es))) number d d′ → BegunAll (Only (unpack (getD es k 0))) number d′ d″ → BegunAll (members (graph (take (k + 1) es))) number d d″
+  unfolding graph
+  begun-more es k h A B =
+      begun-both
+      (λ e m. rw grown (Memᴰ·append-left (unpack (getD es k 0) ∷ []) m))
+      (λ e m. rw grown (Memᴰ·append-right (graph (take k es)) (List·Memᴰ·head m)))
+      (λ e m. split e (rw grown at m))
+      A
+      B
+    where
+      grown : graph (take (k + 1) es) ≡ graph (take k es) ++ unpack (getD es k 0) ∷ []
+      grown = rw add-one (ap (map unpack) (take-suc es k 0 h) ∙ map-append unpack (take k es) (getD es k 0 ∷ []))
+
+      split-by : (e : Edge) → List·Memᴰ e (graph (take k es)) ⊎ List·Memᴰ e (unpack (getD es k 0) ∷ []) → List·Memᴰ e (graph (take k es)) ⊎ Only (unpack (getD es k 0)) e
+      split-by e (inl m) = inl m
+      split-by e (inr m) = inr (List·Memᴰ·eq-of-singleton m)
+
+      split : (e : Edge) → List·Memᴰ e (graph (take k es) ++ unpack (getD es k 0) ∷ []) → List·Memᴰ e (graph (take k es)) ⊎ Only (unpack (getD es k 0)) e
+      split e m = split-by e (List·Memᴰ·append-cases (graph (take k es)) m)
+
+  pub begun-end : (es : List ℕ) (k : ℕ) {d d′ : List (List ℕ)} → k ≤ length es → length es ≤ k → BegunAll (members (graph (take k es))) number d d′ → BegunAll (members (graph es)) number d d′
+  begun-end es k b h A =
+      let i : k ≡ length es = omega arith in
+      let t : take k es ≡ es = ap (λ (j : ℕ). take j es) i ∙ take-length es in
+      rw t at A
+
+-- The loop over the words: one more of them is idle where its gain is 0, if it is counted.
+pub idle-more : (es : List ℕ) (k gain : ℕ) → Idle es k → (unpack (getD es k 0) .counted ≡ true → gain ≡ unpack (getD es k 0) .gain) → gain ≡ 0 → Idle es (k + 1)
+idle-more es k gain idle is z j b = by (same-or-not j k)
+  where
+    by : (j ≡ k) ⊎ (j ≢ k) → unpack (getD es j 0) .counted ≡ true → unpack (getD es j 0) .gain ≡ 0
+    by (inl e) = rw e (λ c. sym (is c) ∙ z)
+    by (inr o) = idle j (omega arith)
+
+-- Seeds and then edges: an anchor's column begins with the walk of weight 0 where the anchor is a member, and with nothing elsewhere, as no other anchor has its number.
+module _
+    {E : Graph} {number : List ℕ} {width : ℕ} {d₀ d₁ d₂ : List (List ℕ)} (sets : List ℕ) (n all : ℕ) (empty : Empty d₀)
+    (union : (a : ℕ) → test-bit all a ≡ any-below (λ v. row-bit sets v a) n) (N : Numbered all width number)
+    (seeded : Seeded number (λ w a. (w < n) × (a < 64) × (row-bit sets w a ≡ true)) d₀ d₁) (begun : BegunAll E number d₁ d₂) where
+  listed : (v a : ℕ) → v < n → row-bit sets v a ≡ true → getD number a 0 < width
+  listed v a b h = N .listed a (union a ∙ any-below-by (λ w. row-bit sets w a) n b h)
+
+  module _ (k : ℕ) (b : k < width) where
+    abbrev a : ℕ
+    a = N .anchor k
+
+    numbered : getD number a 0 % 64 ≡ k
+    numbered = omega (arith, N .numbers .there k b, N .few)
+
+    one : (v : ℕ) → v < n → row-bit sets v a ≡ true → column d₁ k v ≡ 1
+    one v c h = ap (λ (x : ℕ). column d₁ x v) (sym numbered) ∙ ap value (seeded .here v a (c, N .numbers .inside k b, h)) ∙ value-weightless
+
+    -- The number of a member is its own.
+    alone : (v x : ℕ) → (v < n) × (x < 64) × (row-bit sets v x ≡ true) → getD number x 0 % 64 ≡ k → x ≡ a
+    alone v x p h =
+        let l = listed v x (p .0) (p .2) in
+        let e : getD number x 0 ≡ k = omega (arith, N .few) in
+        sym (N .numbers .back x (p .1) l) ∙ ap (N .anchor) e
+
+    nothing : (v : ℕ) → ¬ ((v < n) × (row-bit sets v a ≡ true)) → column d₁ k v ≡ 0
+    nothing v none =
+        ap value (seeded .other v k (λ x p h. none (p .0, ap (row-bit sets v) (sym (alone v x p h)) ∙ p .2)) ∙ empty .cells v k) ∙ value-empty
+
+    below : (t : ℕ → ℕ) → ((v : ℕ) → v < n → row-bit sets v a ≡ true → 1 ≤ t v) → (v : ℕ) → column d₁ k v ≤ t v
+    below t live v = by (decLt v n) (bool-cases (row-bit sets v a))
+      where
+        by : Dec (v < n) → (row-bit sets v a ≡ true) ⊎ (row-bit sets v a ≡ false) → column d₁ k v ≤ t v
+        by (yes c) (inl h) = omega (arith, one v c h, live v c h)
+        by (yes c) (inr h) = omega (arith, nothing v (λ p. both-ways (p .1) h))
+        by (no c) h = omega (arith, nothing v (λ p. c (p .0)))
+
+    begins : Begins E sets n (N .anchor k) (column d₂ k)
+    begins =
+        let B = begun .each width (N .anchor) (N .numbers) (N .few) k b in
+        record { live = λ v c h. omega (arith, one v c h, B .up v); begun = λ e m l c h. B .begun e m l (omega (arith, one (e .to) c h)); sound = λ t s live. B .sound t s (below t live) }
+
+  pub prepared : Prepared E sets n width number (length d₀) d₂
+  prepared = record { anchor = N .anchor; numbers = N .numbers; few = N .few; listed = listed; low = λ v a b c h. N .low a c (union a ∙ any-below-by (λ w. row-bit sets w a) n b h); square = square-then (seeded .square) (begun .square); columns = begins }

@@ -1,0 +1,90 @@
+-- Numbers of columns, and what a column begins with: at the members of its anchor's column of sets the walk of weight 0, and the weight of each counted edge out of the anchor that gains.
+use mathlib.Core.Path.{_≡_}
+use mathlib.Core.Bool.{true}
+use mathlib.Core.Logic.{_⊎_, _≢_}
+use mathlib.Core.List.{List}
+use Prim.Native.Nat.{ℕ, suc, _-_, _%_, _≤_, _<_, max}
+use lib.ListN.{length, getD}
+use Rattle.definitions.specs.Basics.{test-bit}
+use Rattle.definitions.specs.Limits.{most-steps}
+use Rattle.definitions.specs.Links.{Edge, Graph}
+use Rattle.data_edges.specs.Words.{EndsBelow, unpack}
+use Rattle.data_relations.specs.Rows.{row-bit}
+use Rattle.walk_cells.specs.Cells.{empty, value, weightless}
+use Rattle.walk_cells.specs.Tables.{Square, entry}
+use Rattle.walk_edge.specs.Columns.{Numbers, column}
+use Rattle.theory.specs.Sweeps.{Leads}
+
+-- No step has a number, and no cell a walk.
+pub record Blank (number : List ℕ) : Type 0 where
+  pub long : length number ≡ 64
+  pub none : (v : ℕ) → v < 64 → getD number v 0 ≡ 64
+
+pub record Empty (d : List (List ℕ)) : Type 0 where
+  pub square : Square (length d) d
+  pub cells : (v k : ℕ) → entry d v k ≡ empty
+
+-- Nothing of what is sown is there yet: an empty table with a row for each step below n and each end, and no numbers.
+pub record Seedable (n : ℕ) (es number : List ℕ) (d : List (List ℕ)) : Type 0 where
+  pub few : n ≤ most-steps
+  pub inside : n ≤ length d
+  pub ends : EndsBelow es (length d)
+  pub bare : Empty d
+  pub blank : Blank number
+
+-- A counted edge to a step that the table has a row for.
+pub record Leading (e : Edge) (d : List (List ℕ)) : Type 0 where
+  pub row : e .to < length d
+  pub square : Square (length d) d
+  pub counts : e .counted ≡ true
+
+-- The members of a map have numbers below the width, none above itself, and no other step has.
+pub record Numbered (all width : ℕ) (number : List ℕ) : Type 0 where
+  pub anchor : ℕ → ℕ
+  pub numbers : Numbers width number anchor
+  pub few : width ≤ 64
+  pub listed : (a : ℕ) → test-bit all a ≡ true → getD number a 0 < width
+  pub low : (a : ℕ) → a < 64 → test-bit all a ≡ true → getD number a 0 ≤ a
+
+-- One cell of a table becomes c where that says more; the others stay.
+pub record Raised (v k c : ℕ) (d d′ : List (List ℕ)) : Type 0 where
+  pub square : Square (length d) d′
+  pub here : value (entry d′ v k) ≡ max (value (entry d v k)) (value c)
+  pub other : (w j : ℕ) → (w ≢ v) ⊎ (j ≢ k) → entry d′ w j ≡ entry d w j
+
+-- The walk of weight 0 comes into the cells of the pairs P of a step and an anchor, and nothing into another.
+pub record Seeded (number : List ℕ) (P : ℕ → ℕ → Type 0) (d d′ : List (List ℕ)) : Type 0 where
+  pub square : Square (length d) d′
+  pub here : (v a : ℕ) → P v a → entry d′ v (getD number a 0 % 64) ≡ weightless
+  pub other : (v k : ℕ) → ((a : ℕ) → P v a → getD number a 0 % 64 ≢ k) → entry d′ v k ≡ entry d v k
+  pub either : (v k : ℕ) → (entry d′ v k ≡ weightless) ⊎ (entry d′ v k ≡ entry d v k)
+
+-- No counted edge of the first k words gains.
+abbrev pub Idle : List ℕ → ℕ → Type 0
+Idle es k = (j : ℕ) → j < k → unpack (getD es j 0) .counted ≡ true → unpack (getD es j 0) .gain ≡ 0
+
+-- The column of a has, where it has walks at all, what the edges of a graph begin its walks with, and no more.
+pub record Begun (E : Graph) (a : ℕ) (r s : ℕ → ℕ) : Type 0 where
+  pub up : (v : ℕ) → r v ≤ s v
+  pub begun : (e : Edge) → E e → Leads a e → 1 ≤ r (e .to) → suc (e .gain - e .loss) ≤ s (e .to)
+  pub sound : (t : ℕ → ℕ) → ((e : Edge) → E e → Leads a e → suc (e .gain - e .loss) ≤ t (e .to)) → ((v : ℕ) → r v ≤ t v) → (v : ℕ) → s v ≤ t v
+
+pub record BegunAll (E : Graph) (number : List ℕ) (d d′ : List (List ℕ)) : Type 0 where
+  pub square : Square (length d) d′
+  pub each : (width : ℕ) (anchor : ℕ → ℕ) → Numbers width number anchor → width ≤ 64 → (k : ℕ) → k < width → Begun E (anchor k) (column d k) (column d′ k)
+
+-- What the column s of anchor a begins with.
+pub record Begins (E : Graph) (sets : List ℕ) (n a : ℕ) (s : ℕ → ℕ) : Type 0 where
+  pub live : (v : ℕ) → v < n → row-bit sets v a ≡ true → 1 ≤ s v
+  pub begun : (e : Edge) → E e → Leads a e → e .to < n → row-bit sets (e .to) a ≡ true → suc (e .gain - e .loss) ≤ s (e .to)
+  pub sound : (t : ℕ → ℕ) → ((e : Edge) → E e → Leads a e → suc (e .gain - e .loss) ≤ t (e .to)) → ((v : ℕ) → v < n → row-bit sets v a ≡ true → 1 ≤ t v) → (v : ℕ) → s v ≤ t v
+
+-- A table of so many rows whose columns are numbered and begun.
+pub record Prepared (E : Graph) (sets : List ℕ) (n width : ℕ) (number : List ℕ) (rows : ℕ) (d : List (List ℕ)) : Type 0 where
+  pub anchor : ℕ → ℕ
+  pub numbers : Numbers width number anchor
+  pub few : width ≤ 64
+  pub listed : (v a : ℕ) → v < n → row-bit sets v a ≡ true → getD number a 0 < width
+  pub low : (v a : ℕ) → v < n → a < 64 → row-bit sets v a ≡ true → getD number a 0 ≤ a
+  pub square : Square rows d
+  pub columns : (k : ℕ) → k < width → Begins E sets n (anchor k) (column d k)

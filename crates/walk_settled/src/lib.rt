@@ -1,0 +1,95 @@
+// Whether start times are left: every edge, and every wait, has handed on in the source's column of the working table. See specs/Settled.antt.
+use data_edges::edge_from;
+use data_edges::edge_gain;
+use data_edges::edge_loss;
+use data_edges::edge_to;
+ghost use mathlib.Core.Path.{_≡_};
+ghost use mathlib.Core.List.{_++_};
+ghost use Prim.Native.Nat.{_<_, _≤_, min};
+ghost use lib.Dec.{leb};
+ghost use lib.ListN.{getD};
+ghost use Rattle.definitions.specs.Basics.{all, all-below};
+ghost use Rattle.definitions.specs.Rounds.{extend};
+ghost use Rattle.data_edges.specs.Serial.{Within, wait-edges};
+ghost use Rattle.data_edges.specs.Words.{graph, unpack};
+ghost use Rattle.walk_cells.specs.Cells.{largest};
+ghost use Rattle.walk_cells.specs.Tables.{Square, entry};
+ghost use Rattle.walk_settled.specs.Settled.{Fields, handed-on, waits-handed-on};
+
+// Whether an edge, by its fields, has handed on.
+fn handed(d: &[[u32; 64]; 64], from: usize, to: usize, gain: u64, loss: u64) -> bool
+    requires { ⌜ Fields from to gain (now d) ⌝ }
+    ensures { λ r. ⌜ r ≡ leb (min (extend (entry (now (d .entry)) from 0) gain loss) largest) (entry (now (d .entry)) to 0) ⌝ }
+{
+    let c = walk_cells::extended(d[from][0], gain, loss);
+    c <= d[to][0]
+}
+
+// Whether an edge, by its word, has.
+fn handed_word(d: &[[u32; 64]; 64], w: u64) -> bool
+    requires { ⌜ Square 64 (now d) ⌝ }
+    ensures { λ r. ⌜ r ≡ handed-on (now (d .entry)) (unpack w) ⌝ }
+{
+    let from = edge_from(w);
+    let to = edge_to(w);
+    let gain = edge_gain(w);
+    let loss = edge_loss(w);
+    handed(d, from, to, gain, loss)
+}
+
+// Whether every edge has.
+fn settled_edges(d: &[[u32; 64]; 64], es: &[u64]) -> bool
+    requires { ⌜ Square 64 (now d) ⌝ }
+    ensures { λ r. ⌜ r ≡ all (handed-on (now (d .entry))) (graph (now (es .entry))) ⌝ }
+{
+    let mut k = 0;
+    while k < es.len() {
+        if !handed_word(d, es[k]) {
+            return false;
+        }
+        k += 1;
+    }
+    true
+}
+
+// Whether every wait of step i has, by the map of what it waits for.
+fn settled_row(d: &[[u32; 64]; 64], map: u64, i: usize) -> bool
+    requires { ⌜ (i < 64) × Square 64 (now d) ⌝ }
+    ensures { λ r. ⌜ r ≡ waits-handed-on (now (d .entry)) map i ⌝ }
+{
+    let mut left = map;
+    while left != 0 {
+        let a = data_bits::lowest(left);
+        if !handed(d, a, i, 0, 0) {
+            return false;
+        }
+        left = data_bits::without_lowest(left);
+    }
+    true
+}
+
+// Whether every wait of the steps below n has.
+fn settled_waits(d: &[[u32; 64]; 64], maps: &[u64; 64], n: usize) -> bool
+    requires { ⌜ (n ≤ 64) × Square 64 (now d) ⌝ }
+    ensures { λ r. ⌜ r ≡ all-below (λ i. waits-handed-on (now (d .entry)) (getD (now (maps .entry)) i 0) i) n ⌝ }
+{
+    let mut i = 0;
+    while i < n {
+        if !settled_row(d, maps[i], i) {
+            return false;
+        }
+        i += 1;
+    }
+    true
+}
+
+// Whether every edge and every wait that maps hold has handed on.
+pub fn settled(d: &[[u32; 64]; 64], es: &[u64], maps: &[u64; 64], n: usize) -> bool
+    requires { ⌜ (n ≤ 64) × Square 64 (now d) ⌝ }
+    ensures { λ r. ⌜ (Within n (now (maps .entry)) → r ≡ all (handed-on (now (d .entry))) (graph (now (es .entry)) ++ wait-edges n (now (maps .entry)))) ⌝ }
+{
+    if !settled_edges(d, es) {
+        return false;
+    }
+    settled_waits(d, maps, n)
+}
