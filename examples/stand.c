@@ -2,15 +2,17 @@
  *
  *     tools/library && cc -std=c11 -I include examples/stand.c target/staticlib/libstandplan.a -o target/stand
  */
+#include <errno.h>
 #include <stdio.h>
 #include <stdlib.h>
+#include <string.h>
 
 #include "standplan.h"
 
-enum { MOST = 64, LONGEST = 4801 };
+enum { MOST = STANDPLAN_MAX_STEPS };
 
-static uint8_t sheet[LONGEST + 1]; /* a byte more than the longest sheet: what is longer is refused */
-static uint32_t table[MOST * MOST], list[MOST], starts[MOST];
+static uint8_t sheet[STANDPLAN_MAX_SHEET + 1]; /* a byte more than the longest sheet: what is longer is refused */
+static uint32_t table[STANDPLAN_MAX_TABLE], list[MOST], starts[MOST];
 static standplan_run run;
 
 static void print_steps(const char *before, uint64_t map) {
@@ -21,23 +23,35 @@ static void print_steps(const char *before, uint64_t map) {
             printf(" %d", v);
 }
 
+/* Hands on a verdict; a refusal ends the program: there is no answer then. */
+static uint32_t taken(uint32_t verdict) {
+    uint32_t refusal = standplan_refused(verdict);
+    if (refusal != 0) {
+        printf("refused %u\n", refusal);
+        fprintf(stderr, "stand: refused %u: %s\n", refusal, standplan_sentence(verdict));
+        exit(1);
+    }
+    return verdict;
+}
+
 int main(int argc, char **argv) {
-    FILE *file = argc == 3 ? fopen(argv[1], "rb") : NULL;
-    if (file == NULL) {
+    char *end = NULL;
+    errno = 0;
+    unsigned long ticks = argc == 3 ? strtoul(argv[2], &end, 10) : 0;
+    if (end == NULL || end == argv[2] || *end != '\0' || errno != 0 || ticks > UINT32_MAX) {
         fprintf(stderr, "usage: stand SHEET TICKS\n");
         return 2;
     }
-    size_t length = fread(sheet, 1, sizeof sheet, file);
+    FILE *file = fopen(argv[1], "rb");
+    size_t length = file != NULL ? fread(sheet, 1, sizeof sheet, file) : 0;
+    if (file == NULL || ferror(file)) {
+        fprintf(stderr, "%s: %s\n", argv[1], strerror(errno));
+        return 2;
+    }
     fclose(file);
-    uint32_t ticks = (uint32_t)strtoul(argv[2], NULL, 10);
 
     /* Judge, waits allowed. Planning and working out starts judge too; this call is for who wants the verdict alone. */
-    uint32_t verdict = standplan_judge(sheet, length, true);
-    if (verdict >= 256) {
-        printf("refused %u\n", verdict - 256); /* docs/REFUSALS.md */
-        return 1;
-    }
-    printf("verdict %u\n", verdict);
+    printf("verdict %u\n", taken(standplan_judge(sheet, length, true)));
 
     /* A sheet that was not refused can be read without a check: N, then the map of each step. Step 0 needs no bit among the open. */
     size_t n = sheet[0];
@@ -45,7 +59,7 @@ int main(int argc, char **argv) {
     for (size_t v = 0, at = 3; v < n; v++) {
         if (v != 0 && sheet[at] == 1) {
             open |= UINT64_C(1) << v;
-            list[v] = ticks;
+            list[v] = (uint32_t)ticks;
         }
         at += sheet[at] == 2 ? 3 : 1;
     }
@@ -53,7 +67,7 @@ int main(int argc, char **argv) {
     /* Waits. */
     uint64_t waits[MOST];
     uint32_t count;
-    standplan_waits(sheet, length, waits, &count);
+    taken(standplan_waits(sheet, length, waits, &count));
     printf("waits %u\n", count);
     for (size_t i = 0; i < n; i++)
         if (waits[i] != 0) {
@@ -63,7 +77,7 @@ int main(int argc, char **argv) {
         }
 
     /* Plan: row v names the steps that decide when step v starts. */
-    standplan_plan(sheet, length, true, table, MOST * MOST);
+    taken(standplan_plan(sheet, length, true, table, STANDPLAN_MAX_TABLE));
     for (size_t v = 0; v < n; v++) {
         const char *before = " the latest of";
         printf("step %zu starts at", v);
@@ -76,11 +90,7 @@ int main(int argc, char **argv) {
     }
 
     /* Start times, for durations that are known. */
-    verdict = standplan_starts(sheet, length, true, list, n, starts, n);
-    if (verdict >= 256) {
-        printf("refused %u\n", verdict - 256);
-        return 1;
-    }
+    taken(standplan_starts(sheet, length, true, list, n, starts, n));
     printf("start times");
     for (size_t v = 0; v < n; v++)
         printf(" %u", starts[v]);
@@ -88,21 +98,21 @@ int main(int argc, char **argv) {
 
     /* Run: here a step ends when it has lasted TICKS; at a stand, when somebody says so. */
     uint64_t all = UINT64_MAX >> (MOST - n), map;
-    standplan_begin(run.words, &run.tick, run.start, run.finish, &map, n, open, table, n * n);
+    taken(standplan_run_begin(&run, n, open, table, n * n, &map));
     print_steps("tick 0: starts", map);
     printf("\n");
-    while (run.words[2] != all) { /* words[2]: the steps that have started; words[3]: those that have finished */
+    while (run.words[STANDPLAN_STARTED] != all) {
         for (size_t v = 1; v < n; v++) {
-            uint64_t at_work = open & run.words[2] & ~run.words[3];
+            uint64_t at_work = open & run.words[STANDPLAN_STARTED] & ~run.words[STANDPLAN_FINISHED];
             if ((at_work >> v & 1) == 0 || run.tick - run.start[v] < ticks)
                 continue;
-            standplan_finish(run.words, &run.tick, run.start, run.finish, &map, v, table, n * n);
+            taken(standplan_run_finish(&run, v, table, n * n, &map));
             printf("tick %u: step %zu ends", run.tick, v);
             print_steps(", starts", map);
             printf("\n");
             v = 0; /* what has just started may end at this tick too */
         }
-        standplan_tick(run.words, &run.tick, run.start, run.finish, &map, table, n * n);
+        taken(standplan_run_tick(&run, table, n * n, &map));
         if (map != 0) {
             printf("tick %u:", run.tick);
             print_steps(" starts", map);

@@ -1,10 +1,19 @@
-/* The verified stand planner, for C. Link target/staticlib/libstandplan.a, which tools/library writes (x86-64 Linux).
+/* The verified stand planner, for C and C++ (x86-64 Linux). tools/library builds what it is linked with: libstandplan.a and libstandplan.so in
+ * target/staticlib; docs/GUIDE.md has the commands, examples/stand.c uses every call.
  *
- * A verdict is one number: 0, the sheet is sound; 1, it is sound with waits; 256 + k, it is refused by refusal k (docs/REFUSALS.md).
- * Every input is answered; no call allocates, keeps a pointer, or has a state of its own. On a refusal nothing that is lent changes.
+ * A call returns a verdict, one number: 0, the sheet is sound, or the call of the runner is done; 1, the sheet is sound with waits;
+ * 256 + k, refused by refusal k (docs/REFUSALS.md). Every input is answered. On a refusal nothing that is lent changes.
  *
  * Memory is lent by a pointer and a count of elements. A pointer is aligned and not null, also where the count is 0;
- * what a call writes to overlaps nothing else that it is lent. */
+ * what a call writes to overlaps nothing else that it is lent. No call allocates, keeps a pointer, or has a state of its own.
+ *
+ * Threads: calls are safe from several threads at once, unless one writes to memory that another has lent at that time. So a plan may be
+ * shared by any number of runs; a run is held by one thread at a time.
+ *
+ * Stack, measured on x86-64 Linux (docs/GUIDE.md has the command), at most: judge and waits 71 kB, plan and starts 73 kB, begin, tick and finish 3 kB.
+ * STANDPLAN_STACK bytes are enough for any call; the least stack that a thread may have (PTHREAD_STACK_MIN) is not.
+ *
+ * The functions that are declared are proved; what is written out in this header (static inline) is not: it hands on its arguments. */
 #ifndef STANDPLAN_H
 #define STANDPLAN_H
 
@@ -16,30 +25,109 @@
 extern "C" {
 #endif
 
+#define STANDPLAN_VERSION "1.3.0"
+#define STANDPLAN_VERSION_MAJOR 1
+#define STANDPLAN_VERSION_MINOR 3
+#define STANDPLAN_VERSION_PATCH 0
+
+/* The most that there can be: steps and link records of a sheet, bytes of a sheet, numbers of a plan, ticks in a list of durations. */
+#define STANDPLAN_MAX_STEPS 64
+#define STANDPLAN_MAX_RECORDS 512
+#define STANDPLAN_MAX_SHEET 4801
+#define STANDPLAN_MAX_TABLE 4096
+#define STANDPLAN_MAX_DURATION UINT32_C(16777215)
+
+/* Bytes of stack that are enough for any call. */
+#define STANDPLAN_STACK 81920
+
 /* The number in a plan where a step does not decide another. */
 #define STANDPLAN_UNDECIDED UINT32_C(4294967295)
 
+/* A verdict of 256 or more is a refusal. */
+#define STANDPLAN_REFUSED UINT32_C(256)
+
+/* The refusals, by number; in the order in which they are judged they stand in docs/REFUSALS.md. */
+enum standplan_refusal {
+    STANDPLAN_TRUNCATED = 1,
+    STANDPLAN_STEP_COUNT = 2,
+    STANDPLAN_RECORD_COUNT = 3,
+    STANDPLAN_BAD_MAP = 4,
+    STANDPLAN_BAD_PAIR = 5,
+    STANDPLAN_BAD_ORDER = 6,
+    STANDPLAN_TRAILING = 7,
+    STANDPLAN_CIRCLE = 8,
+    STANDPLAN_UNREACHED = 9,
+    STANDPLAN_NEVER_KEPT = 10,
+    STANDPLAN_NOT_ALWAYS_KEPT = 11,
+    STANDPLAN_WAITS_NEEDED = 12,
+    STANDPLAN_BAD_DURATION = 13,
+    STANDPLAN_TOO_SHORT = 14,
+    STANDPLAN_NOT_BEGUN = 15,
+    STANDPLAN_HAS_BEGUN = 16,
+    STANDPLAN_CANNOT_FINISH = 17,
+    STANDPLAN_CLOCK_END = 18,
+    STANDPLAN_LIMIT_WITHOUT_AFTER = 26,
+    STANDPLAN_WAITS_CLASH = 28
+};
+
+/* The compiler warns where what a call returned is not looked at: on a refusal there is no answer, and nothing that was lent has changed. */
+#ifdef __GNUC__
+#define STANDPLAN_CHECKED __attribute__((warn_unused_result))
+#else
+#define STANDPLAN_CHECKED
+#endif
+
+/* The number of the refusal that a call returned; 0 if it was none. */
+static inline uint32_t standplan_refused(uint32_t verdict) {
+    return verdict >= STANDPLAN_REFUSED ? verdict - STANDPLAN_REFUSED : 0;
+}
+
+/* What a call returned, as a sentence; for a refusal, that of docs/REFUSALS.md. Never null. */
+static inline const char *standplan_sentence(uint32_t verdict) {
+    switch (standplan_refused(verdict)) {
+    case 0: return "not refused";
+    case STANDPLAN_TRUNCATED: return "the bytes end before a field is complete";
+    case STANDPLAN_STEP_COUNT: return "N is 0 or above 64";
+    case STANDPLAN_RECORD_COUNT: return "R is above 512";
+    case STANDPLAN_BAD_MAP: return "a map that is not allowed or has an unknown bit";
+    case STANDPLAN_BAD_PAIR: return "i or j is N or more, or i = j";
+    case STANDPLAN_BAD_ORDER: return "the pair does not rise";
+    case STANDPLAN_TRAILING: return "bytes follow the last record";
+    case STANDPLAN_CIRCLE: return "forward links close a circle";
+    case STANDPLAN_UNREACHED: return "a step has no chain of forward links from step 0";
+    case STANDPLAN_NEVER_KEPT: return "with all open durations 0, no start times keep every link";
+    case STANDPLAN_NOT_ALWAYS_KEPT: return "for some list of durations no start times keep every link";
+    case STANDPLAN_WAITS_NEEDED: return "waits are needed and the caller did not allow them";
+    case STANDPLAN_BAD_DURATION: return "a duration is above 16,777,215, or is not 0 and belongs to step 0 or to a fixed step";
+    case STANDPLAN_TOO_SHORT: return "a lent table or list is too short";
+    case STANDPLAN_NOT_BEGUN: return "no run has begun, or the state's step count is not 1 to 64";
+    case STANDPLAN_HAS_BEGUN: return "Begin on a run that has begun";
+    case STANDPLAN_CANNOT_FINISH: return "Finish of a step that is not open, is 0, has not started, or has finished";
+    case STANDPLAN_CLOCK_END: return "Tick when the tick is 4,294,967,295";
+    case STANDPLAN_LIMIT_WITHOUT_AFTER: return "a link map with bit 4, at most from the finish, and without bit 0, after";
+    case STANDPLAN_WAITS_CLASH: return "the waits close a circle of forward links, or leave no start times with all open durations 0";
+    default: return "a number that no call returns";
+    }
+}
+
 /* Judges a sheet. allow_waits says whether waits are allowed. Refusals 1 to 12, 26 and 28. */
-uint32_t standplan_judge(const uint8_t *sheet, size_t sheet_len, bool allow_waits);
+STANDPLAN_CHECKED uint32_t standplan_judge(const uint8_t *sheet, size_t sheet_len, bool allow_waits);
 
 /* Lists the waits of a sheet: step i waits for step a where bit a of maps[i] stands; *count is their number. All 64 maps are written.
  * On a refusal, 1 to 11, 26 or 28, maps and count stay as lent. Refusal 12 is never given: whoever asks for waits allows them. */
-uint32_t standplan_waits(const uint8_t *sheet, size_t sheet_len, uint64_t maps[64], uint32_t *count);
+STANDPLAN_CHECKED uint32_t standplan_waits(const uint8_t *sheet, size_t sheet_len, uint64_t maps[64], uint32_t *count);
 
 /* Plans a sheet of N steps: the first N * N numbers of the table become its plan, row by row, and the rest stays as lent.
  * On a refusal, 1 to 12, 26, 28 or 14 (fewer than N * N numbers are lent), all stay as lent. */
-uint32_t standplan_plan(const uint8_t *sheet, size_t sheet_len, bool allow_waits, uint32_t *table, size_t table_len);
+STANDPLAN_CHECKED uint32_t standplan_plan(const uint8_t *sheet, size_t sheet_len, bool allow_waits, uint32_t *table, size_t table_len);
 
 /* Works out the start times of a sheet of N steps for a list of durations: the first N numbers of out become the starts, and the rest stays as lent.
  * On a refusal, 1 to 12, 26, 28, 13 (a duration that the list may not have) or 14 (list or out is shorter than N), all stay as lent. */
-uint32_t standplan_starts(const uint8_t *sheet, size_t sheet_len, bool allow_waits, const uint32_t *list, size_t list_len, uint32_t *out, size_t out_len);
+STANDPLAN_CHECKED uint32_t standplan_starts(const uint8_t *sheet, size_t sheet_len, bool allow_waits, const uint32_t *list, size_t list_len, uint32_t *out, size_t out_len);
 
-/* The runner. Its state is held by the caller, in memory of fixed size; standplan_run is one way to hold it.
+/* The runner. Its state is held by the caller, in memory of fixed size.
  * words: the step count, the map of open steps, the map of steps that have started, the map of those that have finished.
- * start and finish: the tick at which each step started and finished. All zeros is the state of no run; any other state is answered too.
- *
- * table is the plan of the sheet, as lent at each call. A call returns 0 and puts the map of the steps that it started into *map,
- * or returns 256 + k, a refusal: then *map and the state stay as lent. */
+ * start and finish: the tick at which each step started and finished. All zeros is the state of no run; any other state is answered too. */
 typedef struct standplan_run {
     uint64_t words[4];
     uint32_t tick;
@@ -47,14 +135,30 @@ typedef struct standplan_run {
     uint32_t finish[64];
 } standplan_run;
 
+/* The places in words. */
+enum { STANDPLAN_STEPS, STANDPLAN_OPEN, STANDPLAN_STARTED, STANDPLAN_FINISHED };
+
+/* table is the plan of the sheet, as lent at each call. A call returns 0 and puts the map of the steps that it started into *map,
+ * or returns 256 + k, a refusal: then *map and the state stay as lent.
+ * The state in parts: for those who hold it otherwise than as a standplan_run. */
+STANDPLAN_CHECKED uint32_t standplan_begin(uint64_t words[4], uint32_t *tick, uint32_t start[64], uint32_t finish[64], uint64_t *map, size_t n, uint64_t open, const uint32_t *table, size_t table_len);
+STANDPLAN_CHECKED uint32_t standplan_tick(uint64_t words[4], uint32_t *tick, uint32_t start[64], uint32_t finish[64], uint64_t *map, const uint32_t *table, size_t table_len);
+STANDPLAN_CHECKED uint32_t standplan_finish(uint64_t words[4], uint32_t *tick, uint32_t start[64], uint32_t finish[64], uint64_t *map, size_t s, const uint32_t *table, size_t table_len);
+
 /* Begins a run of n steps with the map of the open ones. Refusals 16 (a run has begun), 2 (n is not 1 to 64), 14 (the table is too short). */
-uint32_t standplan_begin(uint64_t words[4], uint32_t *tick, uint32_t start[64], uint32_t finish[64], uint64_t *map, size_t n, uint64_t open, const uint32_t *table, size_t table_len);
+STANDPLAN_CHECKED static inline uint32_t standplan_run_begin(standplan_run *run, size_t n, uint64_t open, const uint32_t *table, size_t table_len, uint64_t *map) {
+    return standplan_begin(run->words, &run->tick, run->start, run->finish, map, n, open, table, table_len);
+}
 
 /* The tick grows by one. Refusals 15 (no run has begun), 14, 18 (the clock's end). */
-uint32_t standplan_tick(uint64_t words[4], uint32_t *tick, uint32_t start[64], uint32_t finish[64], uint64_t *map, const uint32_t *table, size_t table_len);
+STANDPLAN_CHECKED static inline uint32_t standplan_run_tick(standplan_run *run, const uint32_t *table, size_t table_len, uint64_t *map) {
+    return standplan_tick(run->words, &run->tick, run->start, run->finish, map, table, table_len);
+}
 
 /* Open step s ends at this tick. Refusals 15, 14, 17 (s cannot finish now). */
-uint32_t standplan_finish(uint64_t words[4], uint32_t *tick, uint32_t start[64], uint32_t finish[64], uint64_t *map, size_t s, const uint32_t *table, size_t table_len);
+STANDPLAN_CHECKED static inline uint32_t standplan_run_finish(standplan_run *run, size_t s, const uint32_t *table, size_t table_len, uint64_t *map) {
+    return standplan_finish(run->words, &run->tick, run->start, run->finish, map, s, table, table_len);
+}
 
 #ifdef __cplusplus
 }

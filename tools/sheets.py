@@ -5,8 +5,11 @@ writer as a call of the library; it then takes the place of `to_bytes` (and alwa
 """
 from __future__ import annotations
 
+import os
 import re
+import sys
 from dataclasses import dataclass, field
+from functools import cache
 from pathlib import Path
 
 ROOT = Path(__file__).resolve().parent.parent
@@ -23,10 +26,14 @@ class Sheet:
     links: dict[tuple[int, int], dict[str, int | None]] = field(default_factory=dict)
     kept: set[int] = field(default_factory=set)                      # steps whose duration of 0 has a field in the bytes
     names: dict[int, str] = field(default_factory=dict)              # the comments behind steps; text alone has them
+    places: dict[tuple[int, int], str] = field(default_factory=dict)  # where each link stands: its line, or its record and byte
 
 
 class NoSheet(Exception):
-    """Bytes or a text that are no sheet; what is wrong, and where."""
+    """Bytes or a text that are no sheet; what is wrong, and where. Of bytes also the refusal's number, and a sentence that says it of these bytes."""
+
+    number: int = 0
+    sentence: str = ""
 
 
 def refusal(number: int) -> str:
@@ -38,63 +45,80 @@ def refusal(number: int) -> str:
 # ---------------------------------------------------------------- bytes
 
 class _Bytes:
-    """Bytes, read from the front."""
+    """Bytes, read from the front. `part` says what is being read."""
 
     def __init__(self, data: bytes) -> None:
-        self.data, self.at = data, 0
+        self.data, self.at, self.part = data, 0, "the counts of steps and records"
 
     def number(self, size: int) -> int:
         """A field of `size` bytes, low byte first."""
         if self.at + size > len(self.data):
-            raise self.fault(1, len(self.data))
+            raise self.fault(1, len(self.data), f"the sheet has {len(self.data)} bytes, and its end is inside {self.part}")
         self.at += size
         return int.from_bytes(self.data[self.at - size:self.at], "little")
 
-    def fault(self, number: int, place: int) -> NoSheet:
-        return NoSheet(f"byte {place}: {refusal(number)}")
+    def fault(self, number: int, place: int, sentence: str) -> NoSheet:
+        found = NoSheet(f"byte {place}: {refusal(number)}")
+        found.number, found.sentence = number, f"byte {place}: {sentence}"
+        return found
 
 
 def from_bytes(data: bytes) -> Sheet:
-    """The sheet that the bytes hold; NoSheet with refusals 1 to 7 and 26. Bytes are counted from 0."""
+    """The sheet that the bytes hold; NoSheet with refusals 1 to 7 and 26. Bytes and records are counted from 0."""
     source, sheet = _Bytes(data), Sheet()
     n = source.number(1)
     if not 1 <= n <= STEPS:
-        raise source.fault(2, 0)
+        raise source.fault(2, 0, f"N is {n}, and a sheet has 1 to {STEPS} steps")
     r = source.number(2)
     if r > RECORDS:
-        raise source.fault(3, 1)
+        raise source.fault(3, 1, f"R is {r}, and a sheet has at most {RECORDS} link records")
     for v in range(n):
+        source.part = f"the record of step {v}"
         bits = source.number(1)
         if bits > 2 or v == 0 and bits != 1:
-            raise source.fault(4, source.at - 1)
+            allowed = "01 (open), for it is the start" if v == 0 else "01 (open), 02 (fixed) or 00 (fixed, duration 0)"
+            raise source.fault(4, source.at - 1, f"the map of step {v} is {bits:02x}, and it can only be {allowed}")
         sheet.steps.append("open" if bits == 1 else source.number(2) if bits == 2 else 0)
         if bits == 2 and sheet.steps[v] == 0:
             sheet.kept.add(v)
     last = (-1, -1)
-    for _ in range(r):
+    for k in range(r):
+        source.part = f"link record {k} of {r}"
         place = source.at
         bits = source.number(1)
         if bits == 0 or bits & ~sum(BITS.values()):
-            raise source.fault(4, place)
+            wrong = "an empty map" if bits == 0 else "a bit that no link map has"
+            raise source.fault(4, place, f"the map of link record {k} is {bits:02x}, {wrong}")
         if bits & BITS[FROM_FINISH] and not bits & BITS[AFTER]:
-            raise source.fault(26, place)
+            raise source.fault(26, place, f"the map of link record {k} is {bits:02x}: bit 4, at most from the finish, without bit 0, after")
         i, j = pair = source.number(1), source.number(1)
         if i >= n or j >= n or i == j:
-            raise source.fault(5, place + 1 if i >= n else place + 2)
+            wrong = "from a step to itself" if i == j and i < n else f"and the steps are 0 to {n - 1}"
+            raise source.fault(5, place + 1 if i >= n else place + 2, f"link record {k} is for the pair {i}, {j}, {wrong}")
         if pair <= last:
-            raise source.fault(6, place + 1)
+            raise source.fault(6, place + 1, f"link record {k} is for the pair {i}, {j}, and record {k - 1} before it for {last[0]}, {last[1]}; pairs rise")
         sheet.links[pair] = {word: None if word == AFTER else source.number(2) for word, bit in BITS.items() if bits & bit}
+        sheet.places[pair] = f"record {k}, byte {place}"
         last = pair
     if source.at < len(data):
-        raise source.fault(7, source.at)
+        raise source.fault(7, source.at, f"the last record ends before it, and the sheet has {len(data)} bytes")
     return sheet
+
+
+def two(x: int) -> bytes:
+    return x.to_bytes(2, "little")
+
+
+@cache
+def _link_piece(pair: tuple[int, int], words: tuple[tuple[str, int | None], ...]) -> tuple[bytes, str]:
+    given = [(word, dict(words)[word]) for word in BITS if word in dict(words)]
+    fields = b"".join(two(x) for _, x in given if x is not None)
+    text = "".join(f" {word}" if x is None else f" {word} {x}" for word, x in given)
+    return bytes([sum(BITS[word] for word, _ in given), *pair]) + fields, f"link {pair[0]} {pair[1]}{text}"
 
 
 def pieces(sheet: Sheet) -> list[tuple[bytes, str]]:
     """The sheet piece by piece: its bytes, and its line of text. The first piece has the counts, and no line."""
-    def two(x: int) -> bytes:
-        return x.to_bytes(2, "little")
-
     found = [(bytes([len(sheet.steps)]) + two(len(sheet.links)), "")]
     for v, step in enumerate(sheet.steps):
         if step == "open":
@@ -103,12 +127,11 @@ def pieces(sheet: Sheet) -> list[tuple[bytes, str]]:
             found.append((b"\x02" + two(step), f"step {v} fixed {step}" + (" with-field" if not step else "")))
         else:
             found.append((b"\x00", f"step {v} fixed 0"))
-    for (i, j), words in sorted(sheet.links.items()):
-        given = [(word, words[word]) for word in BITS if word in words]
-        fields = b"".join(two(x) for _, x in given if x is not None)
-        text = "".join(f" {word}" if x is None else f" {word} {x}" for word, x in given)
-        found.append((bytes([sum(BITS[word] for word, _ in given), i, j]) + fields, f"link {i} {j}{text}"))
-    return found
+    return found + [link_piece(sheet, pair) for pair in sorted(sheet.links)]
+
+
+def link_piece(sheet: Sheet, pair: tuple[int, int]) -> tuple[bytes, str]:
+    return _link_piece(pair, tuple(sheet.links[pair].items()))
 
 
 def to_bytes(sheet: Sheet) -> bytes:
@@ -212,7 +235,7 @@ def from_text(data: bytes) -> Sheet:
                     raise NoSheet(f"the pair {pair[0]} {pair[1]} stands in line {links[pair]} already; all that is said of a pair stands in one line")
                 if len(links) == RECORDS:
                     raise NoSheet(f"a sheet has at most {RECORDS} links")
-                links[pair], sheet.links[pair] = line, given
+                links[pair], sheet.links[pair], sheet.places[pair] = line, given, f"line {line}"
             else:
                 raise NoSheet(f"'{words[0]}' is neither 'step' nor 'link'")
         # What only the whole text can tell.
@@ -231,7 +254,31 @@ def from_text(data: bytes) -> Sheet:
     return sheet
 
 
-def from_either(data: bytes) -> Sheet:
-    """A sheet from bytes, or from a text. No text is a sheet in bytes: the third byte of a sheet is at most 2."""
+def is_text(data: bytes) -> bool:
+    """Whether this begins as a text. No text is a sheet in bytes: the third byte of a sheet is at most 2."""
     first = data.removeprefix(b"\xef\xbb\xbf").lstrip()[:1]
-    return from_text(data) if first in (b"s", b"l", b"#") and data[2:3] > b"\x02" else from_bytes(data)
+    return first in (b"s", b"l", b"#") and data[2:3] > b"\x02"
+
+
+def from_either(data: bytes) -> Sheet:
+    """A sheet from bytes, or from a text."""
+    return from_text(data) if is_text(data) else from_bytes(data)
+
+
+# ---------------------------------------------------------------- what tools read and print
+
+def read(word: str) -> bytes:
+    """What a file holds, or standard input for "-"."""
+    with open(0 if word == "-" else word, "rb") as file:
+        return file.read()
+
+
+def put(tool: str, data: bytes) -> bool:
+    """Writes to standard output; where it is full or closed, a sentence on standard error, and False."""
+    try:
+        while data:
+            data = data[os.write(1, data):]
+    except OSError as fault:
+        print(f"{tool}: standard output cannot be written to: {fault.strerror}", file=sys.stderr)
+        return False
+    return True

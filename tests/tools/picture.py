@@ -1,6 +1,9 @@
 """tools/picture: start times are the library's, against stored answers of the reference planner; what is drawn is whole; what is refused gives no picture."""
 import importlib.machinery
 import importlib.util
+import os
+import re
+import shutil
 import subprocess
 import sys
 import tempfile
@@ -41,7 +44,8 @@ def drawn(svg):
     root = tree.fromstring(svg)
     texts = [(float(e.get("x")), float(e.get("y")), e.get("text-anchor"), e.text) for e in root.iterfind(".//{*}text")]
     bars = [e for e in root.iter() if e.tag.endswith(("rect", "path")) and (e.get("stroke") in (tool.FIXED, tool.OPEN))]
-    lines = {colour: [(float(e.get("x1")), float(e.get("x2"))) for e in root.iterfind(".//{*}line") if e.get("stroke") == colour and e.get("y1") == e.get("y2")][:-1]
+    lines = {colour: [(float(e.get("x1")), float(e.get("x2"))) for e in root.iterfind(".//{*}line") if e.get("stroke") == colour and e.get("y1") == e.get("y2")
+                      and e.get("stroke-dasharray") != "1 2"][:-1]
              for colour in (tool.LIMIT, tool.WAIT)}
     return float(root.get("width")), float(root.get("height")), texts, bars, lines
 
@@ -60,6 +64,45 @@ def left_of(bar):
 
 def same_places(found, wanted, what):
     assert len(found) == len(wanted) and all(abs(x - y) < 0.2 for pair, other in zip(found, wanted) for x, y in zip(pair, other)), f"{what}: {found}, not {wanted}"
+
+
+def whole(what, wide, high, texts):
+    """No text is cut, no label reaches into the plot, and no two texts of a line run into one another."""
+    sizes = [(x, y, anchor, text, tool.width(text, 13 if y < 40 else tool.SIZE) * 0.93) for x, y, anchor, text in texts]
+    for x, y, anchor, text, room in sizes:
+        right = x + room * {"start": 1, "middle": 0.5}.get(anchor, 0)
+        assert x >= 0 and right <= wide and y < high, f"{what}: {text} is cut"
+    left = min(x for x, _, anchor, _ in texts if anchor == "middle")
+    low = max(y for _, y, anchor, _ in texts if anchor == "middle")
+    assert all(x + room < left for x, y, anchor, text, room in sizes if anchor == "start" and x < left - 14 and 40 < y < low), what
+    spans = {}
+    for x, y, anchor, text, room in sizes:
+        begin = x - room * {"start": 0, "middle": 0.5, "end": 1}[anchor]
+        spans.setdefault(y, []).append((begin, begin + room, text))
+    for line in map(sorted, spans.values()):
+        for (_, end, text), (begin, _, other) in zip(line, line[1:]):
+            assert end <= begin, f"{what}: '{text}' and '{other}' collide"
+
+
+def linked(what, sheet, starts, ends, svg, x):
+    """With links each forward link is a path from the tick that it counts from, black exactly if it leaves no tick to spare; and so for limits."""
+    wide, high, texts, _, _ = drawn(svg)
+    whole(what, wide, high, texts)
+    root = tree.fromstring(svg)
+    paths = [(e.get("stroke"), float(re.match(r"M([\d.]+) ", e.get("d"))[1])) for e in root.iterfind(".//{*}path") if e.get("fill") == "none" and e.get("shape-rendering")]
+    wanted = []
+    for (i, j), words in sorted(sheet.links.items()):
+        if tool.AFTER in words:
+            wanted.append((tool.INK if ends[i] == starts[j] else tool.SPARE, x(ends[i])))
+        if tool.AT_LEAST in words:
+            wanted.append((tool.INK if starts[i] + words[tool.AT_LEAST] == starts[j] else tool.SPARE, x(starts[i])))
+    for colour in (tool.INK, tool.SPARE):
+        same_places([(place,) for stroke, place in paths if stroke == colour], [(place,) for stroke, place in wanted if stroke == colour], f"{what}: links")
+    check(len(paths), len(wanted), f"{what}: links")
+    bold = [text for e in root.iterfind(".//{*}text") if e.get("font-weight") == "bold" and (text := e.text).startswith("at most ")]
+    tight = [word for (i, j), words in sheet.links.items() for word, since in ((tool.AT_MOST, starts[i]), (tool.FROM_FINISH, ends[i]))
+             if word in words and since + words[word] == starts[j]]
+    check(len(bold), len(tight), f"{what}: limits without a tick to spare")
 
 
 def pictures():
@@ -103,22 +146,19 @@ def pictures():
                   for word, since in ((tool.AT_MOST, starts[i]), (tool.FROM_FINISH, ends[i])) if word in words]
         same_places(lines[tool.LIMIT], wanted, what)
         same_places(lines[tool.WAIT], [(x(min(ends[a] for a in each)), x(starts[i])) for i, each in enumerate(waits) if each], what)
-        for x, y, anchor, text in texts:
-            room = tool.LETTER * len(text) * {"start": 1, "middle": 0.5}.get(anchor, 0)
-            assert x >= 0 and x + room * 0.9 <= wide and y < high, f"{what}: {text} is cut"
-        # No label reaches into the plot.
-        left = min(float(x) for x, _, anchor, _ in texts if anchor == "middle")
-        assert all(x + 5.9 * len(text) < left for x, y, anchor, text in texts if anchor == "start" and x < left - 12 and 40 < y < high - 20), what
+        whole(what, wide, high, texts)
+        linked(what, sheet, starts, ends, tool.picture("a title", sheet, durations, waits, starts, True), x)
         seen += 1
     assert seen > 40 and refused > 40, (seen, refused)
     return seen, refused
 
 
-def command():
-    def ran(*words):
-        done = subprocess.run([TOOL, *words], capture_output=True, cwd="/")
-        return done.returncode, done.stdout, done.stderr.decode()
+def ran(*words, given=b""):
+    done = subprocess.run([TOOL, *words], capture_output=True, cwd="/", input=given)
+    return done.returncode, done.stdout, done.stderr.decode()
 
+
+def command():
     text, stand, kept = ROOT / "examples/stand.text", ROOT / "examples/stand.sheet", (ROOT / "examples/stand.svg").read_bytes()
     check(ran(text, "2=10"), (0, kept, ""), "examples/stand.svg is what tools/picture examples/stand.text 2=10 prints")
     status, svg, said = ran(stand, "2=10")
@@ -133,16 +173,97 @@ def command():
         check(ran(path), (1, b"", f"{path}: line 2: a step is 'open' or 'fixed' and its ticks\n"), "a text that is no sheet")
         path.write_bytes(b"A")
         check(ran(path), (1, b"", f"{path}: byte 0: refused 2: N is 0 or above 64\n"), "bytes that are no sheet")
-    for word in ("3=1", "2=16777216", "2=4294967296"):
-        status, printed, said = ran(stand, word)
+    for word in ("3=1", "2=16777216", "2=4294967296", "2=9999999999", "lamps=1"):
+        status, printed, said = ran(text, word)
         assert (status, printed) == (1, b"") and "refused 13: " in said, (word, said)
     check(ran(stand, "5=1"), (1, b"", f"{stand}: '5=1': the sheet has no step 5\n"), "no such step")
-    check(ran(stand, "2:1"), (1, b"", f"{stand}: '2:1' is not a step, '=' and its ticks\n"), "no duration")
+    for word in ("2:1", "2=", "=1", "2=x", "2=-1", "2=1.5", ""):
+        check(ran(stand, word), (1, b"", f"{stand}: '{word}' is not a step, '=' and its ticks\n"), "no duration")
     check(ran(ROOT / "tests"), (2, b"", f"{ROOT / 'tests'}: Is a directory\n"), "a directory")
     check(ran()[:2], (2, b""), "no words")
+    for words in (["--links"], ["--graph", "--links", stand], ["--graph", stand, "2=1"], ["--line", stand]):
+        status, printed, said = ran(*words)
+        assert (status, printed) == (2, b"") and "tools/picture [--links] SHEET" in said, (words, said)
+    check(ran("-", "hand=10", given=text.read_bytes())[1].replace(b"standard input", b"stand.text"), kept, "from standard input")
+    check(ran("-", given=b"A"), (1, b"", "standard input: byte 0: refused 2: N is 0 or above 64\n"), "no sheet from standard input")
+
+    # Steps by name.
+    check(ran(text, "hand=10"), (0, kept, ""), "a step by its name")
+    check(ran(text, " hand =10")[1], kept, "a name with room around it")
+    for words, said in ((("2=5", "2=6"), "'2=6': '2=5' says already how long step 2 lasts"), (("2=5", "hand=5"), "'hand=5': '2=5' says already how long step 2 lasts"),
+                        (("2=5", "02=5"), "'02=5': '2=5' says already how long step 2 lasts"), (("foot=1",), "'foot=1': no step has this name; open steps with a name: hand")):
+        check(ran(text, *words), (1, b"", f"{text}: {said}\n"), words)
+    check(ran(stand, "hand=1"), (1, b"", f"{stand}: 'hand=1': no step has this name; open steps with a name: none\n"), "bytes have no names")
+    twice = b"step 0 open\nstep 1 open # a=b\nstep 2 open # hand\nstep 3 open # hand\nlink 0 1 after\nlink 1 2 after\nlink 1 3 after\n"
+    check(ran("-", "hand=1", given=twice), (1, b"", "standard input: 'hand=1': steps 2, 3 have this name; give the number\n"), "a name twice")
+    check(b"7 to 8, open" in ran("-", "a=b=7", "3=1", given=twice)[1], True, "a name with a sign in it")
+
+    # What cannot be written is said.
+    if os.path.exists("/dev/full"):
+        for words in ([text], ["--graph", text], ["--help"]):
+            with open("/dev/full", "wb") as full:
+                done = subprocess.run([TOOL, *words], stdout=full, stderr=subprocess.PIPE)
+            check((done.returncode, done.stderr.decode()), (2, "tools/picture: standard output cannot be written: No space left on device\n"), "/dev/full")
+    reader, writer = os.pipe()
+    os.close(reader)
+    done = subprocess.run([TOOL, text], stdout=writer, stderr=subprocess.PIPE)
+    os.close(writer)
+    check((done.returncode, done.stderr.decode()), (2, "tools/picture: standard output cannot be written: Broken pipe\n"), "a closed pipe")
+    done = subprocess.run(["sh", "-c", 'exec "$0" "$1" >&-', TOOL, text], stderr=subprocess.PIPE)
+    check((done.returncode, done.stderr.decode()), (2, "tools/picture: standard output cannot be written: it is closed\n"), "no standard output")
+
+
+def of_64_steps():
+    """The stored sheet of 64 steps that is sound."""
+    return next(sheet for sheet, _, verdict, *_ in answers() if sheet[:1] == bytes([64]) and verdict == ["ok", "0"])
+
+
+def graphs():
+    """Each step, link and wait of a graph, by its own lines, and whether dot takes it, if dot is there. A sheet that is refused is drawn without waits."""
+    dot, count = shutil.which("dot"), 0
+    odd = b'step 0 open # a "quoted" \\ name\nstep 1 open # \\N\nlink 0 1 after\n'
+    refused = b"step 0 open\nstep 1 fixed 1\nstep 2 fixed 1\nlink 1 2 after\nlink 2 1 after at-least 3\n"
+    wanted = [("refused 8: forward links close a circle", 1, refused), ("sound", 0, odd)]
+    wanted += [("sound", 0, of_64_steps())] + [("sound with waits" if name == "hands" else "sound", 0, (ROOT / f"examples/{name}.text").read_bytes()) for name in ("stand", "hands", "exposure")]
+    for verdict, status, data in wanted:
+        found, printed, said = ran("--graph", "-", given=data)
+        check((found, said), (status, f"standard input: {verdict}\n" if status else ""), verdict)
+        sheet, text = sheets.from_either(data), printed.decode()
+        assert f"standard input: {verdict}\\n" in text, text
+        lines = text.splitlines()
+        links = sum(len(words) for words in sheet.links.values())
+        waits = 0 if status else sum(map(len, tool.waits_of(sheets.to_bytes(sheet), len(sheet.steps))[1]))
+        check(sum(bool(re.match(r"  \d+ \[label=", line)) for line in lines), len(sheet.steps), "steps of a graph")
+        check(sum(bool(re.match(r"  \d+ -> \d+", line)) for line in lines), links + waits, "links of a graph")
+        check(text.count('label="wait"'), waits, "waits of a graph")
+        if dot:
+            done = subprocess.run([dot, "-Tplain"], input=printed, capture_output=True)
+            check((done.returncode, done.stderr), (0, b""), f"dot: {text}")
+            if data is odd:
+                assert rb'"0 a \"quoted\" \\ name"' in done.stdout or b'a \\"quoted\\"' in done.stdout, done.stdout
+        count += 1
+    return f"{count} graphs" + ("" if dot else " (dot is not there: they were not drawn)")
+
+
+def largest():
+    """64 steps with every option, long names and long lists: well-formed, and whole."""
+    sheet = sheets.from_bytes(of_64_steps())
+    text = sheets.to_text(sheet).splitlines()
+    words = ("W" * 60, "MMMM <&> WWWW " * 6, "hand", "Gr\u00f6\u00dfe \u9732\u5149\u3059\u308b" * 9)
+    named = "".join(f"{line} # {words[at % 4]} {at}\n" if line.startswith("step") else f"{line}\n" for at, line in enumerate(text)).encode()
+    open_ = [v for v, step in enumerate(sheet.steps) if step == "open" and v]
+    for data in (sheets.to_bytes(sheet), named):
+        for options in ([], ["--links"]):
+            for ticks in (0, 7, 16777215):
+                status, svg, said = ran(*options, "-", *(f"{v}={ticks}" for v in open_), given=data)
+                check((status, said), (0, ""), "64 steps")
+                wide, high, texts, bars, _ = drawn(svg)
+                check(len(bars), 66, "64 bars, and two below")
+                whole(f"64 steps, {options}, {ticks}", wide, high, texts)
 
 
 if __name__ == "__main__":
     seen, refused = pictures()
     command()
-    print(f"{seen} stored lists drawn, {refused} refused")
+    largest()
+    print(f"{seen} stored lists drawn, with links too, {refused} refused; {graphs()}")

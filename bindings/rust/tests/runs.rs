@@ -1,8 +1,8 @@
-//! Runs, state by state, against those of the reference planner's runner, stored in data/runs.txt by store.py.
-use standplan::{Run, Started};
+//! Runs, state by state, against those of the reference planner's runner, stored by tests/rust/store.py.
+use standplan::{Refusal, Run, Started};
 use std::collections::BTreeSet;
 
-const STORED: &str = include_str!("../data/runs.txt");
+const STORED: &str = include_str!("../../../tests/rust/data/runs.txt");
 
 fn number<T: std::str::FromStr>(word: &str) -> T {
     word.parse().unwrap_or_else(|_| panic!("no number: {word}"))
@@ -33,7 +33,7 @@ fn run_of(fields: &[Vec<&str>]) -> Run {
 fn answer_of(words: &[&str]) -> Started {
     match words {
         ["ok", map] => Ok(number(map)),
-        ["refused", k] => Err(number(k)),
+        ["refused", k] => Err(Refusal::from_number(number(k)).unwrap()),
         _ => panic!("no answer: {words:?}"),
     }
 }

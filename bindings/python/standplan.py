@@ -1,0 +1,228 @@
+"""The verified stand planner, for Python: thin calls of its library (include/standplan.h has the same for C).
+
+    import standplan
+    sheet = open("examples/stand.sheet", "rb").read()
+    standplan.judge(sheet, True)                        # 0, SOUND
+    plan = standplan.plan(sheet, True)
+    plan.deciding(3)                                    # {0: 1, 2: 0}: step 3 starts 1 tick after step 0 ends or 0 after step 2 does, the later
+    standplan.starts(sheet, True, [0, 0, 10, 0, 0])     # [0, 0, 0, 10, 12]
+    run = standplan.Run(plan)
+    run.begin({2})                                      # [0, 1, 2]: these steps start now; step 2 is open
+    run.tick()                                          # []
+    run.finish(2)                                       # [3]
+
+`allow` says whether waits are allowed. What is refused raises Refused, with its number and sentence (docs/REFUSALS.md), and changes nothing.
+The functions of the library are proved; this module is not: it lends them memory.
+
+The shared object is the one that the variable STANDPLAN_LIBRARY names, else that of this repository, which the command tools/library builds,
+else the one that the system finds (tools/library --install PREFIX). It is loaded at the first call.
+"""
+from __future__ import annotations
+
+import ctypes
+import os
+from collections.abc import Iterable, Sequence
+from functools import cache
+from pathlib import Path
+
+__version__ = "1.3.0"
+__all__ = ["SOUND", "SOUND_WITH_WAITS", "UNDECIDED", "MAX_STEPS", "MAX_RECORDS", "MAX_SHEET", "MAX_TABLE", "MAX_DURATION", "STACK", "SENTENCES",
+           "Refused", "NoLibrary", "Plan", "Run", "judge", "waits", "plan", "starts"]
+
+SOUND, SOUND_WITH_WAITS = 0, 1                          # the verdicts
+UNDECIDED = 4294967295                                  # the number in a plan where a step does not decide another
+MAX_STEPS, MAX_RECORDS, MAX_SHEET, MAX_TABLE, MAX_DURATION = 64, 512, 4801, 4096, 16777215
+STACK = 81920                                           # bytes of stack that are enough for any call
+
+SENTENCES = {
+    1: "the bytes end before a field is complete",
+    2: "N is 0 or above 64",
+    3: "R is above 512",
+    4: "a map that is not allowed or has an unknown bit",
+    5: "i or j is N or more, or i = j",
+    6: "the pair does not rise",
+    7: "bytes follow the last record",
+    8: "forward links close a circle",
+    9: "a step has no chain of forward links from step 0",
+    10: "with all open durations 0, no start times keep every link",
+    11: "for some list of durations no start times keep every link",
+    12: "waits are needed and the caller did not allow them",
+    13: "a duration is above 16,777,215, or is not 0 and belongs to step 0 or to a fixed step",
+    14: "a lent table or list is too short",
+    15: "no run has begun, or the state's step count is not 1 to 64",
+    16: "Begin on a run that has begun",
+    17: "Finish of a step that is not open, is 0, has not started, or has finished",
+    18: "Tick when the tick is 4,294,967,295",
+    26: "a link map with bit 4, at most from the finish, and without bit 0, after",
+    28: "the waits close a circle of forward links, or leave no start times with all open durations 0",
+}
+
+
+class Refused(Exception):
+    """A call was refused: its number, and the sentence of it."""
+
+    def __init__(self, number: int, sentence: str) -> None:
+        super().__init__(number, sentence)
+        self.number, self.sentence = number, sentence
+
+    def __str__(self) -> str:
+        return f"refused {self.number}: {self.sentence}"
+
+
+class NoLibrary(OSError):
+    """The shared object could not be loaded; the text says what builds it."""
+
+
+# ---------------------------------------------------------------- the library
+
+_U8, _U32, _U64, _SIZE = ctypes.c_char_p, ctypes.POINTER(ctypes.c_uint32), ctypes.POINTER(ctypes.c_uint64), ctypes.c_size_t
+_SHEET, _STATE = [_U8, _SIZE], [_U64, _U32, _U32, _U32, _U64]
+_CALLS = {
+    "judge": [*_SHEET, ctypes.c_bool],
+    "waits": [*_SHEET, _U64, _U32],
+    "plan": [*_SHEET, ctypes.c_bool, _U32, _SIZE],
+    "starts": [*_SHEET, ctypes.c_bool, _U32, _SIZE, _U32, _SIZE],
+    "begin": [*_STATE, _SIZE, ctypes.c_uint64, _U32, _SIZE],
+    "tick": [*_STATE, _U32, _SIZE],
+    "finish": [*_STATE, _SIZE, _U32, _SIZE],
+}
+
+
+@cache
+def _library() -> ctypes.CDLL:
+    """The shared object, with the types of its calls."""
+    built = Path(__file__).resolve().parent.parent.parent / "target/staticlib/libstandplan.so"
+    named = os.environ.get("STANDPLAN_LIBRARY")
+    place = named or (str(built) if built.exists() else f"libstandplan.so.{__version__.partition('.')[0]}")
+    try:
+        library = ctypes.CDLL(place)
+        for name, types in _CALLS.items():
+            call = getattr(library, f"standplan_{name}")
+            call.argtypes, call.restype = types, ctypes.c_uint32
+    except (OSError, AttributeError) as fault:
+        if named or built.exists():
+            raise NoLibrary(f"{place} is not the library of the planner: {fault}") from None
+        raise NoLibrary(f"the library of the planner is not built: there is no {built}; the command tools/library builds it, or STANDPLAN_LIBRARY names one") from None
+    return library
+
+
+def _called(name: str, *arguments) -> int:
+    """What a call returns; Refused where that is a refusal."""
+    verdict = getattr(_library(), f"standplan_{name}")(*arguments)
+    if verdict >= 256:
+        raise Refused(verdict - 256, SENTENCES.get(verdict - 256, "a number that this module does not know"))
+    return verdict
+
+
+def _lent(sheet: bytes) -> tuple[bytes, int]:
+    data = bytes(memoryview(sheet))                     # what is not bytes raises TypeError
+    return data, len(data)
+
+
+def _number(number: int, bits: int) -> int:
+    """A number as one of so many bits. A larger one is lent as the largest, which the library does not take either, for a duration or a step."""
+    if number < 0:
+        raise ValueError(f"{number} is below 0")
+    return min(number, (1 << bits) - 1)
+
+
+def _numbers(numbers: Iterable[int]) -> ctypes.Array:
+    given = [_number(number, 32) for number in numbers]
+    return (ctypes.c_uint32 * len(given))(*given)
+
+
+def _steps(map_: int) -> list[int]:
+    return [v for v in range(64) if map_ >> v & 1]
+
+
+# ---------------------------------------------------------------- the planner
+
+def judge(sheet: bytes, allow: bool) -> int:
+    """Judges a sheet: SOUND or SOUND_WITH_WAITS. Refusals 1 to 12, 26 and 28."""
+    return _called("judge", *_lent(sheet), allow)
+
+
+def waits(sheet: bytes) -> list[tuple[int, int]]:
+    """The waits of a sheet: pairs (a, i), step i waits for the end of step a, by a, then by i. Refusals 1 to 11, 26 and 28."""
+    maps, count = (ctypes.c_uint64 * 64)(), ctypes.c_uint32()
+    _called("waits", *_lent(sheet), maps, ctypes.byref(count))
+    return sorted((a, i) for i, map_ in enumerate(maps) for a in _steps(map_))
+
+
+class Plan:
+    """The plan of a sheet of n steps: n times n numbers, row by row. `plan` makes one; a run is lent it."""
+
+    def __init__(self, n: int, table: Iterable[int], verdict: int = SOUND) -> None:
+        self.n, self.table, self.verdict = n, _numbers(table), verdict
+
+    def deciding(self, v: int) -> dict[int, int]:
+        """The steps that decide when step v starts, each with its offset: v starts at the latest of their ends, each plus its offset."""
+        if not 0 <= v < self.n:
+            raise IndexError(f"the plan has {self.n} steps")
+        row = self.table[v * self.n:(v + 1) * self.n]
+        return {a: offset for a, offset in enumerate(row) if offset != UNDECIDED}
+
+
+def plan(sheet: bytes, allow: bool) -> Plan:
+    """Plans a sheet. Refusals 1 to 12, 26 and 28."""
+    data, size = _lent(sheet)
+    table = (ctypes.c_uint32 * MAX_TABLE)()
+    verdict = _called("plan", data, size, allow, table, MAX_TABLE)
+    n = data[0]
+    return Plan(n, table[:n * n], verdict)
+
+
+def starts(sheet: bytes, allow: bool, durations: Sequence[int]) -> list[int]:
+    """The start times of a sheet for a list of durations, one for each step, 0 for step 0 and for fixed steps. Refusals 1 to 14, 26 and 28."""
+    data, size = _lent(sheet)
+    given, out = _numbers(durations), (ctypes.c_uint32 * MAX_STEPS)()
+    _called("starts", data, size, allow, given, len(given), out, MAX_STEPS)
+    return out[:data[0]]
+
+
+# ---------------------------------------------------------------- the runner
+
+class Run:
+    """A run of a plan. Its calls return the steps that start now. The state is that of the library's runner."""
+
+    def __init__(self, plan: Plan) -> None:
+        self.plan = plan
+        self._words, self._tick = (ctypes.c_uint64 * 4)(), ctypes.c_uint32()
+        self._start, self._finish = (ctypes.c_uint32 * 64)(), (ctypes.c_uint32 * 64)()
+
+    def _call(self, name: str, *arguments: int) -> list[int]:
+        map_, table = ctypes.c_uint64(), self.plan.table
+        _called(name, self._words, ctypes.byref(self._tick), self._start, self._finish, ctypes.byref(map_), *arguments, table, len(table))
+        return _steps(map_.value)
+
+    def begin(self, open_steps: Iterable[int]) -> list[int]:
+        """Begins the run; open_steps are the open steps of the sheet (step 0 need not be among them). Refusals 16, 2, 14."""
+        map_ = 0
+        for v in open_steps:
+            if not 0 <= v < 64:
+                raise ValueError(f"no step has the number {v}")
+            map_ |= 1 << v
+        return self._call("begin", _number(self.plan.n, 64), map_)
+
+    def tick(self) -> list[int]:
+        """The tick grows by one. Refusals 15, 14, 18."""
+        return self._call("tick")
+
+    def finish(self, step: int) -> list[int]:
+        """An open step ends at this tick. Refusals 15, 14, 17."""
+        return self._call("finish", _number(step, 64))
+
+    @property
+    def now(self) -> int:
+        """The tick."""
+        return self._tick.value
+
+    @property
+    def started(self) -> dict[int, int]:
+        """The steps that have started, each with its tick."""
+        return {v: self._start[v] for v in _steps(self._words[2])}
+
+    @property
+    def finished(self) -> dict[int, int]:
+        """The open steps that have finished, and step 0, each with its tick."""
+        return {v: self._finish[v] for v in _steps(self._words[3])}

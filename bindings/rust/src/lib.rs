@@ -1,0 +1,402 @@
+//! Safe calls of the verified stand planner (include/standplan.h has the same for C).
+//!
+//! The functions behind these calls are proved; this crate is not: it lends them memory and names what they return.
+//! Every input is answered. No call has a state of its own, so calls are safe from several threads; [`STACK`] bytes of stack are enough for any.
+//! Sheets, plans and verdicts are explained in the repository's docs/GUIDE.md, refusals in docs/REFUSALS.md.
+//!
+//! The library has to be built before this crate: `tools/library` in the repository's root, or `tools/library --install PREFIX` and then
+//! STANDPLAN_LIB_DIR=PREFIX/lib for cargo.
+//!
+//! ```
+//! // Step 1 is open and follows step 0; step 2 is open, follows step 1, and starts at most 9 ticks after step 1 ends.
+//! let sheet = [3, 2, 0, 1, 1, 1, 1, 0, 1, 0x11, 1, 2, 9, 0];
+//! let plan = standplan::plan(&sheet, true)?;
+//! assert_eq!(plan.offset(2, 1), Some(0)); // step 2 starts 0 ticks after step 1 ends
+//! assert_eq!(standplan::starts(&sheet, true, &[0, 40, 0])?, [0, 0, 40]);
+//!
+//! let mut run = standplan::Run::new();
+//! assert_eq!(run.begin(3, 0b110, &plan.table)?, 0b011); // steps 0 and 1 start
+//! run.tick(&plan.table)?;
+//! assert_eq!(run.finish(1, &plan.table)?, 0b100); // step 1 has ended, step 2 starts
+//! assert_eq!(run.finish(1, &plan.table), Err(standplan::Refusal::CannotFinish));
+//! # Ok::<(), standplan::Refusal>(())
+//! ```
+#![warn(missing_docs)]
+
+use std::{error, fmt};
+
+mod raw {
+    extern "C" {
+        pub fn standplan_judge(sheet: *const u8, sheet_len: usize, allow: bool) -> u32;
+        pub fn standplan_waits(
+            sheet: *const u8,
+            sheet_len: usize,
+            maps: *mut [u64; 64],
+            count: *mut u32,
+        ) -> u32;
+        pub fn standplan_plan(
+            sheet: *const u8,
+            sheet_len: usize,
+            allow: bool,
+            table: *mut u32,
+            table_len: usize,
+        ) -> u32;
+        pub fn standplan_starts(
+            sheet: *const u8,
+            sheet_len: usize,
+            allow: bool,
+            list: *const u32,
+            list_len: usize,
+            out: *mut u32,
+            out_len: usize,
+        ) -> u32;
+        pub fn standplan_begin(
+            words: *mut [u64; 4],
+            tick: *mut u32,
+            start: *mut [u32; 64],
+            finish: *mut [u32; 64],
+            map: *mut u64,
+            n: usize,
+            open: u64,
+            table: *const u32,
+            table_len: usize,
+        ) -> u32;
+        pub fn standplan_tick(
+            words: *mut [u64; 4],
+            tick: *mut u32,
+            start: *mut [u32; 64],
+            finish: *mut [u32; 64],
+            map: *mut u64,
+            table: *const u32,
+            table_len: usize,
+        ) -> u32;
+        pub fn standplan_finish(
+            words: *mut [u64; 4],
+            tick: *mut u32,
+            start: *mut [u32; 64],
+            finish: *mut [u32; 64],
+            map: *mut u64,
+            s: usize,
+            table: *const u32,
+            table_len: usize,
+        ) -> u32;
+    }
+}
+
+/// The number in a plan where a step does not decide another.
+pub const UNDECIDED: u32 = 4_294_967_295;
+/// The most steps of a sheet.
+pub const MAX_STEPS: usize = 64;
+/// The most link records of a sheet.
+pub const MAX_RECORDS: usize = 512;
+/// The bytes of the longest sheet.
+pub const MAX_SHEET: usize = 4801;
+/// The numbers of the largest plan.
+pub const MAX_TABLE: usize = 4096;
+/// The most ticks of a step in a list of durations.
+pub const MAX_DURATION: u32 = 16_777_215;
+/// Bytes of stack that are enough for any call, measured on x86-64 Linux.
+pub const STACK: usize = 81920;
+
+/// What the planner says of a sheet that it does not refuse.
+#[must_use]
+#[derive(Clone, Copy, Debug, PartialEq, Eq, Hash)]
+pub enum Verdict {
+    /// Verdict 0: the sheet is sound.
+    Sound,
+    /// Verdict 1: it is sound with the waits that [`waits`] lists.
+    SoundWithWaits,
+}
+
+impl Verdict {
+    /// 0 or 1, as the program prints it.
+    pub const fn number(self) -> u32 {
+        match self {
+            Verdict::Sound => 0,
+            Verdict::SoundWithWaits => 1,
+        }
+    }
+
+    fn from_code(code: u32) -> Result<Verdict, Refusal> {
+        match code {
+            0 => Ok(Verdict::Sound),
+            1 => Ok(Verdict::SoundWithWaits),
+            _ => Err(Refusal::from_code(code)),
+        }
+    }
+}
+
+macro_rules! refusals {
+    ($($number:literal $name:ident $sentence:literal)*) => {
+        /// Why a call was refused: docs/REFUSALS.md, whose sentences these are. On a refusal nothing that was lent has changed.
+        #[must_use]
+        #[non_exhaustive]
+        #[derive(Clone, Copy, Debug, PartialEq, Eq, PartialOrd, Ord, Hash)]
+        pub enum Refusal {
+            $(#[doc = concat!(stringify!($number), ": ", $sentence, ".")] $name = $number,)*
+        }
+
+        impl Refusal {
+            /// All refusals, by number.
+            pub const ALL: &'static [Refusal] = &[$(Refusal::$name),*];
+
+            /// Its sentence.
+            pub const fn sentence(self) -> &'static str {
+                match self {
+                    $(Refusal::$name => $sentence,)*
+                }
+            }
+        }
+    };
+}
+
+refusals! {
+    1 Truncated "the bytes end before a field is complete"
+    2 StepCount "N is 0 or above 64"
+    3 RecordCount "R is above 512"
+    4 BadMap "a map that is not allowed or has an unknown bit"
+    5 BadPair "i or j is N or more, or i = j"
+    6 BadOrder "the pair does not rise"
+    7 Trailing "bytes follow the last record"
+    8 Circle "forward links close a circle"
+    9 Unreached "a step has no chain of forward links from step 0"
+    10 NeverKept "with all open durations 0, no start times keep every link"
+    11 NotAlwaysKept "for some list of durations no start times keep every link"
+    12 WaitsNeeded "waits are needed and the caller did not allow them"
+    13 BadDuration "a duration is above 16,777,215, or is not 0 and belongs to step 0 or to a fixed step"
+    14 TooShort "a lent table or list is too short"
+    15 NotBegun "no run has begun, or the state's step count is not 1 to 64"
+    16 HasBegun "Begin on a run that has begun"
+    17 CannotFinish "Finish of a step that is not open, is 0, has not started, or has finished"
+    18 ClockEnd "Tick when the tick is 4,294,967,295"
+    26 LimitWithoutAfter "a link map with bit 4, at most from the finish, and without bit 0, after"
+    28 WaitsClash "the waits close a circle of forward links, or leave no start times with all open durations 0"
+}
+
+impl Refusal {
+    /// Its number.
+    pub const fn number(self) -> u32 {
+        self as u32
+    }
+
+    /// The refusal of a number, if there is one.
+    pub fn from_number(number: u32) -> Option<Refusal> {
+        Refusal::ALL.iter().copied().find(|refusal| refusal.number() == number)
+    }
+
+    fn from_code(code: u32) -> Refusal {
+        code.checked_sub(256)
+            .and_then(Refusal::from_number)
+            .unwrap_or_else(|| panic!("the library returned {code}: it is not the one that this crate was written for"))
+    }
+}
+
+impl fmt::Display for Refusal {
+    fn fmt(&self, f: &mut fmt::Formatter<'_>) -> fmt::Result {
+        write!(f, "refused {}: {}", self.number(), self.sentence())
+    }
+}
+
+impl error::Error for Refusal {}
+
+/// The waits of a sheet.
+#[must_use]
+#[derive(Clone, Debug, PartialEq, Eq)]
+pub struct Waits {
+    /// What the planner says of the sheet.
+    pub verdict: Verdict,
+    /// Step i waits for the end of step a where bit a of map i stands.
+    pub maps: [u64; 64],
+    /// How many there are.
+    pub count: u32,
+}
+
+/// The plan of a sheet of n steps.
+#[must_use]
+#[derive(Clone, Debug, PartialEq, Eq)]
+pub struct Plan {
+    /// What the planner says of the sheet.
+    pub verdict: Verdict,
+    /// The number of steps.
+    pub n: usize,
+    /// n × n numbers, row by row, as a [`Run`] is lent them: an offset, or [`UNDECIDED`].
+    pub table: Vec<u32>,
+}
+
+impl Plan {
+    /// The offset of step v from the end of step a; none where a does not decide v. Both are steps of the sheet.
+    pub fn offset(&self, v: usize, a: usize) -> Option<u32> {
+        assert!(v < self.n && a < self.n, "the plan has {} steps", self.n);
+        Some(self.table[v * self.n + a]).filter(|&offset| offset != UNDECIDED)
+    }
+
+    /// The steps that decide when step v starts, each with its offset: v starts at the latest of their ends, each plus its offset.
+    pub fn deciding(&self, v: usize) -> impl Iterator<Item = (usize, u32)> + '_ {
+        (0..self.n).filter_map(move |a| self.offset(v, a).map(|offset| (a, offset)))
+    }
+}
+
+/// The number of steps, for a sheet that is not refused.
+fn steps(sheet: &[u8]) -> usize {
+    sheet.first().map_or(0, |&n| usize::from(n).min(MAX_STEPS))
+}
+
+/// Judges a sheet. `allow` says whether waits are allowed. Refusals 1 to 12, 26 and 28.
+pub fn judge(sheet: &[u8], allow: bool) -> Result<Verdict, Refusal> {
+    Verdict::from_code(unsafe { raw::standplan_judge(sheet.as_ptr(), sheet.len(), allow) })
+}
+
+/// Lists the waits of a sheet. Refusals 1 to 11, 26 and 28: whoever asks for waits allows them.
+pub fn waits(sheet: &[u8]) -> Result<Waits, Refusal> {
+    let (mut maps, mut count) = ([0; 64], 0);
+    let verdict = waits_into(sheet, &mut maps, &mut count)?;
+    Ok(Waits { verdict, maps, count })
+}
+
+/// The same, into maps and a count that are lent. On a refusal they stay as lent.
+pub fn waits_into(sheet: &[u8], maps: &mut [u64; 64], count: &mut u32) -> Result<Verdict, Refusal> {
+    Verdict::from_code(unsafe { raw::standplan_waits(sheet.as_ptr(), sheet.len(), maps, count) })
+}
+
+/// Plans a sheet. Refusals 1 to 12, 26 and 28.
+pub fn plan(sheet: &[u8], allow: bool) -> Result<Plan, Refusal> {
+    let n = steps(sheet);
+    let mut table = vec![UNDECIDED; n * n];
+    let verdict = plan_into(sheet, allow, &mut table)?;
+    Ok(Plan { verdict, n, table })
+}
+
+/// Plans a sheet of n steps into the first n × n numbers of `table`. The rest stays as lent; on a refusal all of it does. Refusal 14 beside those of [`plan`].
+pub fn plan_into(sheet: &[u8], allow: bool, table: &mut [u32]) -> Result<Verdict, Refusal> {
+    Verdict::from_code(unsafe {
+        raw::standplan_plan(sheet.as_ptr(), sheet.len(), allow, table.as_mut_ptr(), table.len())
+    })
+}
+
+/// Works out the start times of a sheet for a list of durations. Refusals 1 to 14, 26 and 28.
+pub fn starts(sheet: &[u8], allow: bool, list: &[u32]) -> Result<Vec<u32>, Refusal> {
+    let mut out = vec![0; steps(sheet)];
+    let _ = starts_into(sheet, allow, list, &mut out)?;
+    Ok(out)
+}
+
+/// The same, into the first n numbers of `out`. The rest stays as lent; on a refusal all of it does.
+pub fn starts_into(
+    sheet: &[u8],
+    allow: bool,
+    list: &[u32],
+    out: &mut [u32],
+) -> Result<Verdict, Refusal> {
+    Verdict::from_code(unsafe {
+        raw::standplan_starts(
+            sheet.as_ptr(),
+            sheet.len(),
+            allow,
+            list.as_ptr(),
+            list.len(),
+            out.as_mut_ptr(),
+            out.len(),
+        )
+    })
+}
+
+/// The state of a run. [`Run::new`] is that of no run; any other is answered too.
+#[derive(Clone, Debug, PartialEq, Eq)]
+pub struct Run {
+    /// The step count.
+    pub n: usize,
+    /// The map of the open steps.
+    pub open: u64,
+    /// The map of the steps that have started.
+    pub started: u64,
+    /// The map of the steps that have finished.
+    pub finished: u64,
+    /// The tick.
+    pub tick: u32,
+    /// The tick at which each step started.
+    pub start: [u32; 64],
+    /// The tick at which each step finished.
+    pub finish: [u32; 64],
+}
+
+/// What is lent for the map of a call.
+const UNWRITTEN: u64 = u64::MAX;
+
+impl Default for Run {
+    fn default() -> Run {
+        Run::new()
+    }
+}
+
+/// What a call of the runner answers: the map of the steps that it started, or a refusal; then the state is as it was.
+pub type Started = Result<u64, Refusal>;
+
+impl Run {
+    /// The state of no run.
+    #[must_use]
+    pub const fn new() -> Run {
+        Run { n: 0, open: 0, started: 0, finished: 0, tick: 0, start: [0; 64], finish: [0; 64] }
+    }
+
+    /// Begins a run of n steps by the plan in `table`, with the map of the open ones. Refusals 16, 2, 14.
+    pub fn begin(&mut self, n: usize, open: u64, table: &[u32]) -> Started {
+        self.call(|words, run, map| unsafe {
+            raw::standplan_begin(
+                words,
+                &mut run.tick,
+                &mut run.start,
+                &mut run.finish,
+                map,
+                n,
+                open,
+                table.as_ptr(),
+                table.len(),
+            )
+        })
+    }
+
+    /// The tick grows by one. Refusals 15, 14, 18.
+    pub fn tick(&mut self, table: &[u32]) -> Started {
+        self.call(|words, run, map| unsafe {
+            raw::standplan_tick(
+                words,
+                &mut run.tick,
+                &mut run.start,
+                &mut run.finish,
+                map,
+                table.as_ptr(),
+                table.len(),
+            )
+        })
+    }
+
+    /// Open step s ends at this tick. Refusals 15, 14, 17.
+    pub fn finish(&mut self, s: usize, table: &[u32]) -> Started {
+        self.call(|words, run, map| unsafe {
+            raw::standplan_finish(
+                words,
+                &mut run.tick,
+                &mut run.start,
+                &mut run.finish,
+                map,
+                s,
+                table.as_ptr(),
+                table.len(),
+            )
+        })
+    }
+
+    fn call(&mut self, call: impl FnOnce(&mut [u64; 4], &mut Run, &mut u64) -> u32) -> Started {
+        let mut words = [self.n as u64, self.open, self.started, self.finished];
+        let mut map = UNWRITTEN;
+        let code = call(&mut words, self, &mut map);
+        self.n = words[0] as usize;
+        [self.open, self.started, self.finished] = [words[1], words[2], words[3]];
+        if code == 0 {
+            Ok(map)
+        } else {
+            debug_assert_eq!(map, UNWRITTEN, "a refusal writes nothing");
+            Err(Refusal::from_code(code))
+        }
+    }
+}

@@ -1,0 +1,141 @@
+//! The library's answers against those of the reference planner, stored by tests/rust/store.py.
+use standplan::{judge, plan, plan_into, starts, starts_into, waits, waits_into, Refusal, Verdict, MAX_SHEET, MAX_TABLE, STACK, UNDECIDED};
+use std::collections::BTreeSet;
+use std::thread;
+
+const STORED: &str = include_str!("../../../tests/rust/data/answers.txt");
+
+fn sheet_of(hex: &str) -> Vec<u8> {
+    (0..hex.len()).step_by(2).map(|i| u8::from_str_radix(&hex[i..i + 2], 16).unwrap()).collect()
+}
+
+fn verdict_of(words: &[&str]) -> Result<Verdict, Refusal> {
+    match words {
+        ["ok", "0"] => Ok(Verdict::Sound),
+        ["ok", "1"] => Ok(Verdict::SoundWithWaits),
+        ["refused", k] => Err(Refusal::from_number(k.parse().unwrap()).unwrap()),
+        _ => panic!("no verdict: {words:?}"),
+    }
+}
+
+fn number_of(word: &str) -> u32 {
+    if word == "-" { UNDECIDED } else { word.parse().unwrap() }
+}
+
+/// The numbers that are lent: 1000, 1001 and so on.
+fn lent(size: usize) -> Vec<u32> {
+    (0..size as u32).map(|i| 1000 + i).collect()
+}
+
+/// The fields of a line are parted by semicolons, their words by spaces.
+fn fields(line: &str) -> Vec<Vec<&str>> {
+    line.split(';').map(|field| field.split_whitespace().collect()).collect()
+}
+
+#[test]
+fn stored_answers() {
+    let mut sheet = Vec::new();
+    let mut seen = BTreeSet::new();
+    let mut lines = 0;
+    for (at, line) in STORED.lines().enumerate() {
+        let parts = fields(line);
+        let allow = parts[0].get(1) == Some(&"1");
+        let place = format!("line {}", at + 1);
+        lines += 1;
+        match parts[0][0] {
+            "sheet" => sheet = sheet_of(parts[0].get(1).unwrap_or(&"")),
+            "judge" => {
+                seen.insert(parts[1].join(" "));
+                assert_eq!(judge(&sheet, allow), verdict_of(&parts[1]), "{place}");
+            }
+            "waits" => {
+                let found = waits(&sheet);
+                let mut maps = [0u64; 64];
+                for (map, word) in maps.iter_mut().zip(&parts[3]) {
+                    *map = u64::from_str_radix(word, 16).unwrap();
+                }
+                assert_eq!(parts[3].len(), 64, "{place}");
+                let verdict = verdict_of(&parts[1]);
+                // Where maps and a count are lent, a refusal leaves them as they were.
+                let (mut lent_maps, mut lent_count) = ([1000; 64], 1000);
+                assert_eq!(waits_into(&sheet, &mut lent_maps, &mut lent_count), verdict, "{place}");
+                match found {
+                    Err(refusal) => {
+                        assert_eq!(Err(refusal), verdict, "{place}");
+                        assert_eq!((lent_maps, lent_count), ([1000; 64], 1000), "{place}");
+                    }
+                    Ok(found) => {
+                        assert_eq!(Ok(found.verdict), verdict, "{place}");
+                        assert_eq!((found.maps, found.count), (maps, number_of(parts[2][0])), "{place}");
+                        assert_eq!((lent_maps, lent_count), (maps, found.count), "{place}");
+                    }
+                }
+            }
+            "plan" => {
+                seen.insert(parts[1].join(" "));
+                let after: Vec<u32> = parts[2].iter().map(|word| number_of(word)).collect();
+                let mut table = lent(after.len());
+                let verdict = plan_into(&sheet, allow, &mut table);
+                assert_eq!(verdict, verdict_of(&parts[1]), "{place}");
+                assert_eq!(table, after, "{place}");
+                if verdict != Err(Refusal::TooShort) {
+                    let made = plan(&sheet, allow);
+                    assert_eq!(made.as_ref().map(|made| made.verdict).map_err(|refusal| *refusal), verdict, "{place}");
+                    assert!(made.map_or(true, |made| made.table == after[..made.n * made.n]), "{place}");
+                }
+            }
+            "starts" => {
+                seen.insert(parts[1].join(" "));
+                let list: Vec<u32> = parts[2].iter().map(|word| number_of(word)).collect();
+                let after: Vec<u32> = parts[3].iter().map(|word| number_of(word)).collect();
+                let mut out = lent(after.len());
+                let verdict = starts_into(&sheet, allow, &list, &mut out);
+                assert_eq!(verdict, verdict_of(&parts[1]), "{place}");
+                assert_eq!(out, after, "{place}");
+                if verdict.is_ok() {
+                    let times = starts(&sheet, allow, &list).unwrap();
+                    assert_eq!(times, after[..times.len()], "{place}");
+                }
+            }
+            word => panic!("{place}: {word}"),
+        }
+    }
+    assert!(lines > 300);
+    // Both verdicts and refusals 1 to 14, 26 and 28 are among them.
+    assert_eq!(seen.len(), 18, "{seen:?}");
+}
+
+#[test]
+fn nothing_lent() {
+    assert_eq!(judge(&[], true), Err(Refusal::Truncated));
+    assert_eq!(plan(&[], true), Err(Refusal::Truncated));
+    assert_eq!(plan_into(&[1, 0, 0, 1], false, &mut []), Err(Refusal::TooShort));
+    assert_eq!(starts_into(&[1, 0, 0, 1], false, &[], &mut []), Err(Refusal::TooShort));
+    assert_eq!(starts(&[1, 0, 0, 1], false, &[]), Err(Refusal::TooShort));
+    assert_eq!(Refusal::Unreached.to_string(), "refused 9: a step has no chain of forward links from step 0");
+}
+
+/// The longest sheet: 64 steps, 512 records, every field there. Step v + 1 to v + 9 follow v, as far as there are records, and may take as long as they like.
+fn longest() -> Vec<u8> {
+    let mut sheet = vec![64, 0, 2, 1];
+    sheet.extend([2, 1, 0].repeat(63));
+    let pairs = (0..64u8).flat_map(|i| (i + 1..64.min(i + 10)).map(move |j| (i, j)));
+    for (i, j) in pairs.take(512) {
+        sheet.extend([0x17, i, j, 1, 0, 255, 255, 255, 255]);
+    }
+    sheet
+}
+
+/// Several threads with no more stack than the crate says, and what a thread needs itself, plan the longest sheet at once.
+#[test]
+fn threads() {
+    let sheet = longest();
+    assert_eq!(sheet.len(), MAX_SHEET);
+    let alone = plan(&sheet, true).unwrap();
+    assert_eq!(alone.table.len(), MAX_TABLE);
+    thread::scope(|scope| {
+        let work = || (0..200).all(|_| plan(&sheet, true).as_ref() == Ok(&alone));
+        let all: Vec<_> = (0..4).map(|_| thread::Builder::new().stack_size(STACK + 16384).spawn_scoped(scope, work).unwrap()).collect();
+        assert!(all.into_iter().all(|one| one.join().unwrap()));
+    });
+}

@@ -1,0 +1,162 @@
+"""The library as C meets it: what archive and shared object hold; an installed copy, with a program built by pkg-config; the header in C and C++; its
+refusals, version and maxima beside those of docs/REFUSALS.md, VERSION, the Rust crate and the Python module; the stack that it says each call needs."""
+import os
+import re
+import shlex
+import shutil
+import subprocess
+import sys
+import tempfile
+from pathlib import Path
+
+ROOT = Path(__file__).resolve().parents[2]
+sys.path.insert(0, str(ROOT / "bindings/python"))
+import standplan  # noqa: E402
+
+HERE, BUILT = Path(__file__).parent, ROOT / "target/staticlib"
+HEADER = (ROOT / "include/standplan.h").read_text("ascii")
+CRATE = (ROOT / "bindings/rust/src/lib.rs").read_text("utf-8")
+CALLS = {f"standplan_{call}" for call in ("judge", "waits", "plan", "starts", "begin", "tick", "finish")}
+
+
+def check(found, wanted, what):
+    assert found == wanted, f"{what}: {found!r}, not {wanted!r}"
+
+
+def ran(*words, **how):
+    done = subprocess.run([str(word) for word in words], capture_output=True, text=True, **how)
+    assert done.returncode == 0, f"{words}: {done.stdout}{done.stderr}"
+    return done.stdout
+
+
+def symbols():
+    """The calls of the header and nothing else; of others libc's copying and filling alone; no memory of its own."""
+    def listed(*words):
+        found = [line.split() for line in ran("nm", *words).splitlines()]
+        return {words[-1].partition("@")[0] for words in found if len(words) > 1}
+
+    check(listed("--defined-only", "-g", BUILT / "libstandplan.a"), CALLS, "the archive's functions")
+    check(listed("--defined-only", "-D", BUILT / "libstandplan.so"), CALLS, "the shared object's functions")
+    assert listed("-u", BUILT / "libstandplan.a") <= {"memcpy", "memset", "memmove", "memcmp"}, listed("-u", BUILT / "libstandplan.a")
+    declared = set(re.findall(r"^STANDPLAN_CHECKED uint32_t (standplan_\w+)\(", HEADER, re.MULTILINE))
+    check(declared, CALLS, "the header's functions")
+    for line in ran("size", BUILT / "libstandplan.a").splitlines()[1:]:
+        check(line.split()[1:3], ["0", "0"], f"memory that is written to: {line}")
+
+
+def compiles(source, *flags, compiler="cc", kind="c"):
+    words = [compiler, *flags, "-Wall", "-Wextra", "-Wpedantic", "-Werror", "-I", str(ROOT / "include"), "-x", kind, "-c", "-o", os.devnull, "-"]
+    done = subprocess.run(words, input=source, capture_output=True, text=True)
+    return done.returncode == 0, done.stderr
+
+
+def header():
+    """It compiles in C and C++ without a warning; a verdict that is not looked at is one, of each call."""
+    taken = '#include "standplan.h"\nint main(void) { return (int)standplan_judge((const uint8_t *)"", 0, true); }\n'
+    for compiler, kind, standard in (("cc", "c", "c99"), ("cc", "c", "c11"), ("c++", "c++", "c++11"), ("c++", "c++", "c++17")):
+        if shutil.which(compiler):
+            good, said = compiles(taken, f"-std={standard}", compiler=compiler, kind=kind)
+            assert good, said
+    lines = {"judge": "standplan_judge(s, 1, true)", "waits": "standplan_waits(s, 1, w, t)", "plan": "standplan_plan(s, 1, true, t, 1)",
+             "starts": "standplan_starts(s, 1, true, t, 1, t, 1)", "begin": "standplan_begin(w, t, t, t, w, 1, 0, t, 1)", "tick": "standplan_tick(w, t, t, t, w, t, 1)",
+             "finish": "standplan_finish(w, t, t, t, w, 1, t, 1)", "run_begin": "standplan_run_begin(r, 1, 0, t, 1, w)", "run_tick": "standplan_run_tick(r, t, 1, w)",
+             "run_finish": "standplan_run_finish(r, 1, t, 1, w)"}
+    for call in lines.values():
+        good, said = compiles(f'#include "standplan.h"\nvoid f(uint8_t *s, uint64_t *w, uint32_t *t, standplan_run *r);\n'
+                              f"void f(uint8_t *s, uint64_t *w, uint32_t *t, standplan_run *r) {{ (void)s; (void)w; (void)t; (void)r; {call}; }}\n")
+        assert not good and "unused-result" in said, f"{call}: {said}"
+
+
+def refusals():
+    """The sentences of header, crate and module are those of docs/REFUSALS.md, up to a note behind a bracket or a semicolon; and the names agree."""
+    rows = dict(re.findall(r"^\| (\d+) \| ([^|]*?) \|", (ROOT / "docs/REFUSALS.md").read_text("utf-8"), re.MULTILINE))
+    numbers = dict(re.findall(r"^    STANDPLAN_(\w+) = (\d+),?$", HEADER, re.MULTILINE))
+    said = {int(numbers[name]): sentence for name, sentence in re.findall(r'case STANDPLAN_(\w+): return "(.*)";', HEADER)}
+    check(sorted(said), sorted(map(int, rows)), "the header's refusals beside docs/REFUSALS.md")
+    check(len(numbers), len(rows), "the header's enum")
+    for number, sentence in said.items():
+        row = rows[str(number)]
+        assert row.startswith(sentence) and row[len(sentence):][:2] in ("", " (", "; "), f"refusal {number}: the header says '{sentence}', docs/REFUSALS.md '{row}'"
+    check(standplan.SENTENCES, said, "the module's sentences")
+    crate = re.findall(r'^    (\d+) (\w+) "(.*)"$', CRATE, re.MULTILINE)
+    check({int(number): sentence for number, _, sentence in crate}, said, "the crate's sentences")
+    check({number: name.lower() for number, name, _ in crate}, {number: name.replace("_", "").lower() for name, number in numbers.items()}, "the crate's names")
+    return len(said)
+
+
+def numbers():
+    """Version and maxima, wherever they stand."""
+    version = (ROOT / "VERSION").read_text("ascii").strip()
+    assert re.fullmatch(r"\d+\.\d+\.\d+", version), version
+    macros = dict(re.findall(r"^#define STANDPLAN_(\w+) (?:UINT32_C\()?\"?([\d.]+)\"?\)?$", HEADER, re.MULTILINE))
+    check(macros["VERSION"], version, "the header's version")
+    check(".".join(macros[f"VERSION_{part}"] for part in ("MAJOR", "MINOR", "PATCH")), version, "the header's version in parts")
+    check(standplan.__version__, version, "the module's version")
+    for name in ("Cargo.toml", "Cargo.lock"):
+        check(re.findall(r'^version = "(.*)"$', (ROOT / "bindings/rust" / name).read_text("ascii"), re.MULTILINE), [version], f"the crate's version in {name}")
+    for name in ("MAX_STEPS", "MAX_RECORDS", "MAX_SHEET", "MAX_TABLE", "MAX_DURATION", "STACK", "UNDECIDED"):
+        check(getattr(standplan, name), int(macros[name]), f"the module's {name}")
+        check(re.findall(rf"pub const {name}: \w+ = ([\d_]+);", CRATE)[0].replace("_", ""), macros[name], f"the crate's {name}")
+
+
+def plans(program, where):
+    for path in sorted((ROOT / "examples").glob("*.sheet")):
+        check(ran(program, path, env=where), path.with_suffix(".plan").read_text("ascii"), f"{program}: {path.name}")
+
+
+def installed(place):
+    """Under a prefix with a space in it: what is there, and a program built by what pkg-config says, with the shared object and without."""
+    prefix, work = place / "a prefix", place
+    for _ in range(2):                                     # a second time over the first
+        ran(ROOT / "tools/library", "--install", "a prefix", cwd=place)
+    version = (ROOT / "VERSION").read_text("ascii").strip()
+    major = version.split(".")[0]
+    check(sorted(str(path.relative_to(prefix)) for path in prefix.rglob("*") if not path.is_dir()),
+          sorted(["include/standplan.h", "lib/libstandplan.a", "lib/libstandplan.so", f"lib/libstandplan.so.{major}", f"lib/libstandplan.so.{version}", "lib/pkgconfig/standplan.pc"]), "installed")
+    shutil.copy(ROOT / "bindings/python/standplan.py", place)
+    stand = [sys.executable, ROOT / "examples/stand.py", ROOT / "examples/stand.sheet", 10]
+    found = ran(*stand, env={**os.environ, "PYTHONPATH": str(place), "LD_LIBRARY_PATH": str(prefix / "lib"), "STANDPLAN_LIBRARY": ""})
+    check(found, (ROOT / "examples/stand.run").read_text("ascii"), "the Python module with an installed library")
+    if not shutil.which("pkg-config"):
+        return "pkg-config is not there: no program was built with it"
+    known = {**os.environ, "PKG_CONFIG_PATH": str(prefix / "lib/pkgconfig")}
+    check(ran("pkg-config", "--modversion", "standplan", env=known).strip(), version, "pkg-config's version")
+    flags = shlex.split(ran("pkg-config", "--cflags", "--libs", "standplan", env=known))
+    ran("cc", "-std=c11", "-Wall", "-Wextra", "-Werror", HERE / "plan.c", *flags, "-o", work / "shared")
+    assert f"libstandplan.so.{major}" in ran("readelf", "-d", work / "shared"), "the program does not look for the shared object"
+    plans(work / "shared", {**os.environ, "LD_LIBRARY_PATH": str(prefix / "lib")})
+    ran("cc", "-std=c11", "-Wall", "-Wextra", "-Werror", HERE / "plan.c", *flags[:1], prefix / "lib/libstandplan.a", "-o", work / "alone")
+    plans(work / "alone", os.environ)
+    return "a program built with pkg-config prints the stored plans"
+
+
+def stack(place):
+    """The stack of each call, on 64 steps with waits, is not above what the header says."""
+    said = re.search(r"at most: judge and waits (\d+) kB, plan and starts (\d+) kB, begin, tick and finish (\d+) kB", HEADER)
+    most = dict(zip(("judge", "waits", "plan", "starts", "begin", "tick", "finish"), (int(said[group]) for group in (1, 1, 2, 2, 3, 3, 3))))
+    ran("cc", "-std=c11", "-O2", "-Wall", "-Wextra", "-I", ROOT / "include", HERE / "stack.c", BUILT / "libstandplan.a", "-o", place / "stack")
+    found = dict(line.split() for line in ran(place / "stack", ROOT / "bench/sets/small.bin", ROOT / "bench/sets/large.bin", ROOT / "bench/sets/worst.bin").splitlines())
+    check(list(found), list(most), "calls whose stack was measured")
+    for call, needs in found.items():
+        assert int(needs) <= 1000 * most[call], f"{call} needs {needs} bytes of stack; the header says {most[call]} kB"
+    return max(map(int, found.values()))
+
+
+def wrong_use():
+    for words in (["--install"], ["--install", ""], ["here"], ["--install", "a", "b"]):
+        done = subprocess.run([ROOT / "tools/library", *words], capture_output=True, text=True)
+        check((done.returncode, done.stdout, done.stderr), (2, "", "usage: tools/library [--install PREFIX]\n"), f"tools/library {words}")
+    done = subprocess.run([ROOT / "tools/library", "--install", "/dev/null/here"], capture_output=True, text=True)
+    check((done.returncode, done.stderr.splitlines()[-1]), (2, "tools/library: the library could not be put under /dev/null/here"), "a place that cannot be")
+
+
+if __name__ == "__main__":
+    symbols()
+    header()
+    count = refusals()
+    numbers()
+    wrong_use()
+    with tempfile.TemporaryDirectory() as folder:
+        said = installed(Path(folder))
+        needs = stack(Path(folder))
+    print(f"{count} refusals have one sentence in C, Rust and Python; {said}; no call needs more than {needs} bytes of stack")

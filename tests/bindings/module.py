@@ -1,0 +1,158 @@
+"""The Python module: its answers and its runs, state by state, against those stored of the reference planner (tests/rust/data); the stored plans of the
+examples; and what it does where Python's numbers go further than the library's."""
+import os
+import subprocess
+import sys
+import tempfile
+from pathlib import Path
+
+ROOT = Path(__file__).resolve().parents[2]
+sys.path.insert(0, str(ROOT / "bindings/python"))
+import standplan  # noqa: E402
+from standplan import Plan, Refused, Run  # noqa: E402
+
+
+def check(found, wanted, what):
+    assert found == wanted, f"{what}: {found!r}, not {wanted!r}"
+
+
+def answer(call, *arguments):
+    """What a call gives, or ('refused', its number)."""
+    try:
+        return call(*arguments)
+    except Refused as fault:
+        check(str(fault), f"refused {fault.number}: {standplan.SENTENCES[fault.number]}", "a refusal's text")
+        return "refused", fault.number
+
+
+def verdict_of(words):
+    return int(words[1]) if words[0] == "ok" else ("refused", int(words[1]))
+
+
+def numbers(words):
+    return [standplan.UNDECIDED if word == "-" else int(word) for word in words]
+
+
+def answers():
+    """Refusal 14 of a table or of starts that are lent too short cannot come up here: the module lends enough."""
+    sheet, seen, count = b"", set(), 0
+    for line in (ROOT / "tests/rust/data/answers.txt").read_text("ascii").splitlines():
+        (kind, *rest), *fields = [field.split() for field in line.split(";")]
+        if kind == "sheet":
+            sheet = bytes.fromhex("".join(rest))
+            continue
+        wanted, what = verdict_of(fields[0]), f"{kind} {sheet.hex()}"
+        n = sheet[0] if sheet else 0
+        refused = isinstance(wanted, tuple)
+        if kind == "judge":
+            check(answer(standplan.judge, sheet, rest == ["1"]), wanted, what)
+        elif kind == "waits":
+            pairs = [(a, i) for a in range(64) for i, word in enumerate(fields[2]) if int(word, 16) >> a & 1]
+            check(answer(standplan.waits, sheet), wanted if refused else pairs, what)
+        elif kind == "plan" and wanted != ("refused", 14):
+            made = answer(standplan.plan, sheet, rest == ["1"])
+            if not refused:
+                check((made.verdict, made.n), (wanted, n), what)
+                check(list(made.table), numbers(fields[1])[:n * n], what)
+            else:
+                check(made, wanted, what)
+        elif kind == "starts" and (wanted != ("refused", 14) or len(fields[1]) < n):
+            check(answer(standplan.starts, sheet, rest == ["1"], numbers(fields[1])), wanted if refused else numbers(fields[2])[:n], what)
+        else:
+            continue
+        seen.add(wanted)
+        count += 1
+    assert count > 700 and len(seen) == 18, (count, seen)
+    return count
+
+
+def state_of(fields):
+    n, open_, tick, started, finished = map(int, fields[0])
+    return [n, open_, started, finished], tick, *([int(word) for word in words] + [0] * (64 - len(words)) for words in fields[1:])
+
+
+def runs():
+    run, table, seen, count = Run(Plan(0, [])), [], set(), 0
+    for line in (ROOT / "tests/rust/data/runs.txt").read_text("ascii").splitlines():
+        (kind, *rest), *fields = [field.split() for field in line.split(";")]
+        if kind == "table":
+            table = numbers(fields[0])
+            continue
+        if kind == "state":
+            words, tick, start, finish = state_of(fields)
+            run._words[:], run._tick.value, run._start[:], run._finish[:] = words, tick, start, finish
+            continue
+        size, *more = map(int, rest)
+        run.plan = Plan(more[0] if kind == "begin" else 0, table[:size])
+        if kind == "begin":
+            found = answer(run.begin, [v for v in range(64) if more[1] >> v & 1])
+        else:
+            found = answer(getattr(run, kind), *more)
+        wanted = verdict_of(fields[0])
+        check(found, wanted if isinstance(wanted, tuple) else [v for v in range(64) if wanted >> v & 1], line)
+        check((run._words[:], run.now, run._start[:], run._finish[:]), state_of(fields[1:]), line)
+        check(run.started, {v: run._start[v] for v in range(64) if run._words[2] >> v & 1}, line)
+        check(run.finished, {v: run._finish[v] for v in range(64) if run._words[3] >> v & 1}, line)
+        seen.add((kind, wanted if isinstance(wanted, tuple) else "ok"))
+        count += 1
+    assert count > 300 and len(seen) == 12, (count, seen)
+    return count
+
+
+def plans():
+    count = 0
+    for path in sorted((ROOT / "examples").glob("*.sheet")):
+        sheet = path.read_bytes()
+        made, waits = standplan.plan(sheet, True), standplan.waits(sheet)
+        lines = [f"verdict {made.verdict}", f"waits {len(waits)}", *(f"wait {a} {i}" for a, i in waits),
+                 *(f"start {v} {a} {offset}" for v in range(made.n) for a, offset in made.deciding(v).items())]
+        check("".join(f"{line}\n" for line in lines), path.with_suffix(".plan").read_text("ascii"), path)
+        count += 1
+    assert count >= 3, count
+    return count
+
+
+def raised(call, *arguments):
+    try:
+        return call(*arguments)
+    except (TypeError, ValueError, IndexError, standplan.NoLibrary) as fault:
+        return type(fault)
+
+
+def borders():
+    """Numbers that C would cut off, what is not bytes, and no library."""
+    stand = (ROOT / "examples/stand.sheet").read_bytes()
+    made = standplan.plan(bytearray(stand), True)
+    check(list(standplan.plan(memoryview(stand), True).table), list(made.table), "a sheet in other bytes")
+    check(answer(standplan.starts, stand, True, [0, 0, 2**32 + 10, 0, 0]), ("refused", 13), "a duration above 32 bits")
+    check(raised(standplan.starts, stand, True, [0, 0, -1, 0, 0]), ValueError, "a duration below 0")
+    check(raised(standplan.starts, stand, True, [0, 0, 0.5, 0, 0]), TypeError, "a half")
+    for sheet in ("05", 5, None, [5, 5]):
+        check(raised(standplan.judge, sheet, True), TypeError, f"{sheet!r}, no bytes")
+    check(raised(made.deciding, 5), IndexError, "a row that is not there")
+    run = Run(made)
+    check(answer(run.finish, 2), ("refused", 15), "no run")
+    check(raised(run.begin, [64]), ValueError, "a step that no map has")
+    check((run.begin([2]), answer(run.finish, 2**64 + 2), answer(run.begin, [2])), ([0, 1, 2], ("refused", 17), ("refused", 16)), "the run")
+    check(raised(run.finish, -1), ValueError, "a step below 0")
+    check((run.finish(2), run.tick(), run.now, run.started, run.finished), ([], [3], 1, {0: 0, 1: 0, 2: 0, 3: 1}, {0: 0, 2: 0}), "the run goes on")
+
+    def elsewhere(folder, library):
+        """What the module says where it stands alone."""
+        (Path(folder) / "standplan.py").write_bytes((ROOT / "bindings/python/standplan.py").read_bytes())
+        code = "import standplan\ntry: print(standplan.judge(bytes([1, 0, 0, 1]), True))\nexcept standplan.NoLibrary as fault: print(fault)"
+        found = subprocess.run([sys.executable, "-c", code], cwd=folder, env={**os.environ, "STANDPLAN_LIBRARY": str(library)}, capture_output=True, text=True)
+        check((found.returncode, found.stderr), (0, ""), "the module alone")
+        return found.stdout
+
+    with tempfile.TemporaryDirectory() as folder:
+        check(elsewhere(folder, ROOT / "target/staticlib/libstandplan.so"), "0\n", "a library that is named")
+        assert "is not the library of the planner" in elsewhere(folder, __file__)
+        alone = elsewhere(folder, "")
+        assert alone == "0\n" or "tools/library builds it" in alone, alone       # 0 where the system has a library
+
+
+if __name__ == "__main__":
+    counts = answers(), runs(), plans()
+    borders()
+    print("the Python module gives {} stored answers, {} stored calls of the runner and {} stored plans".format(*counts))

@@ -1,0 +1,79 @@
+/* The stack that each call needs: it is made on a stack of its own, filled before and looked at after. Prints a line `call bytes` for each,
+ * the most over the sheets of the files that are named, which are in the form of bench/sets; the status is 1 where one needs more than
+ * STANDPLAN_STACK. */
+#define _GNU_SOURCE
+#include <stdio.h>
+#include <string.h>
+#include <ucontext.h>
+
+#include "standplan.h"
+
+enum { ROOM = 1 << 20, FILL = 0xa5, CALLS = 7 };
+
+static const char *const names[CALLS + 1] = {"judge", "waits", "plan", "starts", "begin", "tick", "finish", "nothing"};
+static _Alignas(64) unsigned char stack[ROOM];
+static uint8_t sheet[STANDPLAN_MAX_SHEET];
+static size_t length;
+static uint64_t maps[STANDPLAN_MAX_STEPS], map;
+static uint32_t count, table[STANDPLAN_MAX_TABLE], list[STANDPLAN_MAX_STEPS], out[STANDPLAN_MAX_STEPS], verdict;
+static standplan_run run;
+static ucontext_t here, there;
+static int called;
+
+static void call(void) {
+    size_t n = sheet[0];
+    switch (called) {
+    case 0: verdict = standplan_judge(sheet, length, true); break;
+    case 1: verdict = standplan_waits(sheet, length, maps, &count); break;
+    case 2: verdict = standplan_plan(sheet, length, true, table, STANDPLAN_MAX_TABLE); break;
+    case 3: verdict = standplan_starts(sheet, length, true, list, n, out, n); break;
+    case 4: memset(&run, 0, sizeof run); verdict = standplan_run_begin(&run, n, UINT64_MAX, table, n * n, &map); break;
+    case 5: verdict = standplan_run_tick(&run, table, n * n, &map); break;
+    case 6: verdict = standplan_run_finish(&run, 1, table, n * n, &map); break;
+    }
+}
+
+/* The bytes of stack that a call has touched, from the top of the stack on. */
+static size_t touched(int which) {
+    called = which;
+    memset(stack, FILL, ROOM);
+    getcontext(&there);
+    there.uc_stack.ss_sp = stack;
+    there.uc_stack.ss_size = ROOM;
+    there.uc_link = &here;
+    makecontext(&there, call, 0);
+    swapcontext(&here, &there);
+    size_t at = 0;
+    while (at < ROOM && stack[at] == FILL)
+        at++;
+    return ROOM - at;
+}
+
+int main(int argc, char **argv) {
+    size_t most[CALLS] = {0}, sheets = 0;
+    touched(CALLS); /* so that what the first swap links is linked */
+    size_t without = touched(CALLS);
+    for (int i = 1; i < argc; i++) {
+        FILE *file = fopen(argv[i], "rb");
+        if (file == NULL)
+            return 2;
+        for (int low; (low = getc(file)) != EOF; sheets++) {
+            length = (size_t)low + 256 * (size_t)getc(file);
+            if (length > sizeof sheet || fread(sheet, 1, length, file) != length)
+                return 2;
+            for (int c = 0; c < CALLS; c++) {
+                size_t needs = touched(c) - without;
+                if (needs > most[c])
+                    most[c] = needs;
+            }
+        }
+        fclose(file);
+    }
+    int status = sheets == 0;
+    for (int c = 0; c < CALLS; c++) {
+        printf("%s %zu\n", names[c], most[c]);
+        if (most[c] > STANDPLAN_STACK)
+            status = 1;
+    }
+    return status;
+}

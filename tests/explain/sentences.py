@@ -1,0 +1,264 @@
+"""tools/explain: what it says of a sheet for each refusal, of plans and of lists, word for word."""
+import subprocess
+import tempfile
+from pathlib import Path
+
+ROOT = Path(__file__).resolve().parents[2]
+TOOL = ROOT / "tools/explain"
+
+# Sheets in bytes that are refused at reading, and what is said of each.
+BYTES = [
+    ("", "refused 1: the bytes end before a field is complete\nbyte 0: the sheet has 0 bytes, and its end is inside the counts of steps and records\n"),
+    ("02 00 00 01 02 05", "refused 1: the bytes end before a field is complete\nbyte 6: the sheet has 6 bytes, and its end is inside the record of step 1\n"),
+    ("02 01 00 01 01 05 00 01 05", "refused 1: the bytes end before a field is complete\nbyte 9: the sheet has 9 bytes, and its end is inside link record 0 of 1\n"),
+    ("00", "refused 2: N is 0 or above 64\nbyte 0: N is 0, and a sheet has 1 to 64 steps\n"),
+    ("41 00 00", "refused 2: N is 0 or above 64\nbyte 0: N is 65, and a sheet has 1 to 64 steps\n"),
+    ("01 01 02 01", "refused 3: R is above 512\nbyte 1: R is 513, and a sheet has at most 512 link records\n"),
+    ("01 00 00 02", "refused 4: a map that is not allowed or has an unknown bit\nbyte 3: the map of step 0 is 02, and it can only be 01 (open), for it is the start\n"),
+    ("02 00 00 01 03", "refused 4: a map that is not allowed or has an unknown bit\n"
+     "byte 4: the map of step 1 is 03, and it can only be 01 (open), 02 (fixed) or 00 (fixed, duration 0)\n"),
+    ("02 01 00 01 01 00 00 01", "refused 4: a map that is not allowed or has an unknown bit\nbyte 5: the map of link record 0 is 00, an empty map\n"),
+    ("02 01 00 01 01 09 00 01", "refused 4: a map that is not allowed or has an unknown bit\nbyte 5: the map of link record 0 is 09, a bit that no link map has\n"),
+    ("03 01 00 01 01 01 01 03 01", "refused 5: i or j is N or more, or i = j\nbyte 7: link record 0 is for the pair 3, 1, and the steps are 0 to 2\n"),
+    ("02 01 00 01 01 01 01 01", "refused 5: i or j is N or more, or i = j\nbyte 7: link record 0 is for the pair 1, 1, from a step to itself\n"),
+    ("03 02 00 01 01 01 01 00 02 01 00 01",
+     "refused 6: the pair does not rise\nbyte 10: link record 1 is for the pair 0, 1, and record 0 before it for 0, 2; pairs rise\n"),
+    ("01 00 00 01 00 00", "refused 7: bytes follow the last record\nbyte 4: the last record ends before it, and the sheet has 6 bytes\n"),
+    ("02 01 00 01 01 10 00 01 05 00", "refused 26: a link map with bit 4, at most from the finish, and without bit 0, after\n"
+     "byte 5: the map of link record 0 is 10: bit 4, at most from the finish, without bit 0, after\n"),
+]
+
+STEPS = "step 0 open # start\nstep 1 fixed 3 # lamps\nstep 2 open # hand\nstep 3 fixed 2 # glass down\nstep 4 fixed 1 # exposure\n"
+LINKS = "link 0 1 after\nlink 0 2 after\nlink 1 4 after\nlink 2 3 after\n"
+CLASH = "These records clash; without any one of them the others do not:\n"
+# Sheets as text: the words behind the file, the text, the status and what is said.
+TEXTS = [
+    # the circle's steps
+    ([], STEPS + LINKS + "link 3 4 after at-most 2\nlink 4 2 at-least 0\n", 1, """refused 8: forward links close a circle
+The circle: hand (2), then glass down (3), then exposure (4), then hand (2). Its links:
+  line 9, link 2 3 after
+    glass down (3) starts after hand (2) ends, which is open
+  line 10, link 3 4 after at-most 2
+    exposure (4) starts after glass down (3) ends, which lasts 2 ticks
+  line 11, link 4 2 at-least 0
+    hand (2) starts at least 0 ticks after exposure (4) starts
+"""),
+    # a circle, and beside it a step that leads to 0 and that nothing enters
+    ([], "step 0 open\nstep 1 open\nstep 2 open\nstep 3 open\nlink 0 1 after\nlink 1 2 after\nlink 2 1 after\nlink 3 0 after\n", 1, """refused 8: forward links close a circle
+The circle: step 1, then step 2, then step 1. Its links:
+  line 6, link 1 2 after
+    step 2 starts after step 1 ends, which is open
+  line 7, link 2 1 after
+    step 1 starts after step 2 ends, which is open
+"""),
+    # the step that nothing enters, or both; one that has a limit; one that leads back to 0
+    ([], STEPS + LINKS.replace("link 0 2 after\n", "") + "link 3 4 after at-most 2\n", 1, """refused 9: a step has no chain of forward links from step 0
+No after or at-least link leads to hand (2).
+Where nothing holds back this step: 'link 0 2 after'.
+"""),
+    ([], "step 0 open\nstep 1 open\nstep 2 open\nlink 0 2 at-most 5\nlink 2 1 at-most 3\n", 1, """refused 9: a step has no chain of forward links from step 0
+No after or at-least link leads to step 1 and step 2.
+Where nothing holds back these steps: 'link 0 1 after' and 'after' in line 4.
+"""),
+    ([], "step 0 open\nstep 1 open\nlink 1 0 after\n", 1, "refused 9: a step has no chain of forward links from step 0\nNo after or at-least link leads to step 1.\n"),
+    # records that clash, open durations 0: one record; a chain that leads through step 0; a limit from the finish
+    ([], STEPS + LINKS + "link 3 4 after at-most 1\n", 1, """refused 10: with all open durations 0, no start times keep every link
+This record alone cannot be kept:
+  line 10, link 3 4 after at-most 1
+    exposure (4) starts after glass down (3) ends, which lasts 2 ticks
+    exposure (4) starts at most 1 tick after glass down (3) starts
+Added up, 2 ticks are needed where 1 is allowed.
+"""),
+    ([], STEPS + LINKS + "link 0 4 at-most 4\nlink 1 3 at-least 3\nlink 3 4 after\n", 1, """refused 10: with all open durations 0, no start times keep every link
+""" + CLASH + """  line 10, link 0 4 at-most 4
+    exposure (4) starts at tick 4 or before
+  line 11, link 1 3 at-least 3
+    glass down (3) starts at least 3 ticks after lamps (1) starts
+  line 12, link 3 4 after
+    exposure (4) starts after glass down (3) ends, which lasts 2 ticks
+Added up, 5 ticks are needed where 4 are allowed.
+"""),
+    ([], STEPS + LINKS + "link 1 3 after at-most-from-finish 1\nlink 1 2 at-least 5\n", 1, """refused 10: with all open durations 0, no start times keep every link
+""" + CLASH + """  line 11, link 1 2 at-least 5
+    hand (2) starts at least 5 ticks after lamps (1) starts
+  line 10, link 1 3 after at-most-from-finish 1
+    glass down (3) starts at most 1 tick after lamps (1) ends
+  line 9, link 2 3 after
+    glass down (3) starts after hand (2) ends, which is open
+Added up, 5 ticks are needed where 4 are allowed, with open steps at 0.
+"""),
+    # an open step in a limit; two of them; beside a limit from the finish of another; inside a sheet that is refused as 10
+    ([], STEPS + LINKS + "link 2 4 at-most 9\nlink 3 4 after\n", 1, """refused 11: for some list of durations no start times keep every link
+""" + CLASH + """  line 9, link 2 3 after
+    glass down (3) starts after hand (2) ends, which is open
+  line 10, link 2 4 at-most 9
+    exposure (4) starts at most 9 ticks after hand (2) starts
+  line 11, link 3 4 after
+    exposure (4) starts after glass down (3) ends, which lasts 2 ticks
+hand (2) is open and may last more than the 7 ticks that these limits leave.
+"""),
+    ([], "step 0 open\nstep 1 open\nstep 2 open\nstep 3 open\nlink 0 1 at-least 0\nlink 0 3 at-most 8\nlink 1 2 after\nlink 2 3 at-least 1\n", 1,
+     """refused 11: for some list of durations no start times keep every link
+""" + CLASH + """  line 6, link 0 3 at-most 8
+    step 3 starts at tick 8 or before
+  line 7, link 1 2 after
+    step 2 starts after step 1 ends, which is open
+  line 8, link 2 3 at-least 1
+    step 3 starts at least 1 tick after step 2 starts
+step 1 is open and may last more than the 7 ticks that these limits leave.
+"""),
+    ([], "step 0 open\nstep 1 open # one\nstep 2 open # two\nstep 3 fixed 1 # three\nlink 0 1 after\nlink 1 2 after\nlink 2 3 after\nlink 1 3 at-most 5\n"
+     "link 0 3 at-least 2\n", 1, """refused 11: for some list of durations no start times keep every link
+""" + CLASH + """  line 6, link 1 2 after
+    two (2) starts after one (1) ends, which is open
+  line 8, link 1 3 at-most 5
+    three (3) starts at most 5 ticks after one (1) starts
+  line 7, link 2 3 after
+    three (3) starts after two (2) ends, which is open
+one (1) and two (2) are open and together may last more than the 5 ticks that these limits leave.
+"""),
+    ([], "step 0 open\nstep 1 open # one\nstep 2 open # two\nstep 3 fixed 1\nlink 0 1 after\nlink 1 2 at-least 0\nlink 2 3 after\nlink 1 3 after at-most-from-finish 4\n", 1,
+     """refused 11: for some list of durations no start times keep every link
+""" + CLASH + """  line 6, link 1 2 at-least 0
+    two (2) starts at least 0 ticks after one (1) starts
+  line 8, link 1 3 after at-most-from-finish 4
+    step 3 starts at most 4 ticks after one (1) ends
+  line 7, link 2 3 after
+    step 3 starts after two (2) ends, which is open
+two (2) is open and may last longer than these limits leave.
+"""),
+    ([], STEPS + LINKS + "link 0 3 at-most 9\nlink 3 4 after at-most 1\n", 1, """refused 10: with all open durations 0, no start times keep every link
+""" + CLASH + """  line 10, link 0 3 at-most 9
+    glass down (3) starts at tick 9 or before
+  line 9, link 2 3 after
+    glass down (3) starts after hand (2) ends, which is open
+They are refused even without the others, as 11: for some list of durations no start times keep every link.
+hand (2) is open and may last more than the 9 ticks that these limits leave.
+"""),
+    # waits that cannot be put in
+    ([], "step 0 open\nstep 1 open # left hand\nstep 2 open # right hand\nstep 3 fixed 1 # left clamp\nstep 4 fixed 1 # right clamp\nlink 0 1 after\nlink 0 2 after\n"
+     "link 1 3 after at-most-from-finish 5\nlink 2 3 after\nlink 1 4 after\nlink 2 4 after at-most-from-finish 6\nlink 3 4 at-least 0\n", 1,
+     """refused 28: the waits close a circle of forward links, or leave no start times with all open durations 0
+""" + CLASH + """  line 8, link 1 3 after at-most-from-finish 5
+    left clamp (3) starts after left hand (1) ends, which is open
+    left clamp (3) starts at most 5 ticks after left hand (1) ends
+  line 10, link 1 4 after
+    right clamp (4) starts after left hand (1) ends, which is open
+  line 9, link 2 3 after
+    left clamp (3) starts after right hand (2) ends, which is open
+  line 11, link 2 4 after at-most-from-finish 6
+    right clamp (4) starts after right hand (2) ends, which is open
+    right clamp (4) starts at most 6 ticks after right hand (2) ends
+Waits that cannot all be put in:
+  right hand (2) waits for the end of left hand (1)
+    for line 11, link 2 4 after at-most-from-finish 6: right clamp (4) starts at most 6 ticks after right hand (2) ends
+  left hand (1) waits for the end of right hand (2)
+    for line 8, link 1 3 after at-most-from-finish 5: left clamp (3) starts at most 5 ticks after left hand (1) ends
+"""),
+    # entries of a list
+    (["0=1", "hand=16777216", "3=4294967296", "exposure=0"], STEPS + LINKS + "link 3 4 after at-most 2\n", 1,
+     """refused 13: a duration is above 16,777,215, or is not 0 and belongs to step 0 or to a fixed step
+start (0) is the start and has ended at tick 0: its entry can only be 0, and is 1.
+hand (2) is open: its entry can be at most 16777215, and is 16777216.
+glass down (3) lasts 2 ticks, as the sheet says: its entry can only be 0, and is 4294967296.
+"""),
+    # a plan, and start times
+    (["hand=10"], STEPS + LINKS + "link 3 4 after at-most 2\n", 0, """verdict 0     sound: it can be kept whatever time its open steps take
+waits 0       no step has to wait for more than the sheet says
+start 0 0 0   start (0) starts at tick 0
+start 1 0 0   lamps (1) starts at tick 0
+start 2 0 0   hand (2) starts at tick 0
+start 3 0 1   glass down (3) starts at tick 1,
+start 3 2 0     or when hand (2) ends, whichever is later
+start 4 0 3   exposure (4) starts at tick 3,
+start 4 2 2     or 2 ticks after hand (2) ends, whichever is later
+
+Where hand (2) lasts 10 ticks:
+  start (0) starts at tick 0
+  lamps (1) starts at tick 0 and ends at 3
+  hand (2) starts at tick 0 and ends at 10
+  glass down (3) starts at tick 10 and ends at 12
+  exposure (4) starts at tick 12 and ends at 13
+"""),
+    # a text that is no sheet
+    ([], STEPS + "link 5 1 after\n", 1, "This text holds no sheet: line 6: there is no step 5\n"),
+]
+# Two hands, a third one; the left clamp has a limit for the right clamp and one that calls for nothing.
+WAITS = """step 0 open
+step 1 open # left hand
+step 2 open # right hand
+step 3 fixed 1 # left clamp
+step 4 fixed 1 # right clamp
+step 5 fixed 0
+step 6 open # third hand
+link 0 1 after
+link 0 2 after
+link 0 6 after
+link 1 3 after
+link 2 4 after
+link 6 4 after
+link 3 4 at-most 5
+link 3 5 after at-most 9
+"""
+LINES = """  left clamp (3) waits for the end of right hand (2)
+    for line 14, link 3 4 at-most 5: right clamp (4) starts at most 5 ticks after left clamp (3) starts
+  left clamp (3) waits for the end of third hand (6)
+    for line 14, link 3 4 at-most 5: right clamp (4) starts at most 5 ticks after left clamp (3) starts
+"""
+ACCEPTED = """verdict 1     sound with waits: it can be kept whatever time its open steps take, if steps wait as listed
+waits 2
+wait 2 3      left clamp (3) waits for the end of right hand (2)
+                for line 14, link 3 4 at-most 5: right clamp (4) starts at most 5 ticks after left clamp (3) starts
+wait 6 3      left clamp (3) waits for the end of third hand (6)
+                for line 14, link 3 4 at-most 5: right clamp (4) starts at most 5 ticks after left clamp (3) starts
+start 0 0 0   step 0 starts at tick 0
+start 1 0 0   left hand (1) starts at tick 0
+start 2 0 0   right hand (2) starts at tick 0
+start 3 1 0   left clamp (3) starts when left hand (1) ends,
+start 3 2 0     or when right hand (2) ends,
+start 3 6 0     or when third hand (6) ends, whichever is latest
+start 4 2 0   right clamp (4) starts when right hand (2) ends,
+start 4 6 0     or when third hand (6) ends, whichever is later
+start 5 1 1   step 5 starts 1 tick after left hand (1) ends,
+start 5 2 1     or 1 tick after right hand (2) ends,
+start 5 6 1     or 1 tick after third hand (6) ends, whichever is latest
+start 6 0 0   third hand (6) starts at tick 0
+"""
+
+
+def ran(*words, given=b""):
+    done = subprocess.run([TOOL, *words], input=given, capture_output=True, cwd="/")
+    return done.returncode, done.stdout.decode(), done.stderr.decode()
+
+
+def check(found, wanted, what):
+    assert found == wanted, f"{what}:\n{found}\nnot\n{wanted}"
+
+
+if __name__ == "__main__":
+    for data, wanted in BYTES:
+        check(ran("-", given=bytes.fromhex(data)), (1, wanted, ""), data)
+    for words, text, status, wanted in TEXTS:
+        check(ran("-", *words, given=text.encode()), (status, wanted, ""), text)
+    check(ran("-", given=WAITS.encode()), (0, ACCEPTED, ""), "waits")
+    check(ran("--no-waits", "-", given=WAITS.encode()),
+          (1, "refused 12: waits are needed and the caller did not allow them\nIt is sound with these waits:\n" + LINES, ""), "waits that are not allowed")
+    check({int(wanted.split()[1].rstrip(":")) for _, wanted in BYTES} | {int(wanted.split()[1].rstrip(":")) for *_, wanted in TEXTS if wanted.startswith("refused")} | {12},
+          {*range(1, 14), 26, 28}, "refusals of the input")
+
+    stand = ROOT / "examples/stand.sheet"
+    with tempfile.TemporaryDirectory() as name:
+        path = Path(name) / "a sheet"
+        path.write_text(STEPS + "link 0 1 after\n")
+        check(ran(path)[1].splitlines()[1], "No after or at-least link leads to hand (2), glass down (3) and exposure (4).", "a file")
+        check(ran(path, "hands=3"), (2, "", f"{path}: 'hands=3': the sheet has no step hands\n"), "no such step")
+        path.write_text("step 0 open\nstep 1 open # hand\nstep 2 open # hand\nstep 3 open # 1\n")
+        check(ran(path, "hand=3"), (2, "", f"{path}: 'hand=3': more than one step has the name hand\n"), "two names")
+        check(ran(path, "2=3", "2=4"), (2, "", f"{path}: '2=4': hand (2) has its ticks already\n"), "two entries")
+    check(ran(stand, "2:3"), (2, "", f"{stand}: '2:3' is not a step, '=' and its ticks\n"), "no duration")
+    check(ran(stand)[:2], (0, "".join(ran(ROOT / "examples/stand.text")[1]).replace("start (0)", "step 0").replace("lamps (1)", "step 1")
+                           .replace("hand (2)", "step 2").replace("glass down (3)", "step 3").replace("exposure (4)", "step 4")), "bytes have no names")
+    check(ran(ROOT / "tests"), (2, "", f"{ROOT / 'tests'}: Is a directory\n"), "a directory")
+    check(ran("/none"), (2, "", "/none: No such file or directory\n"), "no file")
+    check((ran()[:2], ran("-x")[:2], ran("--no-waits")[:2], ran("--help")[0]), ((2, ""), (2, ""), (2, ""), 0), "wrong use, help")
+    print(f"{len(BYTES) + len(TEXTS) + 2} sheets explained word for word")
