@@ -57,7 +57,7 @@ struct Boost {
             const int a = g.step[k];
             for (int v = 0; v < g.steps; v++) distance[v] = unreached;
             for (int l = g.first[a]; l < g.first[a + 1]; l++)
-                if (g.forward[l].after) distance[g.forward[l].to] = 0;
+                if (g.forward[l].after) distance[g.forward[l].to] = -g.forward[l].gap;
             if (g.waits)
                 for (uint64_t map = g.out[k]; map; map &= map - 1) distance[lowest(map)] = 0;
             if (late >> a & 1) search(g, graph(g, g.waits, a), distance);

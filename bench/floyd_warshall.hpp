@@ -64,14 +64,14 @@ struct FloydWarshall {
             if (late >> a & 1) close(g, g.waits, a, own), from = &own;
             for (int v = 0; v < g.steps; v++) walk[v * g.anchors + k] = k == 0 ? t[0][v] : unreached;
             if (k == 0) continue;
-            auto first = [&](int s) {
+            auto first = [&](int s, int32_t gap) {
                 for (int v = 0; v < g.steps; v++)
-                    if ((*from)[s][v] > walk[v * g.anchors + k]) walk[v * g.anchors + k] = (*from)[s][v];
+                    if (gap + (*from)[s][v] > walk[v * g.anchors + k]) walk[v * g.anchors + k] = gap + (*from)[s][v];
             };
             for (int l = g.first[a]; l < g.first[a + 1]; l++)
-                if (g.forward[l].after) first(g.forward[l].to);
+                if (g.forward[l].after) first(g.forward[l].to, g.forward[l].gap);
             if (g.waits)
-                for (uint64_t map = g.out[k]; map; map &= map - 1) first(lowest(map));
+                for (uint64_t map = g.out[k]; map; map &= map - 1) first(lowest(map), 0);
         }
         return true;
     }

@@ -44,7 +44,7 @@ struct Lemon {
         const int a = g.step[k];
         search.init();
         for (int l = g.first[a]; l < g.first[a + 1]; l++)
-            if (g.forward[l].after) search.addSource(d.nodeFromId(g.forward[l].to), 0);
+            if (g.forward[l].after) search.addSource(d.nodeFromId(g.forward[l].to), -g.forward[l].gap);
         if (g.waits)
             for (uint64_t map = g.out[k]; map; map &= map - 1) search.addSource(d.nodeFromId(lowest(map)), 0);
         search.start();

@@ -42,7 +42,7 @@ static std::vector<Line> lines(const Sheet &s, const List &list) {
         const int lasts = int(list[v]);
         for (int l = g.first[v]; l < g.first[v + 1]; l++) {
             const planner::Forward &f = g.forward[l];
-            out.push_back({v, f.to, f.after ? std::max(f.weight, lasts) : f.weight});
+            out.push_back({v, f.to, f.after ? std::max(f.weight, lasts + f.gap) : f.weight});
         }
         for (uint64_t map = g.need[v]; map; map &= map - 1) {
             const int a = g.step[planner::lowest(map)];

@@ -25,15 +25,15 @@
 extern "C" {
 #endif
 
-#define STANDPLAN_VERSION "1.3.0"
+#define STANDPLAN_VERSION "1.4.0"
 #define STANDPLAN_VERSION_MAJOR 1
-#define STANDPLAN_VERSION_MINOR 3
+#define STANDPLAN_VERSION_MINOR 4
 #define STANDPLAN_VERSION_PATCH 0
 
 /* The most that there can be: steps and link records of a sheet, bytes of a sheet, numbers of a plan, ticks in a list of durations. */
 #define STANDPLAN_MAX_STEPS 64
 #define STANDPLAN_MAX_RECORDS 512
-#define STANDPLAN_MAX_SHEET 4801
+#define STANDPLAN_MAX_SHEET 5825
 #define STANDPLAN_MAX_TABLE 4096
 #define STANDPLAN_MAX_DURATION UINT32_C(16777215)
 

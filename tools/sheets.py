@@ -14,13 +14,14 @@ from pathlib import Path
 
 ROOT = Path(__file__).resolve().parent.parent
 STEPS, RECORDS, LARGEST = 64, 512, 65535
-AFTER, AT_LEAST, AT_MOST, FROM_FINISH = "after", "at-least", "at-most", "at-most-from-finish"
-BITS = {AFTER: 1, AT_LEAST: 2, AT_MOST: 4, FROM_FINISH: 16}         # of a link map, in the order of their fields
+AFTER, GAP, AT_LEAST, AT_MOST, FROM_FINISH = "after", "gap", "at-least", "at-most", "at-most-from-finish"
+BITS = {AFTER: 1, AT_LEAST: 2, AT_MOST: 4, GAP: 8, FROM_FINISH: 16}  # of a link map, in the order of their fields
+WORDS = (AFTER, AT_LEAST, AT_MOST, FROM_FINISH)                      # the links that a pair may have, in the order of a line
 
 
 @dataclass
 class Sheet:
-    """Steps: "open" or the fixed duration. Links: by the pair (i, j), each word with its number, or None for after."""
+    """Steps: "open" or the fixed duration. Links: by the pair (i, j), each word with its number; that of after is its gap, or None where it has none."""
 
     steps: list[str | int] = field(default_factory=list)
     links: dict[tuple[int, int], dict[str, int | None]] = field(default_factory=dict)
@@ -89,15 +90,17 @@ def from_bytes(data: bytes) -> Sheet:
         if bits == 0 or bits & ~sum(BITS.values()):
             wrong = "an empty map" if bits == 0 else "a bit that no link map has"
             raise source.fault(4, place, f"the map of link record {k} is {bits:02x}, {wrong}")
-        if bits & BITS[FROM_FINISH] and not bits & BITS[AFTER]:
-            raise source.fault(26, place, f"the map of link record {k} is {bits:02x}: bit 4, at most from the finish, without bit 0, after")
+        for word, number, bit in ((GAP, 4, "bit 3, a gap"), (FROM_FINISH, 26, "bit 4, at most from the finish")):
+            if bits & BITS[word] and not bits & BITS[AFTER]:
+                raise source.fault(number, place, f"the map of link record {k} is {bits:02x}: {bit}, without bit 0, after")
         i, j = pair = source.number(1), source.number(1)
         if i >= n or j >= n or i == j:
             wrong = "from a step to itself" if i == j and i < n else f"and the steps are 0 to {n - 1}"
             raise source.fault(5, place + 1 if i >= n else place + 2, f"link record {k} is for the pair {i}, {j}, {wrong}")
         if pair <= last:
             raise source.fault(6, place + 1, f"link record {k} is for the pair {i}, {j}, and record {k - 1} before it for {last[0]}, {last[1]}; pairs rise")
-        sheet.links[pair] = {word: None if word == AFTER else source.number(2) for word, bit in BITS.items() if bits & bit}
+        numbers = {word: source.number(2) for word, bit in BITS.items() if bits & bit and word != AFTER}
+        sheet.links[pair] = {word: numbers.get(GAP if word == AFTER else word) for word in WORDS if bits & BITS[word]}
         sheet.places[pair] = f"record {k}, byte {place}"
         last = pair
     if source.at < len(data):
@@ -111,10 +114,11 @@ def two(x: int) -> bytes:
 
 @cache
 def _link_piece(pair: tuple[int, int], words: tuple[tuple[str, int | None], ...]) -> tuple[bytes, str]:
-    given = [(word, dict(words)[word]) for word in BITS if word in dict(words)]
-    fields = b"".join(two(x) for _, x in given if x is not None)
-    text = "".join(f" {word}" if x is None else f" {word} {x}" for word, x in given)
-    return bytes([sum(BITS[word] for word, _ in given), *pair]) + fields, f"link {pair[0]} {pair[1]}{text}"
+    given = dict(words)
+    numbers = {GAP if word == AFTER else word: given[word] for word in WORDS if given.get(word) is not None}
+    fields = b"".join(two(numbers[word]) for word in BITS if word in numbers)
+    text = (" after" if AFTER in given else "") + "".join(f" {word} {x}" for word, x in numbers.items())
+    return bytes([sum(BITS[word] for word in given.keys() | numbers.keys()), *pair]) + fields, f"link {pair[0]} {pair[1]}{text}"
 
 
 def pieces(sheet: Sheet) -> list[tuple[bytes, str]]:
@@ -139,6 +143,9 @@ def to_bytes(sheet: Sheet) -> bytes:
 
 
 # ---------------------------------------------------------------- text
+
+_LINKS = ", ".join((AFTER, f"{AFTER} {GAP}", *WORDS[1:]))
+
 
 def to_text(sheet: Sheet, show_bytes: bool = False) -> str:
     """The sheet as text: the steps, then the links, rising; with show_bytes each line has its bytes as a comment."""
@@ -183,22 +190,25 @@ def _step_line(words: list[str]) -> tuple[int, str | int, bool]:
 def _link_line(words: list[str]) -> tuple[tuple[int, int], dict[str, int | None]]:
     """A link line's pair, and its words with their numbers."""
     if len(words) < 3:
-        raise NoSheet(f"a link has two steps, then one or more of {', '.join(BITS)}")
+        raise NoSheet(f"a link has two steps, then one or more of {_LINKS}")
     pair, given, rest = (_step_number(words[0]), _step_number(words[1])), {}, words[2:]
     if pair[0] == pair[1]:
         raise NoSheet(f"a link from step {pair[0]} to itself")
     while rest:
         word, *rest = rest
-        if word not in BITS:
-            raise NoSheet(f"'{word}' is none of {', '.join(BITS)}")
+        if word == GAP:
+            raise NoSheet(f"'{GAP}' stands only right behind '{AFTER}'")
+        if word not in WORDS:
+            raise NoSheet(f"'{word}' is none of {_LINKS}")
         if word in given:
             raise NoSheet(f"'{word}' stands twice")
-        if word == AFTER:
+        if word == AFTER and rest[:1] != [GAP]:
             given[word] = None
-        elif rest:
-            given[word] = _number(rest.pop(0), LARGEST, "a bound is")
-        else:
-            raise NoSheet(f"'{word}' has no number behind it")
+            continue
+        named = rest.pop(0) if word == AFTER else word
+        if not rest:
+            raise NoSheet(f"'{named}' has no number behind it")
+        given[word] = _number(rest.pop(0), LARGEST, "a gap is" if named == GAP else "a bound is")
     if FROM_FINISH in given and AFTER not in given:
         raise NoSheet(f"'{FROM_FINISH}' stands only beside '{AFTER}' (refusal 26)")
     return pair, given

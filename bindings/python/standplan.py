@@ -25,13 +25,13 @@ from collections.abc import Iterable, Sequence
 from functools import cache
 from pathlib import Path
 
-__version__ = "1.3.0"
+__version__ = "1.4.0"
 __all__ = ["SOUND", "SOUND_WITH_WAITS", "UNDECIDED", "MAX_STEPS", "MAX_RECORDS", "MAX_SHEET", "MAX_TABLE", "MAX_DURATION", "STACK", "SENTENCES",
            "Refused", "NoLibrary", "Plan", "Run", "judge", "waits", "plan", "starts"]
 
 SOUND, SOUND_WITH_WAITS = 0, 1                          # the verdicts
 UNDECIDED = 4294967295                                  # the number in a plan where a step does not decide another
-MAX_STEPS, MAX_RECORDS, MAX_SHEET, MAX_TABLE, MAX_DURATION = 64, 512, 4801, 4096, 16777215
+MAX_STEPS, MAX_RECORDS, MAX_SHEET, MAX_TABLE, MAX_DURATION = 64, 512, 5825, 4096, 16777215
 STACK = 81920                                           # bytes of stack that are enough for any call
 
 SENTENCES = {

@@ -1,5 +1,5 @@
-"""tools/explain on stored sheets of each verdict, beside the reference planner (tests/reference): what is said is of the sheet's verdict; the records that
-clash are refused still, and not without any one of them; plans are those of ./standplan, and each wait has a limit."""
+"""tools/explain on stored sheets of each verdict, with gaps and without, beside the reference planner (tests/reference): what is said is of the sheet's
+verdict; the records that clash are refused still, and not without any one of them; plans are those of ./standplan, and each wait has a limit."""
 import importlib.machinery
 import importlib.util
 import re
@@ -69,9 +69,10 @@ def planned(data, said):
 if __name__ == "__main__":
     seen, records = Counter(), Counter()
     for data, verdict in stored.sheets():
-        if seen[verdict] == EACH:
+        kind = verdict, stored.has_gap(data)
+        if seen[kind] == EACH:
             continue
-        seen[verdict] += 1
+        seen[kind] += 1
         status, said = tool.explained(data, [], False)
         if verdict == "0":
             assert status == 0, said
@@ -89,5 +90,8 @@ if __name__ == "__main__":
             hanging = set(re.findall(r"step (\d+)", said[1]))
             entered = {str(j) for (_, j), words in sheets.from_bytes(data).links.items() if "after" in words or "at-least" in words}
             assert hanging and not hanging & entered, said
-    assert {*seen} == {"0", *(f"refused {k}" for k in (*range(1, 13), 26, 28))}, seen
-    print(f"{seen.total()} stored sheets explained; {records.total()} records clash in {sum(seen[f'refused {k}'] for k in NUMBERS)} of them")
+    assert {verdict for verdict, _ in seen} == {"0", *(f"refused {k}" for k in (*range(1, 13), 26, 28))}, seen
+    clashing = sum(seen[f"refused {k}", gap] for k in NUMBERS for gap in (False, True))
+    with_gaps = sum(count for (_, gap), count in seen.items() if gap)
+    assert with_gaps, seen
+    print(f"{seen.total()} stored sheets explained, {with_gaps} of them with gaps; {records.total()} records clash in {clashing} of them")

@@ -18,7 +18,10 @@ BYTES = [
     ("02 00 00 01 03", "refused 4: a map that is not allowed or has an unknown bit\n"
      "byte 4: the map of step 1 is 03, and it can only be 01 (open), 02 (fixed) or 00 (fixed, duration 0)\n"),
     ("02 01 00 01 01 00 00 01", "refused 4: a map that is not allowed or has an unknown bit\nbyte 5: the map of link record 0 is 00, an empty map\n"),
-    ("02 01 00 01 01 09 00 01", "refused 4: a map that is not allowed or has an unknown bit\nbyte 5: the map of link record 0 is 09, a bit that no link map has\n"),
+    ("02 01 00 01 01 21 00 01", "refused 4: a map that is not allowed or has an unknown bit\nbyte 5: the map of link record 0 is 21, a bit that no link map has\n"),
+    ("02 01 00 01 01 0a 00 01", "refused 4: a map that is not allowed or has an unknown bit\nbyte 5: the map of link record 0 is 0a: bit 3, a gap, without bit 0, after\n"),
+    ("02 01 00 01 01 18 00 01", "refused 4: a map that is not allowed or has an unknown bit\nbyte 5: the map of link record 0 is 18: bit 3, a gap, without bit 0, after\n"),
+    ("02 01 00 01 01 09 00 01 06", "refused 1: the bytes end before a field is complete\nbyte 9: the sheet has 9 bytes, and its end is inside link record 0 of 1\n"),
     ("03 01 00 01 01 01 01 03 01", "refused 5: i or j is N or more, or i = j\nbyte 7: link record 0 is for the pair 3, 1, and the steps are 0 to 2\n"),
     ("02 01 00 01 01 01 01 01", "refused 5: i or j is N or more, or i = j\nbyte 7: link record 0 is for the pair 1, 1, from a step to itself\n"),
     ("03 02 00 01 01 01 01 00 02 01 00 01",
@@ -50,6 +53,17 @@ The circle: step 1, then step 2, then step 1. Its links:
     step 2 starts after step 1 ends, which is open
   line 7, link 2 1 after
     step 1 starts after step 2 ends, which is open
+"""),
+    # a circle with gaps
+    ([], STEPS + LINKS.replace("2 3 after", "2 3 after gap 6") + "link 3 4 after gap 0\nlink 4 2 after gap 1 at-most-from-finish 3\n", 1,
+     """refused 8: forward links close a circle
+The circle: hand (2), then glass down (3), then exposure (4), then hand (2). Its links:
+  line 9, link 2 3 after gap 6
+    glass down (3) starts at least 6 ticks after hand (2) ends, which is open
+  line 10, link 3 4 after gap 0
+    exposure (4) starts at least 0 ticks after glass down (3) ends, which lasts 2 ticks
+  line 11, link 4 2 after gap 1 at-most-from-finish 3
+    hand (2) starts at least 1 tick after exposure (4) ends, which lasts 1 tick
 """),
     # the step that nothing enters, or both; one that has a limit; one that leads back to 0
     ([], STEPS + LINKS.replace("link 0 2 after\n", "") + "link 3 4 after at-most 2\n", 1, """refused 9: a step has no chain of forward links from step 0
@@ -86,6 +100,64 @@ Added up, 5 ticks are needed where 4 are allowed.
   line 9, link 2 3 after
     glass down (3) starts after hand (2) ends, which is open
 Added up, 5 ticks are needed where 4 are allowed, with open steps at 0.
+"""),
+    # gaps: in a chain; above a limit from the finish of an open step, of a fixed one, of the start; beside one that an at-least link breaks
+    ([], STEPS + LINKS.replace("2 3 after", "2 3 after gap 6") + "link 0 4 at-most 7\nlink 3 4 after\n", 1, """refused 10: with all open durations 0, no start times keep every link
+""" + CLASH + """  line 10, link 0 4 at-most 7
+    exposure (4) starts at tick 7 or before
+  line 9, link 2 3 after gap 6
+    glass down (3) starts at least 6 ticks after hand (2) ends, which is open
+  line 11, link 3 4 after
+    exposure (4) starts after glass down (3) ends, which lasts 2 ticks
+Added up, 8 ticks are needed where 7 are allowed, with open steps at 0.
+"""),
+    ([], STEPS + LINKS.replace("2 3 after", "2 3 after gap 6 at-most-from-finish 5") + "link 3 4 after\n", 1,
+     """refused 10: with all open durations 0, no start times keep every link
+This record alone cannot be kept:
+  line 9, link 2 3 after gap 6 at-most-from-finish 5
+    glass down (3) starts at least 6 ticks after hand (2) ends, which is open
+    glass down (3) starts at most 5 ticks after hand (2) ends
+Added up, 6 ticks are needed where 5 are allowed.
+"""),
+    ([], STEPS + LINKS + "link 3 4 after gap 6 at-least 1 at-most 9 at-most-from-finish 5\n", 1, """refused 10: with all open durations 0, no start times keep every link
+This record alone cannot be kept:
+  line 10, link 3 4 after gap 6 at-least 1 at-most 9 at-most-from-finish 5
+    exposure (4) starts at least 6 ticks after glass down (3) ends, which lasts 2 ticks
+    exposure (4) starts at most 5 ticks after glass down (3) ends
+Added up, 8 ticks are needed where 7 are allowed.
+"""),
+    ([], STEPS + LINKS.replace("0 1 after", "0 1 after gap 6 at-most-from-finish 5") + "link 3 4 after\n", 1,
+     """refused 10: with all open durations 0, no start times keep every link
+This record alone cannot be kept:
+  line 6, link 0 1 after gap 6 at-most-from-finish 5
+    lamps (1) starts at tick 6 or later
+    lamps (1) starts at tick 5 or before
+Added up, 6 ticks are needed where 5 are allowed.
+"""),
+    ([], STEPS + LINKS + "link 3 4 after gap 5 at-least 9 at-most-from-finish 5\n", 1, """refused 10: with all open durations 0, no start times keep every link
+This record alone cannot be kept:
+  line 10, link 3 4 after gap 5 at-least 9 at-most-from-finish 5
+    exposure (4) starts at least 9 ticks after glass down (3) starts
+    exposure (4) starts at most 5 ticks after glass down (3) ends
+Added up, 9 ticks are needed where 7 are allowed.
+"""),
+    # a limit from the finish beside one that breaks: neither it nor its after link has a part
+    ([], STEPS + LINKS + "link 3 4 after at-least 9 at-most 4 at-most-from-finish 60\n", 1, """refused 10: with all open durations 0, no start times keep every link
+This record alone cannot be kept:
+  line 10, link 3 4 after at-least 9 at-most 4 at-most-from-finish 60
+    exposure (4) starts at least 9 ticks after glass down (3) starts
+    exposure (4) starts at most 4 ticks after glass down (3) starts
+Added up, 9 ticks are needed where 4 are allowed.
+"""),
+    # a gap takes of what a limit leaves
+    ([], STEPS + LINKS.replace("2 3 after", "2 3 after gap 6") + "link 2 4 at-most 9\nlink 3 4 after\n", 1, """refused 11: for some list of durations no start times keep every link
+""" + CLASH + """  line 9, link 2 3 after gap 6
+    glass down (3) starts at least 6 ticks after hand (2) ends, which is open
+  line 10, link 2 4 at-most 9
+    exposure (4) starts at most 9 ticks after hand (2) starts
+  line 11, link 3 4 after
+    exposure (4) starts after glass down (3) ends, which lasts 2 ticks
+hand (2) is open and may last more than the 1 tick that these limits leave.
 """),
     # an open step in a limit; two of them; beside a limit from the finish of another; inside a sheet that is refused as 10
     ([], STEPS + LINKS + "link 2 4 at-most 9\nlink 3 4 after\n", 1, """refused 11: for some list of durations no start times keep every link
@@ -155,6 +227,22 @@ Waits that cannot all be put in:
   left hand (1) waits for the end of right hand (2)
     for line 8, link 1 3 after at-most-from-finish 5: left clamp (3) starts at most 5 ticks after left hand (1) ends
 """),
+    # the same, with gaps
+    ([], "step 0 open\nstep 1 open # left hand\nstep 2 open # right hand\nstep 3 fixed 1 # clamp\nlink 0 1 after\nlink 0 2 after gap 2\n"
+     "link 1 3 after gap 6 at-most-from-finish 7\nlink 2 3 after gap 1 at-most-from-finish 2\n", 1,
+     """refused 28: the waits close a circle of forward links, or leave no start times with all open durations 0
+""" + CLASH + """  line 7, link 1 3 after gap 6 at-most-from-finish 7
+    clamp (3) starts at least 6 ticks after left hand (1) ends, which is open
+    clamp (3) starts at most 7 ticks after left hand (1) ends
+  line 8, link 2 3 after gap 1 at-most-from-finish 2
+    clamp (3) starts at least 1 tick after right hand (2) ends, which is open
+    clamp (3) starts at most 2 ticks after right hand (2) ends
+Waits that cannot all be put in:
+  right hand (2) waits for the end of left hand (1)
+    for line 8, link 2 3 after gap 1 at-most-from-finish 2: clamp (3) starts at most 2 ticks after right hand (2) ends
+  left hand (1) waits for the end of right hand (2)
+    for line 7, link 1 3 after gap 6 at-most-from-finish 7: clamp (3) starts at most 7 ticks after left hand (1) ends
+"""),
     # entries of a list
     (["0=1", "hand=16777216", "3=4294967296", "exposure=0"], STEPS + LINKS + "link 3 4 after at-most 2\n", 1,
      """refused 13: a duration is above 16,777,215, or is not 0 and belongs to step 0 or to a fixed step
@@ -180,8 +268,30 @@ Where hand (2) lasts 10 ticks:
   glass down (3) starts at tick 10 and ends at 12
   exposure (4) starts at tick 12 and ends at 13
 """),
-    # a text that is no sheet
+    # a plan with gaps, one of them out of the start, and a wait
+    (["left hand=5", "2=7"], "step 0 open\nstep 1 open # left hand\nstep 2 open # right hand\nstep 3 fixed 1 # left clamp\nstep 4 fixed 1 # right clamp\n"
+     "link 0 1 after gap 4\nlink 0 2 after\nlink 1 3 after gap 6\nlink 2 4 after gap 3\nlink 3 4 at-most 2\n", 0,
+     """verdict 1     sound with waits: it can be kept whatever time its open steps take, if steps wait as listed
+waits 1
+wait 2 3      left clamp (3) waits for the end of right hand (2)
+                for line 10, link 3 4 at-most 2: right clamp (4) starts at most 2 ticks after left clamp (3) starts
+start 0 0 0   step 0 starts at tick 0
+start 1 0 4   left hand (1) starts at tick 4
+start 2 0 0   right hand (2) starts at tick 0
+start 3 1 6   left clamp (3) starts 6 ticks after left hand (1) ends,
+start 3 2 1     or 1 tick after right hand (2) ends, whichever is later
+start 4 2 3   right clamp (4) starts 3 ticks after right hand (2) ends
+
+Where left hand (1) lasts 5 ticks and right hand (2) lasts 7 ticks:
+  step 0 starts at tick 0
+  left hand (1) starts at tick 4 and ends at 9
+  right hand (2) starts at tick 0 and ends at 7
+  left clamp (3) starts at tick 15 and ends at 16
+  right clamp (4) starts at tick 10 and ends at 11
+"""),
+    # texts that are no sheet
     ([], STEPS + "link 5 1 after\n", 1, "This text holds no sheet: line 6: there is no step 5\n"),
+    ([], STEPS + "link 0 1 gap 6\n", 1, "This text holds no sheet: line 6: 'gap' stands only right behind 'after'\n"),
 ]
 # Two hands, a third one; the left clamp has a limit for the right clamp and one that calls for nothing.
 WAITS = """step 0 open

@@ -166,7 +166,10 @@ void Examiner::sheet(const Bytes &bytes, Random &random) {
         each_side(
             judge, "judge", allowed, [&](Side &side) { return calls.judge(side.sheet.lent(), length, allow); }, nothing, [&] { return std::string("waits ") + (allow ? "allowed" : "not allowed"); });
     }
-    if (allowed < 256 && n == 64 && bytes[1] == 0 && bytes[2] == 2) met.largest++;
+    if (allowed < 256) {
+        if (n == 64 && bytes[1] == 0 && bytes[2] == 2) met.largest++;
+        met.longest = std::max(met.longest, length);
+    }
 
     {
         std::array<uint64_t, 64> maps, maps_before;

@@ -31,6 +31,7 @@ enum Call { judge, waits, plan, starts, begin, tick, finish, call_count };
 struct Met {
     std::array<std::array<uint64_t, 512>, call_count> verdicts{};
     uint64_t largest = 0;      // accepted sheets with N = 64 and R = 512
+    size_t longest = 0;        // bytes of an accepted sheet
     uint32_t heaviest = 0;     // the largest offset of a plan
     uint64_t proper_runs = 0;  // runs of an accepted sheet's plan
     uint64_t ended_runs = 0;   // those in which every step started and every open one finished
@@ -45,7 +46,7 @@ void case_begins(uint64_t seed, const char *kind, uint64_t number);
 class Examiner {
     struct Side {
         Guard guard;
-        Lent sheet{guard, 2}, table{guard, 5}, list{guard, 1}, out{guard, 1}, maps{guard, 1}, count{guard, 1};
+        Lent sheet{guard, Lent::pages_for(longest_input)}, table{guard, Lent::pages_for(longest_table * sizeof(uint32_t))}, list{guard, 1}, out{guard, 1}, maps{guard, 1}, count{guard, 1};
         Lent words{guard, 1}, tick{guard, 1}, start{guard, 1}, finish{guard, 1}, map{guard, 1};
     };
     class Run;

@@ -9,7 +9,7 @@
 
 namespace {
 
-enum : uint8_t { after = 1, at_least = 2, at_most = 4, from_finish = 16 };
+enum : uint8_t { after = 1, at_least = 2, at_most = 4, with_gap = 8, from_finish = 16, all_fields = 31 };
 
 struct Step {
     bool open = false;
@@ -19,7 +19,7 @@ struct Step {
 
 struct Link {
     uint8_t map = 0;
-    uint16_t least = 0, most = 0, finish = 0;
+    uint16_t least = 0, most = 0, gap = 0, finish = 0;
 };
 
 struct Sheet {
@@ -40,13 +40,12 @@ struct Sheet {
             out.insert(out.end(), {link.map, pair.first, pair.second});
             if (link.map & at_least) two(link.least);
             if (link.map & at_most) two(link.most);
+            if (link.map & with_gap) two(link.gap);
             if (link.map & from_finish) two(link.finish);
         }
         return out;
     }
 };
-
-constexpr size_t most_links = 512;
 
 // What kind of sheet is aimed at; what comes out is for the planners to say.
 struct Aim {
@@ -54,15 +53,20 @@ struct Aim {
     uint32_t forward;    // forward links beside the one that each step hangs on
     uint32_t limits;     // at-most links
     uint32_t heaviest;   // durations and at-leasts
+    uint32_t gaps;       // of a hundred after links, those with a gap
+    uint32_t widest;     // gaps
     uint32_t open;       // how many of a hundred steps are open
     uint32_t contained;  // of a hundred limits, those on pairs where the start set of j is in that of i
     uint32_t waiting;    // of a hundred of the others, those on pairs where a wait of i for the rest of that set closes no circle
     uint32_t too_tight;  // of a hundred limits, those that the drawn start times break
+    uint32_t too_wide;   // of a hundred sheets, those in which one gap is wider than the drawn start times leave it
     uint32_t finish;     // of a hundred limits, those from the finish
     uint32_t circle;     // of a hundred sheets, those with a forward link against the order
     uint32_t orphan;     // of a hundred sheets, those with a step that hangs on nothing
-    bool extremes;       // each duration and at-least is the heaviest
+    bool extremes;       // each duration, at-least and gap is the heaviest
     bool chain;          // each step hangs on the one before it
+    bool afters;         // each forward link is an after link
+    bool full;           // each record has every field, the limits that are added as wide as can be
 };
 
 uint32_t any_of(Random &random, std::initializer_list<uint32_t> numbers) { return numbers.begin()[random.below(uint32_t(numbers.size()))]; }
@@ -83,33 +87,62 @@ Aim draw_aim(Random &random) {
     aim.forward = random.chance(80) ? random.below(n + 1) : random.below(std::min<uint32_t>(n * n / 2, most_links) + 1);
     aim.limits = random.chance(70) ? random.from(1, n / 3 + 2) : random.chance(70) ? random.below(n + 1) : random.below(std::min<uint32_t>(n * n / 2, most_links) + 1);
     if (n == 64 && random.chance(50)) aim.forward = aim.limits = most_links; // as many as there is room for
-    aim.heaviest = any_of(random, {0, 2, 3, 9, 9, 100, 1000, 65535});
+    aim.heaviest = any_of(random, {0, 2, 3, 9, 9, 100, 1000, heaviest_field});
+    aim.gaps = any_of(random, {0, 0, 30, 70, 100});
+    aim.widest = any_of(random, {0, 1, 6, aim.heaviest, aim.heaviest, heaviest_field});
     aim.open = any_of(random, {0, 15, 15, 35, 35, 60, 100});
     aim.contained = any_of(random, {100, 100, 60, 0, 0, 0});
     aim.waiting = any_of(random, {100, 100, 95, 0, 0});
     aim.too_tight = any_of(random, {0, 0, 0, 0, 10, 40});
+    aim.too_wide = any_of(random, {0, 0, 0, 50});
     aim.finish = any_of(random, {0, 0, 30, 70, 100});
     aim.circle = any_of(random, {0, 0, 0, 0, 50});
     aim.orphan = any_of(random, {0, 0, 0, 0, 0, 0, 50});
     aim.extremes = random.chance(8);
     aim.chain = random.chance(15);
+    aim.afters = aim.full = false;
     if (random.chance(1)) { // the heaviest walks that there are
-        aim.steps = 64;
-        aim.heaviest = 65535;
+        aim.steps = most_steps;
+        aim.heaviest = aim.widest = heaviest_field;
+        aim.gaps = any_of(random, {100, 100, 0});
         aim.open = any_of(random, {0, 5});
-        aim.extremes = aim.chain = true;
+        aim.extremes = aim.chain = aim.afters = true;
+    } else if (random.chance(1)) { // the longest sheets that there are
+        aim.steps = most_steps;
+        aim.forward = 2 * most_links; // some fall on one pair
+        aim.limits = aim.open = 0;
+        aim.heaviest = aim.widest = random.below(10);
+        aim.full = true;
     }
     return aim;
 }
 
-uint32_t limited(uint32_t number) { return std::min<uint32_t>(number, 65535); }
+uint32_t limited(uint32_t number) { return std::min(number, heaviest_field); }
+
+Link &any_link(Random &random, Sheet &sheet) { return std::next(sheet.links.begin(), random.below(uint32_t(sheet.links.size())))->second; }
+
+void put_gap(Link &link, uint32_t gap) {
+    link.map |= with_gap;
+    link.gap = uint16_t(gap);
+}
+
+// Every field in every record. What is added asks for little.
+void fill(Sheet &sheet) {
+    for (Step &step : sheet.steps) step.field = true;
+    for (auto &[pair, link] : sheet.links) {
+        if (!(link.map & at_most)) link.most = heaviest_field;
+        if (!(link.map & from_finish)) link.finish = heaviest_field;
+        link.map = all_fields;
+    }
+}
 
 Sheet draw_sheet(Random &random, const Aim &aim) {
     const uint32_t n = aim.steps;
     Sheet sheet;
     sheet.steps.resize(n);
     sheet.steps[0].open = true;
-    auto weight = [&] { return uint16_t(aim.extremes ? aim.heaviest : random.below(aim.heaviest + 1)); };
+    auto up_to = [&](uint32_t most) { return uint16_t(aim.extremes ? most : random.below(most + 1)); };
+    auto weight = [&] { return up_to(aim.heaviest); };
     for (uint32_t v = 1; v < n; v++) {
         Step &step = sheet.steps[v];
         step.open = random.chance(aim.open);
@@ -127,8 +160,11 @@ Sheet draw_sheet(Random &random, const Aim &aim) {
     auto link_forward = [&](uint8_t i, uint8_t j) {
         if (!room(i, j)) return;
         Link &link = sheet.links[{i, j}];
-        uint32_t kind = random.below(10);
-        if (kind < 8) link.map |= after;
+        uint32_t kind = random.below(aim.afters ? 8 : 10);
+        if (kind < 8) {
+            link.map |= after;
+            if (random.chance(aim.gaps)) put_gap(link, up_to(aim.widest));
+        }
         if (kind > 5) {
             link.map |= at_least;
             link.least = weight();
@@ -158,7 +194,7 @@ Sheet draw_sheet(Random &random, const Aim &aim) {
         place[v] = k;
         for (auto [i, link] : into[v]) {
             uint32_t least = time[i];
-            if (link->map & after) least += sheet.steps[i].open ? 0 : sheet.steps[i].duration;
+            if (link->map & after) least += link->gap + (sheet.steps[i].open ? 0 : sheet.steps[i].duration);
             if (link->map & at_least) least = std::max(least, time[i] + link->least);
             time[v] = std::max(time[v], least);
             set[v] |= set[i];
@@ -195,10 +231,11 @@ Sheet draw_sheet(Random &random, const Aim &aim) {
             if (contained ? missing != 0 : waiting && (missing == 0 || (leads[i] & missing))) continue;
             uint32_t end = time[i] + (finish && !sheet.steps[i].open ? sheet.steps[i].duration : 0);
             uint32_t needed = time[j] > end ? time[j] - end : 0;
-            if (needed > 65535) continue;
+            if (needed > heaviest_field) continue;
             uint32_t limit = tight ? needed - std::min(needed, 1 + random.below(3)) : limited(needed + random.below(slack + 1));
             Link &link = sheet.links[{i, j}];
             if (finish) {
+                if (!(link.map & after) && random.chance(aim.gaps)) put_gap(link, random.below(needed + 1)); // as wide as the start times leave it
                 link.map |= after | from_finish;
                 link.finish = uint16_t(limit);
                 if (!into[j].empty()) limited_last = j;
@@ -210,16 +247,52 @@ Sheet draw_sheet(Random &random, const Aim &aim) {
         }
     }
 
+    if (random.chance(aim.too_wide) && !sheet.links.empty()) {
+        Link &link = any_link(random, sheet);
+        if (link.map & after) put_gap(link, limited(link.gap + random.from(1, 3)));
+    }
+
     if (random.chance(aim.circle) && n > 2) {
         uint32_t to = random.from(1, n - 2);
         link_forward(order[random.from(to + 1, n - 1)], order[to]);
     }
+    if (aim.full) fill(sheet);
     return sheet;
+}
+
+// Five steps more. Hand b has to wait for hand a, and what it leads to comes soon after a: a tick of a gap decides between a wait and 28, or 10.
+void add_crossed_hands(Random &random, Sheet &sheet) {
+    if (sheet.steps.size() + 5 > most_steps || sheet.links.size() + 7 > most_links) return;
+    auto few = [&] { return uint16_t(random.below(10)); };
+    auto add_step = [&](bool open) {
+        sheet.steps.push_back({open, true, open ? uint16_t(0) : few()});
+        return uint8_t(sheet.steps.size() - 1);
+    };
+    const uint8_t a = add_step(true), b = add_step(true), on_the_way = add_step(false), last = add_step(false), joint = add_step(false);
+    auto add_after = [&](uint8_t i, uint8_t j) -> Link & {
+        Link &link = sheet.links[{i, j}];
+        link.map |= after;
+        if (random.chance(70)) put_gap(link, few());
+        return link;
+    };
+    auto limit_finish = [&](Link &link, uint32_t limit) {
+        link.map |= from_finish;
+        link.finish = uint16_t(limit);
+    };
+    add_after(0, a);
+    add_after(0, b);
+    Link &from_b = sheet.links[{b, on_the_way}];
+    from_b.map = at_least;
+    from_b.least = few();
+    uint32_t way = from_b.least + sheet.steps[on_the_way].duration + add_after(on_the_way, last).gap;
+    limit_finish(add_after(a, last), way + 2 - std::min(way + 2, random.below(5)));
+    add_after(a, joint);
+    limit_finish(add_after(b, joint), few());
 }
 
 // Bytes that are often met in a sheet.
 uint8_t usual_byte(Random &random) {
-    static const uint8_t usual[] = {0, 0, 0, 1, 1, 1, 1, 2, 2, 3, 3, 4, 5, 6, 7, 8, 16, 17, 18, 19, 20, 21, 22, 23, 63, 64, 65, 255};
+    static const uint8_t usual[] = {0, 0, 0, 1, 1, 1, 1, 2, 2, 3, 3, 4, 5, 6, 7, 8, 9, 9, 10, 11, 12, 13, 14, 15, 16, 17, 18, 19, 20, 21, 22, 23, 24, 25, 27, 29, 31, 63, 64, 65, 255};
     return random.chance(85) ? usual[random.below(sizeof usual)] : uint8_t(random.next());
 }
 
@@ -251,17 +324,19 @@ Bytes draw_input(Random &random) {
         return bytes;
     }
     Sheet sheet = draw_sheet(random, draw_aim(random));
+    if (random.chance(4)) add_crossed_hands(random, sheet);
     if (kind >= 66 && kind < 69 && !sheet.links.empty()) { // a link map that is not allowed, all else whole
-        auto link = sheet.links.begin();
-        std::advance(link, random.below(uint32_t(sheet.links.size())));
-        link->second.map = uint8_t(any_of(random, {0, 8, 9, 16, 18, 20, 22, 32, 64, 128, link->second.map & 254u, link->second.map | 8u << random.below(5)}));
+        Link &link = any_link(random, sheet);
+        uint32_t map = link.map, fields = 2 * random.below(4);
+        link.map = uint8_t(any_of(random, {0, 8 | fields, 16 | fields, 16 | fields, 24 | fields, map & 254, map | 32u << random.below(3), 32u << random.below(3)}));
     }
     Bytes bytes = sheet.bytes();
     if (kind < 69) return bytes;
     if (kind < 84) {
         damage(random, bytes);
     } else if (kind < 90) {
-        bytes.resize(random.chance(30) ? bytes.size() - 1 : random.below(uint32_t(bytes.size())));
+        uint32_t last = std::min<uint32_t>(longest_record, uint32_t(bytes.size())); // within the last record, mostly
+        bytes.resize(random.chance(30) ? bytes.size() - random.from(1, last) : random.below(uint32_t(bytes.size())));
         if (random.chance(20)) damage(random, bytes);
     } else if (kind < 94) {
         size_t more = random.chance(80) ? random.from(1, 3) : random.from(1, uint32_t(longest_input - longest_sheet));
@@ -281,11 +356,15 @@ Bytes draw_good_sheet(Random &random, bool short_run) {
         aim.forward = random.below(2 * aim.steps);
         aim.limits = random.below(aim.steps / 2 + 2);
     }
-    if (short_run) aim.heaviest = random.from(1, 9);
+    if (short_run) {
+        aim.heaviest = random.from(1, 9);
+        aim.widest = std::min(aim.widest, aim.heaviest);
+    }
     aim.open = any_of(random, {20, 40, 60});
     aim.contained = any_of(random, {100, 100, 80, 0});
     aim.waiting = any_of(random, {100, 90});
-    aim.too_tight = aim.circle = aim.orphan = 0;
+    aim.too_tight = aim.too_wide = aim.circle = aim.orphan = 0;
+    aim.full = false;
     if (short_run) aim.extremes = false;
     return draw_sheet(random, aim).bytes();
 }

@@ -32,10 +32,13 @@ public:
 using Bytes = std::vector<uint8_t>;
 using Numbers = std::vector<uint32_t>;
 
-constexpr size_t longest_sheet = 4801;
-constexpr size_t longest_input = 6000;    // sheets with bytes that follow
-constexpr size_t longest_table = 64 * 64 + 64;
-constexpr size_t longest_list = 64 + 64;
+constexpr size_t most_steps = 64, most_links = 512, longest_record = 11;
+constexpr size_t longest_sheet = 3 + 3 * most_steps - 2 + longest_record * most_links; // step 0 has no field
+constexpr size_t longest_input = longest_sheet + 1200;                                // sheets with bytes that follow
+constexpr size_t longest_table = most_steps * most_steps + 64;
+constexpr size_t longest_list = most_steps + 64;
+constexpr uint32_t heaviest_field = 65535;
+constexpr uint32_t largest_offset = heaviest_field + (most_steps - 2) * 2 * heaviest_field; // a gap after step 0, then a duration and a gap at each link
 
 // A sheet of any kind: whole, damaged, cut, with bytes that follow, or bytes from anywhere.
 Bytes draw_input(Random &random);

@@ -31,6 +31,8 @@ class Lent {
     }
 
 public:
+    static constexpr size_t pages_for(size_t bytes) { return (bytes + page - 1) / page; }
+
     Lent(Guard guard, size_t pages) : guard(guard), room_size(pages * page) {
         void *all = mmap(nullptr, room_size + 2 * page, PROT_NONE, MAP_PRIVATE | MAP_ANONYMOUS, -1, 0);
         if (pages > most_pages || all == MAP_FAILED || mprotect(static_cast<uint8_t *>(all) + page, room_size, PROT_READ | PROT_WRITE) != 0) {

@@ -127,9 +127,9 @@ bool report(const Met &met, bool all_sheets, bool all_runs) {
         }
         if (!line.empty()) std::cout << expected.name << ":" << line << "\n";
     }
-    std::cout << "accepted sheets with N = 64 and R = 512: " << met.largest << "; the largest offset: " << met.heaviest << "\n";
+    std::cout << "accepted sheets with N = 64 and R = 512: " << met.largest << "; the longest: " << met.longest << " bytes; the largest offset: " << met.heaviest << "\n";
     std::cout << "runs of a plan: " << met.proper_runs << ", to their end: " << met.ended_runs << ", starts compared: " << met.started << "; most calls in one run: " << met.fullest << "\n";
-    if (all_sheets && met.largest == 0) all = false;
+    if (all_sheets && (met.largest == 0 || met.longest != longest_sheet || met.heaviest != largest_offset)) all = false;
     if (all_runs && met.ended_runs == 0) all = false;
     return all;
 }
@@ -157,7 +157,7 @@ int fuzz(const Options &options) {
     std::cout << "seed " << options.seed;
     if (options.parts > 1) std::cout << ", part " << options.part << " of " << options.parts;
     std::cout << ": " << tried[sheet_kind] << " sheets and " << tried[run_kind] << " runs, each with the guard pages past the end and before the start: ";
-    std::cout << (all ? "no difference" : "no difference, but not every verdict was met");
+    std::cout << (all ? "no difference" : "no difference, but not every verdict or not the largest answers were met");
     std::cout << ", " << int(seconds() + 0.5) << " s" << std::endl;
     return all ? 0 : 1;
 }

@@ -17,6 +17,34 @@ template <class Change> Planted in_runs(const char *fault, const char *noticed, 
     return planted;
 }
 
+size_t fields(uint8_t bits) { return size_t(__builtin_popcount(bits)) * 2; }
+
+// Where the link records of a sheet begin.
+std::vector<size_t> records_of(const uint8_t *sheet, size_t length) {
+    size_t at = 3;
+    for (uint32_t v = 0; at < length && v < sheet[0]; v++) at += sheet[at] == 2 ? 3 : 1;
+    std::vector<size_t> records;
+    for (; at < length; at += 3 + fields(sheet[at] & 30)) records.push_back(at);
+    return records;
+}
+
+Bytes without_gaps(const uint8_t *sheet, size_t length) {
+    Bytes bytes(sheet, sheet + length);
+    for (size_t at : records_of(sheet, length))
+        if (bytes[at] & 8) {
+            const size_t gap = at + 3 + fields(bytes[at] & 6);
+            bytes[gap] = bytes[gap + 1] = 0;
+        }
+    return bytes;
+}
+
+// Whether a record has a gap and a limit from the finish, and is no after link.
+bool gap_and_limit_alone(const uint8_t *sheet, size_t length) {
+    for (size_t at : records_of(sheet, length))
+        if ((sheet[at] & 0xf9) == 24) return true;
+    return false;
+}
+
 } // namespace
 
 std::vector<Planted> planted_faults() {
@@ -98,6 +126,19 @@ std::vector<Planted> planted_faults() {
                 uint32_t verdict = standplan_plan(sheet, sheet_len, allow_waits, table, table_len);
                 if (verdict == 0 && sheet[0] > 1 && table[sheet[0]] < STANDPLAN_UNDECIDED) table[sheet[0]]++;
                 return verdict;
+            };
+        }),
+        in_sheets("a plan without the gaps", "other numbers in the table", [](Calls &calls) {
+            calls.plan = [](const uint8_t *sheet, size_t sheet_len, bool allow_waits, uint32_t *table, size_t table_len) {
+                uint32_t verdict = standplan_plan(sheet, sheet_len, allow_waits, table, table_len);
+                if (verdict < 256) verdict = standplan_plan(without_gaps(sheet, sheet_len).data(), sheet_len, allow_waits, table, table_len);
+                return verdict;
+            };
+        }),
+        in_sheets("26 before 4", "verdict 282, expected 260", [](Calls &calls) {
+            calls.judge = [](const uint8_t *sheet, size_t sheet_len, bool allow_waits) {
+                uint32_t verdict = standplan_judge(sheet, sheet_len, allow_waits);
+                return verdict == 256 + 4 && gap_and_limit_alone(sheet, sheet_len) ? uint32_t(256 + 26) : verdict;
             };
         }),
         in_sheets("writes one number before out", "wrote outside the out", [](Calls &calls) {

@@ -1,10 +1,11 @@
 """Brute-force self-check of planner.py on small random sheets.
 
-    python3 check_brute.py SECONDS [SEED] [finish]
+    python3 check_brute.py SECONDS [SEED] [finish | gap]
 
 Everything here is worked out a second time, straight from document 01's
 sentences, with no function of planner.py beyond those under test. With
-finish, the sheets have limits from the end of a step (request L11).
+finish, the sheets have limits from the end of a step (request L11), with
+gap, gaps too (request L1).
 """
 from __future__ import annotations
 
@@ -19,10 +20,12 @@ import planner as p
 
 BIG = p.LONGEST
 MOST_LISTS = 400               # for which the least rival without foresight is sought
+LARGEST_OFFSET = 4_128_705     # without gaps, 63 links of 65,535
+LARGEST_WITH_GAPS = 8_191_875  # of the 63 links, all but that out of step 0 may weigh as much again
 Pair = tuple[int, int]
 # A sheet here: steps (None open, else duration) and links (kind, i, j, number), i and j
-# as in the record; the number of an after link is 0 and not used. Kinds: after, least, most,
-# end (at most, from the end of i).
+# as in the record; the number of an after link is its gap, 0 if it has none. Kinds: after, least,
+# most, end (at most, from the end of i).
 LinkT = tuple[str, int, int, int]
 
 
@@ -48,6 +51,20 @@ def clash_parts(rng: random.Random) -> tuple[list, list[LinkT]]:
                          ("after", 3, 4, 0), ("least", 1, 2, 2)], rng.randint(1, 3))
     links += [("end", i, j, rng.randint(0, 3)) for kind, i, j, _ in links if kind == "after" and i and rng.random() < 0.6]
     return steps, sorted(links)
+
+
+def with_gaps(rng: random.Random, links: list[LinkT]) -> list[LinkT]:
+    """The links with gaps: on some after links, and in the place of some at leasts."""
+    after = {(i, j) for kind, i, j, _ in links if kind == "after"}
+    top = rng.choice([1, 2, 4])
+    out = []
+    for kind, i, j, number in links:
+        if kind == "after" and rng.random() < 0.5:
+            number = rng.randint(0, top)
+        elif kind == "least" and (i, j) not in after and rng.random() < 0.3:
+            kind = "after"
+        out.append((kind, i, j, number))
+    return sorted(out)
 
 
 def random_parts(rng: random.Random, finish: bool) -> tuple[list, list[LinkT]]:
@@ -94,18 +111,20 @@ def random_parts(rng: random.Random, finish: bool) -> tuple[list, list[LinkT]]:
                    for kind, i, j in sorted(pairs)]
 
 
-def encode(steps: list, links: list[LinkT]) -> bytes:
-    """The sheet in bytes."""
+def encode(steps: list, links: list[LinkT], bare: bool = True) -> bytes:
+    """The sheet in bytes; bare: a gap of 0 is no field."""
     records: dict[Pair, dict[str, int]] = {}
     for kind, i, j, number in links:
         records.setdefault((i, j), {})[kind] = number
+        if kind == "after" and (number or not bare):
+            records[i, j]["gap"] = number
     out = bytes([len(steps)]) + len(records).to_bytes(2, "little")
     for step in steps:
-        out += b"\x01" if step is None else b"\x00" if step == 0 else bytes([2, step, 0])
+        out += b"\x01" if step is None else b"\x00" if step == 0 else b"\x02" + step.to_bytes(2, "little")
     for (i, j), fields in sorted(records.items()):
         out += bytes([("after" in fields) + 2 * ("least" in fields) + 4 * ("most" in fields)
-                      + 16 * ("end" in fields), i, j])
-        for kind in ("least", "most", "end"):
+                      + 8 * ("gap" in fields) + 16 * ("end" in fields), i, j])
+        for kind in ("least", "most", "gap", "end"):
             if kind in fields:
                 out += fields[kind].to_bytes(2, "little")
     return out
@@ -119,7 +138,7 @@ def duration(steps: list, durations: list[int], v: int) -> int:
 def keeps(steps: list, links: list[LinkT], durations: list[int], start: list[int]) -> bool:
     """Whether start times keep every link, each link's line as written."""
     for kind, i, j, number in links:
-        if kind == "after" and not start[j] >= start[i] + duration(steps, durations, i):
+        if kind == "after" and not start[j] >= start[i] + duration(steps, durations, i) + number:
             return False
         if kind == "least" and not start[j] >= start[i] + number:
             return False
@@ -142,7 +161,7 @@ def solve(steps: list, links: list[LinkT], durations: list[int]) -> list[int] | 
             elif kind == "end":
                 low, at = start[j] - number - duration(steps, durations, i), i
             else:
-                low = start[i] + (number if kind == "least" else duration(steps, durations, i))
+                low = start[i] + number + (duration(steps, durations, i) if kind == "after" else 0)
                 at = j
             if start[at] < low:
                 start[at] = low
@@ -170,7 +189,7 @@ def moves(steps: list, links: list[LinkT]) -> list[tuple[int, int, int, str]]:
         elif kind == "end":
             out.append((j, i, -number - (steps[i] or 0), kind if open_end(steps, kind, i) else "most"))
         else:
-            out.append((i, j, number if kind == "least" else (steps[i] or 0), kind))
+            out.append((i, j, number + (steps[i] or 0 if kind == "after" else 0), kind))
     return out
 
 
@@ -360,7 +379,7 @@ def least_without_foresight(steps: list, links: list[LinkT], longest: int) -> di
     """
     n = len(steps)
     opens = [v for v in range(1, n) if steps[v] is None]
-    way = sum(number for kind, _, _, number in links if kind == "least") + sum(d or 0 for d in steps)
+    way = sum(number for kind, _, _, number in links if kind in ("after", "least")) + sum(d or 0 for d in steps)
     way += longest * len(opens)
     start = {}
     for choice in itertools.product(range(longest + 1), repeat=len(opens)):
@@ -378,7 +397,7 @@ def least_without_foresight(steps: list, links: list[LinkT], longest: int) -> di
                         end = duration(steps, durations[choice], i) if kind == "end" else 0
                         low, at = times[j] - number - end, i
                     else:
-                        low = times[i] + (number if kind == "least" else duration(steps, durations[choice], i))
+                        low = times[i] + number + (duration(steps, durations[choice], i) if kind == "after" else 0)
                         at = j
                     if times[at] < low:
                         times[at] = low
@@ -443,11 +462,50 @@ def refused_so(sheet: bytes, number: int) -> None:
     assert p.standplan_text(sheet) == f"refused {number}\n"
 
 
-def check(rng: random.Random, tally: Counter, finish: bool) -> None:
+def spelled_out(steps: list, links: list[LinkT]) -> bytes:
+    """The sheet in bytes, without gaps: between i and j a further step that lasts for the gap. The after
+    link itself stays, for a limit from the end of i."""
+    longer = list(steps)
+    plain = []
+    for kind, i, j, number in links:
+        if kind == "after" and number:
+            plain += [(kind, i, len(longer), 0), (kind, len(longer), j, 0), (kind, i, j, 0)]
+            longer.append(number)
+        else:
+            plain.append((kind, i, j, number))
+    return encode(longer, plain)
+
+
+def check_spelled_out(rng: random.Random, steps: list, links: list[LinkT], sheet: bytes) -> bool:
+    """A gap is the same as a further step that lasts as long: of the sheet's own steps each answer is
+    the same. Says whether that is a sheet within the limits."""
+    n = len(steps)
+    gaps = sum(number > 0 for kind, _, _, number in links if kind == "after")
+    if n + gaps > 64 or len({(i, j) for _, i, j, _ in links}) + 2 * gaps > 512:
+        return False
+    plain = spelled_out(steps, links)
+    wide = n + gaps
+    assert p.waits(plain) == p.waits(sheet)
+    for allow in (False, True):
+        assert p.judge(plain, allow) == p.judge(sheet, allow)
+    if p.judge(sheet, True)[0] == "ok":
+        table, longer = p.plan(sheet, True, [0] * (n * n))[1], p.plan(plain, True, [0] * (wide * wide))[1]
+        assert table == [longer[v * wide + a] for v in range(n) for a in range(n)]
+        one = [rng.randint(0, 9) if v and steps[v] is None else 0 for v in range(n)]
+        assert p.starts(sheet, True, one, [0] * n)[1] == p.starts(plain, True, one + [0] * gaps, [0] * wide)[1][:n]
+    return True
+
+
+def check(rng: random.Random, tally: Counter, finish: bool, gap: bool) -> None:
     """One random sheet, all checks."""
     steps, links = random_parts(rng, finish)
+    if gap:
+        links = with_gaps(rng, links)
     n = len(steps)
-    sheet = encode(steps, links)
+    sheet = encode(steps, links, bare=not gap or rng.random() < 0.5)
+    if gap:
+        tally["gaps spelled out"] += check_spelled_out(rng, steps, links, sheet)
+        tally["verdicts by the gaps"] += p.judge(generate.without_gaps(sheet), True) != p.judge(sheet, True)
     many = lists(rng, steps)
     expected = expected_refusal(steps, links, many)
     if expected:
@@ -543,9 +601,9 @@ def waits_and_circle(steps: list, links: list[LinkT]) -> tuple[list[Pair], bool]
     return found, any(v in reach(ahead, v, [m for m in ahead if m[0] == v]) for v in range(len(steps)))
 
 
-def check_large(rng: random.Random, tally: Counter, finish: bool) -> None:
+def check_large(rng: random.Random, tally: Counter, finish: bool, gap: bool) -> None:
     """One sheet of any size from generate.py: 10, 11 and 28 by the solver, starts and table."""
-    sheet = generate.random_sheet(rng, finish)
+    sheet = generate.random_sheet(rng, finish, gap)
     verdict = p.judge(sheet, True)
     tally[f"large {verdict[0]} {verdict[1]}"] += 1
     if verdict[0] == "refused" and verdict[1] not in (10, 11, 28):
@@ -554,10 +612,12 @@ def check_large(rng: random.Random, tally: Counter, finish: bool) -> None:
     n = len(steps)
     links: list[LinkT] = []
     for r in records:
-        links += [("after", r.i, r.j, 0)] if r.after else []
+        links += [("after", r.i, r.j, r.gap or 0)] if r.after else []
         links += [("least", r.i, r.j, r.at_least)] if r.at_least is not None else []
         links += [("most", r.i, r.j, r.at_most)] if r.at_most is not None else []
         links += [("end", r.i, r.j, r.from_end)] if r.from_end is not None else []
+    if gap:
+        tally["large, gaps spelled out"] += check_spelled_out(rng, steps, links, sheet)
     longest = [BIG if v and steps[v] is None else 0 for v in range(n)]
     possible = solve(steps, links, [0] * n) is not None
     # One step alone is the worst: a longer step makes room only from its own end.
@@ -576,7 +636,8 @@ def check_large(rng: random.Random, tally: Counter, finish: bool) -> None:
     assert waits == [(a, i) for a in range(n) for i in range(n) if maps[i] >> a & 1]
     ends = any(open_end(steps, kind, i) for kind, i, _, _ in links)
     _, table = p.plan(sheet, True, [0] * (n * n))
-    assert max(x for x in table if x != p.UNDECIDED) <= 4_128_705
+    gaps = any(kind == "after" and number for kind, _, _, number in links)
+    assert max(x for x in table if x != p.UNDECIDED) <= (LARGEST_WITH_GAPS if gaps else LARGEST_OFFSET)
     for one in [[0] * n, longest] + [[rng.choice([0, rng.randint(0, 70_000), rng.randint(0, d)])
                                       if d else 0 for d in longest] for _ in range(4)]:
         _, start = p.starts(sheet, True, one, [0] * n)
@@ -591,13 +652,14 @@ def main() -> None:
     """Check random sheets for so many seconds and print the tally."""
     end = time.time() + float(sys.argv[1])
     seed = int(sys.argv[2]) if len(sys.argv) > 2 else 1
-    finish = "finish" in sys.argv[3:]
+    gap = "gap" in sys.argv[3:]
+    finish = gap or "finish" in sys.argv[3:]
     tally: Counter = Counter()
     while time.time() < end:
         try:
-            check(random.Random(seed), tally, finish)
+            check(random.Random(seed), tally, finish, gap)
             if seed % 10 == 0:
-                check_large(random.Random(seed), tally, finish)
+                check_large(random.Random(seed), tally, finish, gap)
         except AssertionError:
             print("FAILED at seed", seed)
             raise

@@ -1,13 +1,14 @@
 """The input of the program compare, and what it has to print, from the reference planner.
 
-    python3 container.py SEED COUNT STDIN STDOUT [--largest] [--finish] [--and-finish COUNT]
+    python3 container.py SEED COUNT STDIN STDOUT [--largest] [--finish | --gap] [--and-finish COUNT] [--and-gap COUNT]
 
 STDIN holds, for each sheet, two bytes of length and the sheet; two bytes, the length of the table lent for its plan;
 a byte, the number of lists; and for each list a byte (1: waits allowed), two bytes, the number of its entries, two bytes,
 the length of the list lent for the start times, and the entries, four bytes each. Numbers have the low byte first.
 With --largest, sheets of N = 64 and R = 512 and one of each fault of the limits stand in front of the random ones.
-With --finish, the sheets have limits from the end of a step (bit 4). With --and-finish, COUNT such sheets, and the largest
-ones of this kind if --largest is given, follow behind those that the other words ask for, which stay as they are.
+With --finish, the sheets have limits from the end of a step (bit 4), with --gap, gaps too (bit 3). With --and-finish, COUNT
+sheets as with --finish, and the largest ones of this kind if --largest is given, follow behind those that the words before ask
+for, which stay as they are; with --and-gap, behind all of these, COUNT sheets as with --gap, and the largest ones likewise.
 """
 from __future__ import annotations
 
@@ -21,7 +22,7 @@ import planner as p
 
 LENT = 4_294_967_294           # what lent numbers hold before a call; no answer holds it
 MOST = 128                     # entries of a list that the program takes
-LONGEST_SHEET = 4801           # 3 + 64 * 3 - 2 + 512 * 9
+LONGEST_SHEET = 5825           # 3 + 1 + 63 * 3 + 512 * 11
 
 
 def two(x: int) -> bytes:
@@ -40,10 +41,14 @@ def random_list(rng: random.Random, steps: list[p.Step]) -> list[int]:
     return entries
 
 
-def lists_for(rng: random.Random, sheet: bytes) -> list[tuple[bool, list[int], int]]:
-    """Lists for a sheet: waits allowed or not, the entries, and the length lent for the start times."""
+def lists_for(rng: random.Random, sheet: bytes, gap: bool = True) -> list[tuple[bool, list[int], int]]:
+    """Lists for a sheet: waits allowed or not, the entries, and the length lent for the start times.
+
+    Without `gap`, a sheet that has gaps counts as one that is not read: it was refused when the stored sheets were drawn.
+    """
     kind, got = p.read(sheet)
-    steps = got[0] if kind == "ok" else [p.OPEN] * rng.randint(0, 5)
+    known = kind == "ok" and (gap or all(link.gap is None for link in got[1]))
+    steps = got[0] if known else [p.OPEN] * rng.randint(0, 5)
     lists = []
     for _ in range(rng.choice([1, 2, 3])):
         entries = random_list(rng, steps)
@@ -82,10 +87,10 @@ def row_lines(table: list[int], n: int) -> list[str]:
     return lines
 
 
-def record(rng: random.Random, sheet: bytes, verdicts: Counter) -> tuple[bytes, list[str]]:
+def record(rng: random.Random, sheet: bytes, gap: bool, verdicts: Counter) -> tuple[bytes, list[str]]:
     """The bytes for a sheet, and the lines for it."""
     length = table_length(rng, sheet)
-    lists = lists_for(rng, sheet)
+    lists = lists_for(rng, sheet, gap)
     data = two(len(sheet)) + sheet + two(length) + bytes([len(lists)])
     strict, free = p.judge(sheet, False), p.judge(sheet, True)
     maps, count, verdict = p.waits(sheet)
@@ -129,8 +134,8 @@ def largest_sheets(rng: random.Random) -> list[bytes]:
     return sheets
 
 
-def longest_sheet(rng: random.Random) -> bytes:
-    """An accepted sheet of 4,801 bytes: all steps but 0 fixed, every field in every record."""
+def longest_sheet(rng: random.Random, gap: bool) -> bytes:
+    """The longest accepted sheet, with gaps or the longest without: all steps but 0 fixed, every field in every record."""
     draft = g.Draft(rng, smallest=64, finish=True)
     draft.n, draft.top, draft.flat = 64, 300, False
     draft.steps = [p.OPEN] + [rng.randint(1, 300) for _ in range(63)]
@@ -138,6 +143,8 @@ def longest_sheet(rng: random.Random) -> bytes:
     pairs = [(0, k) for k in range(1, 64)]
     pairs += rng.sample([(a, b) for a in range(1, 64) for b in range(a + 1, 64)], 512 - 63)
     draft.fields = {(draft.order[a], draft.order[b]): {"after": 1, "at_least": draft.number()} for a, b in pairs}
+    for fields in draft.fields.values() if gap else ():
+        fields["gap"] = draft.number()
     start = draft.base()
     for (i, j), fields in draft.fields.items():
         fields["at_most"] = start[j] - start[i] + draft.number()
@@ -146,11 +153,15 @@ def longest_sheet(rng: random.Random) -> bytes:
     return bytes([64]) + two(512) + b"".join(steps) + b"".join(records)
 
 
+def around(sheet: bytes) -> list[bytes]:
+    """A sheet, the same with a byte too much, and with a byte too few."""
+    return [sheet, sheet + b"\x00", sheet[:-1]]
+
+
 def largest_finish_sheets(rng: random.Random) -> list[bytes]:
     """Sheets at the limits, with limits from the end: the longest, a byte too long and too short, and N 64 and R 512 with
     open steps: without waits, with waits, and with waits that leave no times."""
-    sheets = [longest_sheet(rng)]
-    sheets += [sheets[0] + b"\x00", sheets[0][:-1]]
+    sheets = around(longest_sheet(rng, gap=False))
     for wanted in (("ok", 0), ("refused", 12), ("refused", 28)):
         while True:
             draft = g.Draft(rng, smallest=64, finish=True)
@@ -176,15 +187,28 @@ def largest_finish_sheets(rng: random.Random) -> list[bytes]:
     return sheets
 
 
-def make(seed: int, count: int, largest: bool, finish: bool = False) -> tuple[bytes, str, Counter]:
+def heaviest_sheet() -> bytes:
+    """The sheet with the largest offset there can be, 8,191,875: a chain of steps of 65,535, each with a gap of 65,535."""
+    steps = b"\x01" + (b"\x02" + two(65535)) * 63
+    return bytes([64]) + two(63) + steps + b"".join(bytes([9, v, v + 1]) + two(65535) for v in range(63))
+
+
+def largest_gap_sheets(rng: random.Random) -> list[bytes]:
+    """Sheets at the limits, with gaps: the longest, a byte too long and too short, and the one with the largest offset."""
+    return around(longest_sheet(rng, gap=True)) + [heaviest_sheet()]
+
+
+def make(seed: int, count: int, largest: bool, finish: bool = False, gap: bool = False) -> tuple[bytes, str, Counter]:
     """The input, what has to be printed, and how often each verdict is given."""
     rng = random.Random(seed)
-    sheets = ((largest_finish_sheets if finish else largest_sheets)(rng) if largest else []) + g.generate(seed, count, finish)
+    at_limits = largest_gap_sheets if gap else largest_finish_sheets if finish else largest_sheets
+    sheets = (at_limits(rng) if largest else []) + g.generate(seed, count, finish, gap)
+    taken = LONGEST_SHEET + 1 if gap else 4802 if finish else 4095     # bytes; without gaps as the stored ones were taken
     verdicts: Counter = Counter()
     data, lines = [], []
     for sheet in sheets:
-        if len(sheet) < (LONGEST_SHEET + 2 if finish else 4096):
-            more, text = record(rng, sheet, verdicts)
+        if len(sheet) <= taken:
+            more, text = record(rng, sheet, gap, verdicts)
             data.append(more)
             lines += text
     return b"".join(data), "\n".join(lines) + "\n", verdicts
@@ -199,12 +223,15 @@ def main() -> None:
     words.add_argument("stdout")
     words.add_argument("--largest", action="store_true")
     words.add_argument("--finish", action="store_true")
+    words.add_argument("--gap", action="store_true")
     words.add_argument("--and-finish", type=int, default=0, metavar="COUNT")
+    words.add_argument("--and-gap", type=int, default=0, metavar="COUNT")
     asked = words.parse_args()
-    stdin, stdout, given = make(asked.seed, asked.count, asked.largest, asked.finish)
-    if asked.and_finish:
-        more, lines, verdicts = make(asked.seed, asked.and_finish, asked.largest, True)
-        stdin, stdout, given = stdin + more, stdout + lines, given + verdicts
+    stdin, stdout, given = make(asked.seed, asked.count, asked.largest, asked.finish, asked.gap)
+    for count, gap in ((asked.and_finish, False), (asked.and_gap, True)):
+        if count:
+            more, lines, verdicts = make(asked.seed, count, asked.largest, True, gap)
+            stdin, stdout, given = stdin + more, stdout + lines, given + verdicts
     with open(asked.stdin, "wb") as file:
         file.write(stdin)
     with open(asked.stdout, "w", encoding="ascii") as file:

@@ -1,6 +1,7 @@
-"""The marked and unmarked examples of document 01 as tests, its order of refusals, and worked sheets of request L11."""
+"""The marked and unmarked examples of document 01 as tests, its order of refusals, and worked sheets of requests L1 and L11."""
 from __future__ import annotations
 
+import container
 import planner as p
 
 NO = p.UNDECIDED
@@ -19,15 +20,15 @@ start 4 2 2
 
 
 def encode(steps: list[p.Step], records: dict[tuple[int, int], dict]) -> bytes:
-    """A sheet in bytes; records: pair -> any of after=True, at_least=m, at_most=u, from_end=u."""
+    """A sheet in bytes; records: pair -> any of after=True, at_least=m, at_most=u, gap=g, from_end=u."""
     out = bytes([len(steps)]) + len(records).to_bytes(2, "little")
     for step in steps:
         out += b"\x01" if step is p.OPEN else b"\x02" + step.to_bytes(2, "little")
     for (i, j), fields in sorted(records.items()):
         bits = (1 if fields.get("after") else 0) | (2 if "at_least" in fields else 0) \
-            | (4 if "at_most" in fields else 0) | (16 if "from_end" in fields else 0)
+            | (4 if "at_most" in fields else 0) | (8 if "gap" in fields else 0) | (16 if "from_end" in fields else 0)
         out += bytes([bits, i, j])
-        for name in ("at_least", "at_most", "from_end"):
+        for name in ("at_least", "at_most", "gap", "from_end"):
             if name in fields:
                 out += fields[name].to_bytes(2, "little")
     return out
@@ -145,8 +146,8 @@ def test_order() -> None:
         assert p.read(bytes([1, 0, 0, bits]))[0] == ("ok" if bits == 1 else "refused")
         assert p.read(bytes([2, 0, 0, 1, bits, 0, 0]))[1] == (
             {0: 7, 1: 7}.get(bits, 4) if bits != 2 else ([None, 0], []))
-        expected = 1 if bits in (1, 2, 3, 4, 5, 6, 7, 0x11, 0x13, 0x15, 0x17) else \
-            26 if bits in (0x10, 0x12, 0x14, 0x16) else 4
+        expected = 1 if bits in (1, 2, 3, 4, 5, 6, 7, 9, 11, 13, 15, 17, 19, 21, 23, 25, 27, 29, 31) else \
+            26 if bits in (16, 18, 20, 22) else 4
         assert p.read(bytes([2, 1, 0, 1, 0, bits])) == ("refused", expected)
         assert p.read(bytes([2, 1, 0, 1, 0, bits, 9])) == ("refused", expected)
         assert p.read(bytes([2, 1, 0, 1, 0, bits, 9, 0])) == ("refused", 5 if expected == 1 else expected)
@@ -280,26 +281,118 @@ def test_finish_known() -> None:
     assert refused_everywhere(encode([None, None, 0], {(0, 1): A, (0, 2): A | {"from_end": 9}, (1, 2): A}), 11)
 
 
+def read_whole(bits: int, fields: list[int], record: p.Record) -> None:
+    """A sheet of one record on (0, 1) with this map and these bytes is read so; a byte less is 1, one more 7."""
+    whole = bytes([2, 1, 0, 1, 0, bits, 0, 1] + fields)
+    assert p.read(whole) == ("ok", ([None, 0], [record]))
+    for size in range(len(whole)):
+        assert p.read(whole[:size]) == ("refused", 1)
+    assert p.read(whole + b"\x00") == ("refused", 7)
+
+
 def test_finish_bytes() -> None:
     """The map of a link record, and its fields; 26 comes before i and j are looked at."""
-    for bits, number in ((0x10, 26), (0x12, 26), (0x14, 26), (0x16, 26), (0x18, 4), (0x19, 4), (0x30, 4), (0x31, 4)):
+    for bits, number in ((0x10, 26), (0x12, 26), (0x14, 26), (0x16, 26), (0x30, 4), (0x31, 4)):
         for rest in (b"", b"\x00", b"\x09\x09", b"\x00\x01" + b"\x00" * 6):
             assert p.read(bytes([2, 1, 0, 1, 0, bits]) + rest) == ("refused", number)
     head = [2, 1, 0, 1, 0]
-    for bits, fields, record in ((0x11, [4, 1], (None, None, 260)), (0x13, [2, 0, 4, 0], (2, None, 4)),
-                                 (0x15, [3, 0, 4, 0], (None, 3, 4)), (0x17, [2, 0, 3, 0, 4, 0], (2, 3, 4))):
-        whole = bytes(head + [bits, 0, 1] + fields)
-        assert p.read(whole) == ("ok", ([None, 0], [p.Record(0, 1, True, *record)]))
-        for size in range(len(whole)):
-            assert p.read(whole[:size]) == ("refused", 1)
-        assert p.read(whole + b"\x00") == ("refused", 7)
+    for bits, fields, record in ((0x11, [4, 1], (None, None, None, 260)), (0x13, [2, 0, 4, 0], (2, None, None, 4)),
+                                 (0x15, [3, 0, 4, 0], (None, 3, None, 4)), (0x17, [2, 0, 3, 0, 4, 0], (2, 3, None, 4))):
+        read_whole(bits, fields, p.Record(0, 1, True, *record))
         assert p.read(bytes(head + [bits, 0, 2])) == ("refused", 5)
     assert p.read(bytes([2, 2, 0, 1, 0, 1, 0, 1, 0x11, 0, 1])) == ("refused", 6)
     assert p.read(bytes([2, 2, 0, 1, 0, 1, 0, 1, 0x10, 0, 1])) == ("refused", 26)
-    # The longest sheet.
+
+
+# Request L1. The suction lip, step 2, lets go six ticks after the hand, step 1, is done.
+LIP = bytes.fromhex("03 02 00 01 01 00  01 00 01  09 01 02 06 00")
+
+
+def gap(ticks: int) -> dict:
+    """An after link with a gap."""
+    return A | {"gap": ticks}
+
+
+def test_gap_accepted() -> None:
+    """Gaps out of an open step, step 0 and a fixed step, in offsets, starts and a run."""
+    assert p.read(LIP) == p.read(encode([None, None, 0], {(0, 1): A, (1, 2): gap(6)}))
+    assert p.standplan_text(LIP) == "verdict 0\nwaits 0\nstart 0 0 0\nstart 1 0 0\nstart 2 1 6\n"
+    assert p.starts(LIP, False, [0, 7, 0], [1] * 4) == (("ok", 0), [0, 0, 13, 1])
+    _, table = p.plan(LIP, False, [0] * 9)
+    verdict, state = p.begin(p.State(), 3, 3, table)
+    assert verdict == ("ok", 3)
+    verdict, state = p.finish(state, 1, table)
+    assert verdict == ("ok", 0)
+    for expected in (0, 0, 0, 0, 0, 4):
+        verdict, state = p.tick(state, table)
+        assert verdict == ("ok", expected)
+    # Out of step 0 the gap is all of the weight, out of a fixed step it comes on top of the duration.
+    assert start_lines(encode([None, 0], {(0, 1): gap(6)}), 1) == {0: 6}
+    assert start_lines(encode([None, 4, 0], {(0, 1): gap(6), (1, 2): gap(3)}), 2) == {0: 13}
+    # An at least on the same pair counts from the start and without the gap.
+    assert start_lines(encode([None, None, 0], {(0, 1): A, (1, 2): gap(6) | {"at_least": 10}}), 2) == {0: 10, 1: 6}
+    # A hand of no time and the gap reach an at least of 6 already: 0 is left out.
+    assert start_lines(encode([None, None, 0], {(0, 1): A, (1, 2): gap(6) | {"at_least": 6}}), 2) == {1: 6}
+    # A gap of 0 changes nothing.
+    assert p.standplan_text(encode([None, None, 0], {(0, 1): A, (1, 2): gap(0)})) == \
+        p.standplan_text(encode([None, None, 0], {(0, 1): A, (1, 2): A}))
+    # At an equal gap a limit from the end just holds.
+    assert start_lines(encode([None, None, 0], {(0, 1): A, (1, 2): gap(6) | {"from_end": 6}}), 2) == {1: 6}
+    # Not before tick 10, at most 8 after the end of the hand: the hand starts at 2.
+    assert start_lines(encode([None, None, 0], {(0, 1): A, (0, 2): gap(10), (1, 2): gap(6) | {"from_end": 8}}), 1) == {0: 2}
+
+
+def test_gap_waits() -> None:
+    """Two hands: a wait has gap 0, and the walk that calls for it may weigh more or less than that."""
+    for ticks, offset in ((0, 0), (5, 0), (6, 1), (9, 4)):
+        hands = encode([None, None, None, 0, 0],
+                       {(0, 1): A, (0, 2): A, (1, 3): A, (2, 4): gap(ticks), (3, 4): {"at_most": 5}})
+        assert p.waits(hands) == ([0, 0, 0, 4] + [0] * 60, 1, ("ok", 1))
+        assert p.judge(hands, False) == ("refused", 12)
+        assert start_lines(hands, 3) == {1: 0, 2: offset} and start_lines(hands, 4)[2] == ticks
+
+
+def test_gap_refused() -> None:
+    """10, 11 and 28 where gaps count."""
+    # A gap above the limit from the end on the same pair: out of an open step, a fixed one and step 0.
+    assert refused_everywhere(encode([None, None, 0], {(0, 1): A, (1, 2): gap(7) | {"from_end": 6}}), 10)
+    assert refused_everywhere(encode([None, 3, 0], {(0, 1): A, (1, 2): gap(7) | {"from_end": 6}}), 10)
+    assert refused_everywhere(encode([None, 0], {(0, 1): gap(7) | {"from_end": 6}}), 10)
+    # Duration 3 and gap 7 against a limit from the start.
+    for limit, verdict in ((10, ("ok", 0)), (9, ("refused", 10))):
+        assert p.judge(encode([None, 3, 0], {(0, 1): A, (1, 2): gap(7) | {"at_most": limit}}), True) == verdict
+    # From the start of a hand: 11, but 10 where the gap alone is above the limit.
+    for ticks, number in ((9, 11), (10, 10)):
+        assert refused_everywhere(encode([None, None, 0], {(0, 1): A, (1, 2): gap(ticks) | {"at_most": 9}}), number)
+    # 2 waits for hand 1 and 3 comes after 2 and a gap, but at most 5 after the end of the hand.
+    for ticks, verdict in ((5, ("ok", 1)), (6, ("refused", 28))):
+        assert p.judge(encode([None, None, 0, 0, 0], {(0, 1): A, (0, 2): A, (1, 3): A | {"from_end": 5}, (1, 4): A,
+                                                      (2, 3): gap(ticks), (2, 4): {"at_most": 7}}), True) == verdict
+
+
+def test_gap_bytes() -> None:
+    """The map of a link record with a gap, and its fields; without bit 0 it is 4, with bit 4 too."""
+    for bits in (0x08, 0x0a, 0x0c, 0x0e, 0x18, 0x1a, 0x1c, 0x1e, 0x28, 0x29, 0x39):
+        for rest in (b"", b"\x00", b"\x09\x09", b"\x00\x01" + b"\x00" * 8):
+            assert p.read(bytes([2, 1, 0, 1, 0, bits]) + rest) == ("refused", 4)
+    numbers = {2: 513, 4: 2, 8: 772, 16: 4}        # at least, at most, gap, at most from the end: in this order
+    for others in (0, 2, 4, 6, 16, 18, 20, 22):
+        bits = others | 9
+        held = [numbers[bit] if bits & bit else None for bit in (2, 4, 8, 16)]
+        fields = b"".join(number.to_bytes(2, "little") for number in held if number is not None)
+        read_whole(bits, list(fields), p.Record(0, 1, True, *held))
+    assert p.read(bytes([2, 2, 0, 1, 0, 1, 0, 1, 9, 0, 1])) == ("refused", 6)
+    assert p.read(bytes([2, 2, 0, 1, 0, 1, 0, 1, 8, 0, 1])) == ("refused", 4)
+
+
+def test_gap_limits() -> None:
+    """The longest sheet, and the largest offset."""
     pairs = [(i, j) for i in range(64) for j in range(i + 1, 64)][:512]
-    longest = encode([None] + [1] * 63, {pair: A | {"at_least": 1, "at_most": 65535, "from_end": 65535} for pair in pairs})
-    assert len(longest) == 4801 and p.judge(longest, False) == ("ok", 0)
+    longest = encode([None] + [1] * 63, {pair: gap(1) | {"at_least": 1, "at_most": 65535, "from_end": 65535}
+                                         for pair in pairs})
+    assert len(longest) == container.LONGEST_SHEET and p.judge(longest, False) == ("ok", 0)
+    chain = encode([None] + [65535] * 63, {(v, v + 1): gap(65535) for v in range(63)})
+    assert start_lines(chain, 63) == {0: 8_191_875}
 
 
 if __name__ == "__main__":

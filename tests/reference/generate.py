@@ -1,10 +1,11 @@
 """Random sheets of all sizes and verdicts.
 
-    python3 generate.py SEED COUNT FILE [--finish] [--stats]
+    python3 generate.py SEED COUNT FILE [--finish | --gap] [--stats]
 
 FILE holds, for each sheet, two bytes of length, low byte first, then its bytes.
 With --finish, sheets have limits from the end of a step (bit 4, request L11);
-without it, a seed draws the same sheets as before there were any.
+with --gap, they have gaps too (bit 3, request L1). Without these words, and with
+--finish, a seed draws the same sheets as before there were any of the other kinds.
 The planner is used only to aim (which pairs to link, how tight a limit is).
 """
 from __future__ import annotations
@@ -12,6 +13,7 @@ from __future__ import annotations
 import random
 import sys
 from collections import Counter
+from dataclasses import replace
 
 import planner as p
 
@@ -19,6 +21,8 @@ import planner as p
 AIMS = [0, 0, 0, 12, 12, 12, 12, 1, 2, 3, 4, 5, 6, 7, 8, 9, 10, 10, 11, 11, -1, -1]
 # The same for sheets with bit 4; 28: the waits close a circle, -28: they leave no times without one.
 FINISH_AIMS = [0] * 6 + [12] * 6 + [28] * 2 + [-28] * 3 + [1, 4, 4, 5, 6, 7, 8, 9, 10, 10, 10, 11, 11, 11, 26, 26, -1, -1]
+# The same for sheets with bits 3 and 4.
+GAP_AIMS = FINISH_AIMS + [-28] * 3 + [1, 4, 4, 10, 10]
 
 
 def heaviest_walks(n: int, links: list[p.Link]) -> list[list[int | None]]:
@@ -49,11 +53,12 @@ def heaviest_walks(n: int, links: list[p.Link]) -> list[list[int | None]]:
 
 
 class Draft:
-    """A sheet being made: steps, and fields by pair (a subset of after, at_least, at_most, from_end)."""
+    """A sheet being made: steps, and fields by pair (a subset of after, at_least, at_most, gap, from_end)."""
 
-    def __init__(self, rng: random.Random, smallest: int, finish: bool = False) -> None:
+    def __init__(self, rng: random.Random, smallest: int, finish: bool = False, gap: bool = False) -> None:
         self.rng = rng
         self.finish = finish                       # with limits from the end of a step
+        self.gap = gap                             # with gaps
         self.n = rng.choice([rng.randint(1, 5), rng.randint(2, 8), rng.randint(4, 12),
                              rng.randint(4, 12), rng.randint(9, 24), rng.randint(25, 64),
                              rng.choice([60, 61, 62, 63, 64, 64])])
@@ -78,16 +83,26 @@ class Draft:
         if (i, j) in self.fields or len(self.fields) < 512:
             self.fields.setdefault((i, j), {}).update(fields)
 
+    def after(self) -> dict[str, int]:
+        """The fields of an after link: if gaps are drawn, often with one, at times a small or the largest one."""
+        if not self.gap or self.rng.random() < 0.5:
+            return {"after": 1}
+        return {"after": 1, "gap": self.rng.choice([self.number()] * 10 + [self.rng.randint(0, 3)] * 3 + [65535])}
+
     def some_forward(self) -> dict[str, int]:
         """The fields of a random forward link."""
-        return self.rng.choice([{"after": 1}, {"after": 1}, {"at_least": self.number()},
-                                {"after": 1, "at_least": self.number()}])
+        fields = self.rng.choice([{"after": 1}, {"after": 1}, {"at_least": self.number()},
+                                  {"after": 1, "at_least": self.number()}])
+        return fields | self.after() if "after" in fields else fields
+
+    def records(self) -> list[p.Record]:
+        """The link records, rising."""
+        return [p.Record(i, j, "after" in f, f.get("at_least"), f.get("at_most"), f.get("gap"), f.get("from_end"))
+                for (i, j), f in sorted(self.fields.items())]
 
     def links(self) -> list[p.Link]:
         """The links as walks follow them."""
-        return p.links_of(self.steps, [
-            p.Record(i, j, "after" in f, f.get("at_least"), f.get("at_most"), f.get("from_end"))
-            for (i, j), f in sorted(self.fields.items())])
+        return p.links_of(self.steps, self.records())
 
     def forward_part(self, aim: int) -> None:
         """Forward links that close no circle and reach every step; wide for aim 12."""
@@ -199,7 +214,7 @@ class Draft:
         if not places:
             self.steps[first] = p.OPEN
         self.fields.pop((first, second), None)
-        self.put(0, second, after=1)
+        self.put(0, second, **self.after())
         if self.steps[first] is not p.OPEN or (self.steps[second] is p.OPEN and self.rng.random() < 0.5):
             first, second = second, first
         return first, second, self.order[k + 2:]
@@ -213,7 +228,7 @@ class Draft:
             x = self.rng.choice(behind)
             y = self.rng.choice([x, x, self.rng.choice(behind)])
             for i, j in ((a, x), (b, x), (a, y), (b, y)):
-                self.put(i, j, after=1)
+                self.put(i, j, **self.after())
             best = heaviest_walks(self.n, self.links())
             for i, j in ((a, x), (b, y)):
                 if "after" in self.fields.get((i, j), {}):
@@ -229,23 +244,39 @@ class Draft:
             a, i, behind = found
             j = self.rng.choice(behind)
             q = self.rng.choice([j, self.rng.choice(behind)])
-            self.put(a, j, after=1)
-            self.put(a, q, after=1)
+            self.put(a, j, **self.after())
+            self.put(a, q, **self.after())
             best = heaviest_walks(self.n, self.links())
             if "after" not in self.fields.get((a, j), {}):         # no room for more records
                 return
             limit = best[a][j] + self.rng.choice([0, self.rng.randint(0, self.top)])
             more = limit + self.rng.choice([1, self.rng.randint(1, self.top)])
             if max(limit, more) <= 65535:
-                self.put(i, j, at_least=max(more, self.fields.get((i, j), {}).get("at_least", 0)))
+                if self.gap and self.steps[i] is not p.OPEN and more >= self.steps[i]:
+                    self.put(i, j, after=1, gap=more - self.steps[i])
+                else:
+                    self.put(i, j, at_least=max(more, self.fields.get((i, j), {}).get("at_least", 0)))
                 self.put(a, j, from_end=limit)
                 from_end = self.steps[i] is p.OPEN and self.rng.random() < 0.5
                 if from_end:
-                    self.put(i, q, after=1)
+                    self.put(i, q, **self.after())
                     from_end = "after" in self.fields.get((i, q), {})
                 best = heaviest_walks(self.n, self.links())
                 limit = max(0, best[i][q] or 0) + self.rng.choice([0, self.rng.randint(0, self.top)])
                 self.put(i, q, **{"from_end" if from_end else "at_most": min(limit, 65535)})
+
+    def tight_gap(self, with_waits: bool) -> None:
+        """Aim at 10, or with the waits in at 28: a gap one above what the returns leave room for (at times just that)."""
+        links = self.links()
+        if with_waits:
+            links += [p.Link(a, i, 0, "after") for a, i in p.waits_of(self.steps, links)]
+        best = heaviest_walks(self.n, links)
+        rooms = {(i, j): -best[j][i] - (self.steps[i] or 0) for (i, j), fields in self.fields.items()
+                 if "after" in fields and best[j][i] is not None}
+        pairs = [pair for pair, room in rooms.items() if 0 <= room < 65535]
+        if pairs:
+            i, j = self.rng.choice(pairs)
+            self.put(i, j, gap=rooms[i, j] + self.rng.choice([0, 1, 1]))
 
     def circle(self) -> None:
         """Aim at 8: a forward link back along the order."""
@@ -315,7 +346,7 @@ class Draft:
 
     def pieces(self) -> tuple[list[bytes], list[bytes]]:
         """The step records and the link records in bytes."""
-        steps, records = [], []
+        steps = []
         for step in self.steps:
             if step is p.OPEN:
                 steps.append(b"\x01")
@@ -323,18 +354,23 @@ class Draft:
                 steps.append(b"\x00")
             else:
                 steps.append(b"\x02" + step.to_bytes(2, "little"))
-        for (i, j), fields in sorted(self.fields.items()):
-            bits = sum(bit for bit, name in ((1, "after"), (2, "at_least"), (4, "at_most"), (16, "from_end"))
-                       if name in fields)
-            records.append(bytes([bits, i, j]) + b"".join(
-                fields[name].to_bytes(2, "little") for name in ("at_least", "at_most", "from_end")
-                if name in fields))
-        return steps, records
+        return steps, [record_bytes(record) for record in self.records()]
 
 
-def spoil(rng: random.Random, fault: int, n: int, r: int,
-          steps: list[bytes], records: list[bytes], finish: bool = False) -> tuple[int, int]:
-    """Work a fault 2 to 6 or 26 into the pieces of a sheet; N and R as they are then written."""
+def record_bytes(record: p.Record) -> bytes:
+    """A link record in bytes."""
+    fields = (record.at_least, record.at_most, record.gap, record.from_end)
+    bits = record.after + sum(2 << k for k, field in enumerate(fields) if field is not None)
+    return bytes([bits, record.i, record.j]) + b"".join(
+        field.to_bytes(2, "little") for field in fields if field is not None)
+
+
+def spoil(rng: random.Random, fault: int, n: int, r: int, steps: list[bytes], records: list[bytes],
+          finish: bool = False, gap: bool = False) -> tuple[int, int]:
+    """Work a fault 2 to 6 or 26 into the pieces of a sheet; N and R as they are then written.
+
+    Of the maps for 4, those with bits 0 and 3 were wrong before there were gaps; now they shift the fields.
+    """
     at = rng.randrange(len(records)) if records else 0
     if fault == 2:
         n = rng.choice([0, 65, 255, rng.randint(65, 255)])
@@ -348,6 +384,9 @@ def spoil(rng: random.Random, fault: int, n: int, r: int,
         records[at] = bytes([rng.choice([0, 8, 9, 255, rng.randint(8, 255)])]) + records[at][1:]
         if finish and rng.random() < 0.5:
             records[at] = bytes([rng.choice([0x18, 0x19, 0x1f, 0x30, 0x31, 0x90])]) + records[at][1:]
+        if gap and rng.random() < 0.7:             # a gap without an after link, or beside an unknown bit
+            bits = rng.choice([8, 10, 12, 14, 24, 26, 28, 30, records[at][0] & 0x16 | 8, 0x29, 0x4b, 0x99])
+            records[at] = bytes([bits]) + records[at][1:]
     elif fault == 26:
         if not records:
             records.append(bytes([1, 0, 0]))
@@ -370,22 +409,37 @@ def spoil(rng: random.Random, fault: int, n: int, r: int,
     return n, r
 
 
-def random_sheet(rng: random.Random, finish: bool = False) -> bytes:
-    """One random sheet in bytes."""
-    aim = rng.choice(FINISH_AIMS if finish else AIMS)
-    sheet = aimed_sheet(rng, aim, finish)
+def cut_in_gap(rng: random.Random, records: list[bytes]) -> list[bytes]:
+    """The records up to the gap of some record, with none or one of its bytes; all, if no record has a gap."""
+    with_gap = [at for at, record in enumerate(records) if record[0] & 9 == 9]
+    if not with_gap:
+        return records
+    at = rng.choice(with_gap)
+    before = 3 + 2 * (records[at][0] & 6).bit_count()
+    return records[:at] + [records[at][:before + rng.choice([0, 1])]]
+
+
+def random_sheet(rng: random.Random, finish: bool = False, gap: bool = False) -> bytes:
+    """One random sheet in bytes; one with gaps has limits from the end of a step too."""
+    finish = finish or gap
+    aim = rng.choice(GAP_AIMS if gap else FINISH_AIMS if finish else AIMS)
+    sheet = aimed_sheet(rng, aim, finish, gap)
     for _ in range(3 if finish and aim == 12 else 0):      # waits are often 28 here: try again
         if p.judge(sheet, False) == ("refused", 12):
             break
-        sheet = aimed_sheet(rng, aim, finish)
+        sheet = aimed_sheet(rng, aim, finish, gap)
     return sheet
 
 
-def aimed_sheet(rng: random.Random, aim: int, finish: bool) -> bytes:
+def aimed_sheet(rng: random.Random, aim: int, finish: bool, gap: bool) -> bytes:
     """One random sheet in bytes that aims at this."""
-    draft = Draft(rng, smallest=4 if aim in (12, 28, -28) else 1, finish=finish)
+    draft = Draft(rng, smallest=4 if aim in (12, 28, -28) else 1, finish=finish, gap=gap)
     if aim == -1:
         draft.anything()
+    elif gap and aim in (10, -28) and rng.random() < 0.5:
+        draft.forward_part(12)
+        draft.return_part(12)
+        draft.tight_gap(with_waits=aim == -28)
     else:
         draft.forward_part(aim)
         if aim == 12 or rng.random() < (0.3 if aim in (28, -28) else 0.9):
@@ -402,9 +456,11 @@ def aimed_sheet(rng: random.Random, aim: int, finish: bool) -> bytes:
     if (1 <= aim <= 7 or aim == 26) and rng.random() < 0.3:
         faults.append(rng.randint(2, 6))           # two faults: the first met is given
     for fault in faults:
-        n, r = spoil(rng, fault, n, r, steps, records, finish)
+        n, r = spoil(rng, fault, n, r, steps, records, finish, gap)
     if aim in (1, 7) and not faults and rng.random() < 0.2:
         r = max(0, min(512, r + (1 if aim == 1 else -1)))
+    if gap and aim == 1 and rng.random() < 0.5:
+        return bytes([n]) + r.to_bytes(2, "little") + b"".join(steps + cut_in_gap(rng, records))
     data = bytes([n]) + r.to_bytes(2, "little") + b"".join(steps) + b"".join(records)
     if aim == 7 or (1 <= aim <= 6 and rng.random() < 0.1):
         data += rng.randbytes(rng.choice([1, 1, 2, 3, 40]))
@@ -416,10 +472,10 @@ def aimed_sheet(rng: random.Random, aim: int, finish: bool) -> bytes:
     return data
 
 
-def generate(seed: int, count: int, finish: bool = False) -> list[bytes]:
-    """`count` random sheets for a seed, with limits from the end of a step or as before these."""
+def generate(seed: int, count: int, finish: bool = False, gap: bool = False) -> list[bytes]:
+    """`count` random sheets for a seed, with limits from the end of a step, with gaps too, or as before these."""
     rng = random.Random(seed)
-    return [random_sheet(rng, finish) for _ in range(count)]
+    return [random_sheet(rng, finish, gap) for _ in range(count)]
 
 
 def container(sheets: list[bytes]) -> bytes:
@@ -437,15 +493,41 @@ def contents(data: bytes) -> list[bytes]:
     return sheets
 
 
+def map_of(record: p.Record) -> int:
+    """The bit map of a link record."""
+    return record_bytes(record)[0]
+
+
+def without_gaps(sheet: bytes) -> bytes:
+    """A sheet that is read, its gaps left out."""
+    records = p.read(sheet)[1][1]
+    front = len(sheet) - sum(len(record_bytes(record)) for record in records)
+    return sheet[:front] + b"".join(record_bytes(replace(record, gap=None)) for record in records)
+
+
+def step_kind(steps: list[p.Step], v: int) -> str:
+    """A step in words."""
+    return "0" if v == 0 else "an open step" if steps[v] is p.OPEN else "a fixed step"
+
+
+def gap_facts(sheet: bytes, verdict: p.Verdict) -> set[str]:
+    """What is to be counted of a sheet that is read, about gaps."""
+    steps, records = p.read(sheet)[1]
+    with_gap = [record for record in records if record.gap is not None]
+    facts = {f"a gap after {step_kind(steps, record.i)}" for record in with_gap}
+    facts |= {f"map {map_of(record):x}h" for record in with_gap}
+    if p.judge(without_gaps(sheet), False) != verdict:
+        facts.add("by the gaps")
+    return facts
+
+
 def finish_facts(sheet: bytes, verdict: p.Verdict) -> set[str]:
     """What is to be counted of a sheet that is read, about limits from the end of a step."""
     steps, records = p.read(sheet)[1]
     facts = set()
     for record in records:
         if record.from_end is not None:
-            facts.add("from the end of 0" if record.i == 0 else
-                      "from the end of a fixed step" if steps[record.i] is not p.OPEN else "from the end of an open step")
-            facts.add(f"map {1 + 2 * (record.at_least is not None) + 4 * (record.at_most is not None) + 16:x}h")
+            facts |= {f"from the end of {step_kind(steps, record.i)}", f"map {map_of(record):x}h"}
     if verdict == ("refused", 28):
         links = p.links_of(steps, records)
         ahead = p.forward(links) + [p.Link(a, i, 0, "after") for a, i in p.waits_of(steps, links)]
@@ -467,7 +549,8 @@ def statistics(sheets: list[bytes]) -> str:
                   f"R {'0-16' if r < 17 else '17-128' if r < 129 else '129-511' if r < 512 else '512'}",
                   "waits" if verdict[1] == 12 else "sound"] += 1
         if p.read(sheet)[0] == "ok":
-            told.update(f"{verdict[0]} {verdict[1]}, {about}" for about in finish_facts(sheet, verdict))
+            facts = finish_facts(sheet, verdict) | gap_facts(sheet, verdict)
+            told.update(f"{verdict[0]} {verdict[1]}, {about}" for about in facts)
     lines = [f"{kind} {k}: {verdicts[kind, k]}" for kind, k in sorted(verdicts)]
     lines += [f"{about}: {told[about]}" for about in sorted(told)]
     lines += [f"accepted, {', '.join(key)}: {sizes[key]}" for key in sorted(sizes)]
@@ -475,7 +558,7 @@ def statistics(sheets: list[bytes]) -> str:
 
 
 if __name__ == "__main__":
-    made = generate(int(sys.argv[1]), int(sys.argv[2]), "--finish" in sys.argv[4:])
+    made = generate(int(sys.argv[1]), int(sys.argv[2]), "--finish" in sys.argv[4:], "--gap" in sys.argv[4:])
     with open(sys.argv[3], "wb") as file:
         file.write(container(made))
     if "--stats" in sys.argv[4:]:

@@ -1,10 +1,11 @@
-"""Reference stand planner, written from document 01 (01-scope.md) and request L11 of document 02 alone.
+"""Reference stand planner, written from document 01 (01-scope.md) and requests L1 and L11 of document 02 alone.
 
 Verdicts are ("ok", x) or ("refused", k).  Lent lists are never changed in
 place: each call returns them as they are afterwards.
 """
 from __future__ import annotations
 
+from collections.abc import Iterable
 from dataclasses import dataclass, replace
 
 UNDECIDED = 4_294_967_295      # table entry where a does not decide v
@@ -33,6 +34,7 @@ class Record:
     after: bool
     at_least: int | None
     at_most: int | None
+    gap: int | None = None         # L1: of the after link, counted from the end of i
     from_end: int | None = None    # L11: at most, from the end of i
 
 
@@ -89,7 +91,7 @@ def _read(sheet: bytes) -> tuple[list[Step], list[Record]]:
     records: list[Record] = []
     for _ in range(r):
         bits = source.number(1)
-        if bits == 0 or bits & ~0b10111:
+        if bits == 0 or bits & ~0b11111 or (bits & 8 and not bits & 1):
             raise Refusal(4)
         if bits & 16 and not bits & 1:
             raise Refusal(26)
@@ -101,8 +103,9 @@ def _read(sheet: bytes) -> tuple[list[Step], list[Record]]:
             raise Refusal(6)
         at_least = source.number(2) if bits & 2 else None
         at_most = source.number(2) if bits & 4 else None
+        gap = source.number(2) if bits & 8 else None
         from_end = source.number(2) if bits & 16 else None
-        records.append(Record(i, j, bool(bits & 1), at_least, at_most, from_end))
+        records.append(Record(i, j, bool(bits & 1), at_least, at_most, gap, from_end))
 
     if source.at < len(sheet):
         raise Refusal(7)
@@ -124,8 +127,8 @@ def links_of(steps: list[Step], records: list[Record]) -> list[Link]:
     links = []
     for record in records:
         if record.after:
-            duration = steps[record.i]
-            links.append(Link(record.i, record.j, 0 if duration is OPEN else duration, "after"))
+            duration = 0 if steps[record.i] is OPEN else steps[record.i]
+            links.append(Link(record.i, record.j, duration + (record.gap or 0), "after"))
         if record.at_least is not None:
             links.append(Link(record.i, record.j, record.at_least, "at least"))
         if record.at_most is not None:
@@ -158,18 +161,18 @@ def open_steps(steps: list[Step]) -> list[int]:
     return [a for a in range(1, len(steps)) if steps[a] is OPEN]
 
 
-def after_targets(links: list[Link], a: int) -> set[int]:
-    """The steps that an after link out of a leads to."""
-    return {link.target for link in links if link.kind == "after" and link.source == a}
+def after_targets(links: list[Link], a: int) -> dict[int, int]:
+    """The steps that an after link out of a leads to, with its weight (of an open a: the gap)."""
+    return {link.target: link.weight for link in links if link.kind == "after" and link.source == a}
 
 
-def reached(links: list[Link], begin: set[int]) -> set[int]:
+def reached(links: list[Link], begin: Iterable[int]) -> set[int]:
     """The steps that walks along these links reach from `begin`, itself included."""
     targets: dict[int, list[int]] = {}
     for link in links:
         targets.setdefault(link.source, []).append(link.target)
     seen = set(begin)
-    todo = list(begin)
+    todo = list(seen)
     while todo:
         for v in targets.get(todo.pop(), []):
             if v not in seen:
@@ -202,10 +205,11 @@ def waits_of(steps: list[Step], links: list[Link]) -> list[tuple[int, int]]:
     return sorted(found)
 
 
-def heaviest_from(n: int, links: list[Link], begin: set[int]) -> list[int | None] | None:
-    """Weight of the heaviest walk from `begin` to each step, the empty one counted; in its place
-    None: no walk. None alone: there is no heaviest, some circle on the way weighs more than 0."""
-    best: list[int | None] = [0 if v in begin else None for v in range(n)]
+def heaviest_from(n: int, links: list[Link], begin: dict[int, int]) -> list[int | None] | None:
+    """Weight of the heaviest walk to each step, begun at any step of `begin` with the weight given
+    there; in its place None: no walk. None alone: there is no heaviest, some circle on the way weighs
+    more than 0."""
+    best: list[int | None] = [begin.get(v) for v in range(n)]
     for _ in range(n + 1):
         moved = False
         for link in links:
@@ -220,8 +224,8 @@ def heaviest_from(n: int, links: list[Link], begin: set[int]) -> list[int | None
 
 def offsets_of(steps: list[Step], links: list[Link]) -> list[dict[int, int]]:
     """For each step v, the offset of v for each a in its start set."""
-    best = {0: heaviest_from(len(steps), links, {0})}
-    for a in open_steps(steps):    # its after link weighs 0
+    best = {0: heaviest_from(len(steps), links, {0: 0})}
+    for a in open_steps(steps):
         best[a] = heaviest_from(len(steps), from_the_end(links, a), after_targets(links, a))
     return [{a: best[a][v] for a in sorted(members)}
             for v, members in enumerate(start_sets(steps, links))]
@@ -260,7 +264,7 @@ def circle(n: int, links: list[Link]) -> bool:
 
 def no_times(n: int, links: list[Link]) -> bool:
     """Whether no start times keep these links with all open durations 0: a circle weighs more."""
-    return heaviest_from(n, links, set(range(n))) is None
+    return heaviest_from(n, links, dict.fromkeys(range(n), 0)) is None
 
 
 def accept(sheet: bytes, allow_waits: bool) -> Accepted:

@@ -1,7 +1,8 @@
-"""What standplan prints, against the reference: python3 texts.py PROGRAM SEED COUNT [finish]
+"""What standplan prints, against the reference: python3 texts.py PROGRAM SEED COUNT [finish | gap]
 
 Random sheets, and inputs longer than any sheet: each is given to PROGRAM on its standard input.
-With finish, the sheets have limits from the end of a step, and the longest one there can be is among them.
+With finish, the sheets have limits from the end of a step, with gap, gaps too; the longest of that kind is among them,
+and with gap the one with the largest offset.
 """
 from __future__ import annotations
 
@@ -14,19 +15,22 @@ import generate as g
 import planner as p
 
 
-def inputs(seed: int, count: int, finish: bool) -> list[bytes]:
-    """Random sheets, and some of them with many bytes behind."""
+def inputs(seed: int, count: int, finish: bool, gap: bool) -> list[bytes]:
+    """Random sheets, those at the limits, and some of the random ones with many bytes behind."""
     rng = random.Random(seed)
-    sheets = g.generate(seed, count, finish)
-    if not finish:
-        return sheets + [sheet + rng.randbytes(rng.choice([4096, 10000, 100000])) for sheet in sheets[:count // 20]]
-    longest = container.longest_sheet(rng)
-    more = [longest[:-1], longest, longest + b"\x00", longest + rng.randbytes(100000)]
-    return sheets + more + [sheet + rng.randbytes(rng.choice([4801, 8192, 10000, 100000])) for sheet in sheets[:count // 20]]
+    sheets = g.generate(seed, count, finish, gap)
+    more = []
+    if finish or gap:
+        longest = container.longest_sheet(rng, gap)
+        more += container.around(longest) + [longest + rng.randbytes(100000)]
+    if gap:
+        more.append(container.heaviest_sheet())
+    long = [container.LONGEST_SHEET, 8192, 10000, 100000]
+    return sheets + more + [sheet + rng.randbytes(rng.choice(long)) for sheet in sheets[:count // 20]]
 
 
 if __name__ == "__main__":
-    program, made = sys.argv[1], inputs(int(sys.argv[2]), int(sys.argv[3]), "finish" in sys.argv[4:])
+    program, made = sys.argv[1], inputs(int(sys.argv[2]), int(sys.argv[3]), "finish" in sys.argv[4:], "gap" in sys.argv[4:])
     for number, sheet in enumerate(made):
         printed = subprocess.run([program], input=sheet, stdout=subprocess.PIPE, check=True).stdout.decode("ascii")
         if printed != p.standplan_text(sheet):

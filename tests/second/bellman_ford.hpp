@@ -62,7 +62,7 @@ struct BellmanFord {
                 heaviest[0] = 0;
             } else {
                 for (int f = g.first[a]; f < g.first[a + 1]; f++)
-                    if (g.forward[f].after) heaviest[g.forward[f].to] = 0;
+                    if (g.forward[f].after) heaviest[g.forward[f].to] = g.forward[f].gap;
                 if (g.waits)
                     for (uint64_t map = g.out[k]; map; map &= map - 1) heaviest[lowest(map)] = 0;
             }

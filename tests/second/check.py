@@ -1,7 +1,8 @@
-"""Compares the second planner with the reference planner: python3 check.py LIBRARY SEED COUNT
+"""Compares the second planner with the reference planner: python3 check.py LIBRARY SEED COUNT [KIND]
 
-COUNT sheets without limits from the finish and COUNT with them, and the largest ones of both kinds. Of each: judging with and without waits, listing waits,
-planning, and starts for one to three lists, verdicts and every lent number. The first difference ends the run with status 1."""
+COUNT sheets of the kind, finish (limits from the finish) or gap (gaps after the finish), and the largest ones of it; without a kind, COUNT sheets with neither
+and COUNT of the kind finish. Of each: judging with and without waits, listing waits, planning, and starts for one to three lists, verdicts and every lent
+number. The first difference ends the run with status 1."""
 import ctypes as c
 import pathlib
 import random
@@ -78,16 +79,29 @@ def check(rng: random.Random, sheet: bytes, seen: Counter) -> None:
         same(f"starts {allow} {entries} {room}", starts(sheet, allow, entries, room), (number(verdict), times))
 
 
+def draw(rng: random.Random, kind: str, seed: int, count: int) -> list[bytes]:
+    """The largest sheets of a kind, and so many others."""
+    if kind == "gap":
+        return container.largest_gap_sheets(rng) + generate.generate(seed, count, gap=True)
+    if kind == "finish":
+        return container.largest_finish_sheets(rng) + generate.generate(seed, count, True)
+    return container.largest_sheets(rng) + generate.generate(seed, count, False)
+
+
 def main() -> None:
-    """Check both kinds, and say how often each verdict was given."""
+    """Check the kind that is asked for, or the other two, and say how often each verdict was given."""
     seed, count = int(sys.argv[2]), int(sys.argv[3])
-    for finish in (False, True):
+    said = {"": "", "finish": " with limits from the finish", "gap": " with gaps"}
+    kinds = sys.argv[4:] or ["", "finish"]
+    if not set(kinds) <= set(said):
+        sys.exit("a kind is finish or gap")
+    for kind in kinds:
         rng, seen = random.Random(seed), Counter()
-        sheets = (container.largest_finish_sheets if finish else container.largest_sheets)(rng) + generate.generate(seed, count, finish)
+        sheets = draw(rng, kind, seed, count)
         for sheet in sheets:
             check(rng, sheet, seen)
         given = ", ".join(f"{'refused ' * (v > 255)}{v % 256}: {k}" for v, k in sorted(seen.items()))
-        print(f"{len(sheets)} sheets{' with limits from the finish' * finish}, no difference; verdicts {given}")
+        print(f"{len(sheets)} sheets{said[kind]}, no difference; verdicts {given}")
 
 
 main()

@@ -1,4 +1,4 @@
-// A planner from document 01 and request L11, generic in how heaviest walks are found.
+// A planner from document 01 and requests L1 and L11, generic in how heaviest walks are found.
 //
 // A Kernel has three functions over a Graph (below):
 //   static int stride(const Graph &g)    the cells of a row, at least g.anchors and at most 64;
@@ -28,7 +28,8 @@ inline uint64_t bit(int k) { return uint64_t(1) << k; }
 inline int lowest(uint64_t map) { return __builtin_ctzll(map); }
 inline int highest(uint64_t map) { return 63 - __builtin_clzll(map); }
 
-struct Forward { uint8_t to, after; int32_t weight; };           // the after and at-least of one record
+// The after and at-least of one record, open durations 0; a walk that counts from the end of an open step takes an after link, and begins with its gap.
+struct Forward { uint8_t to, after; uint16_t gap; int32_t weight; };
 struct Return { uint8_t from, to, late; int32_t weight; }; // an at-most on (to, from)
 
 // The sheet as links. Anchors, step 0 and the open steps, are numbered in the order of the steps' forward order; anchor 0 is step 0.
@@ -36,6 +37,7 @@ struct Return { uint8_t from, to, late; int32_t weight; }; // an at-most on (to,
 struct Graph {
     int steps, anchors, returns;
     bool late;                              // some return is from the finish of an open step other than 0
+    bool gaps;                              // some record has a gap
     uint64_t open;                          // open steps, without 0
     uint16_t first[most_steps + 1];         // forward links out of v: first[v] to first[v + 1]
     Forward forward[most_records];
@@ -54,8 +56,11 @@ struct Graph {
 inline int two(const uint8_t *p) { return p[0] | p[1] << 8; }
 
 // The bytes of a link record, by its map; 0: refusal 4, 1: refusal 26.
-constexpr uint8_t record_bytes[256] = {0, 3, 5, 5, 5, 5, 7, 7, 0, 0, 0, 0, 0, 0, 0, 0, 1, 5, 1, 7, 1, 7, 1, 9};
-constexpr int longest_record = 9;
+constexpr uint8_t record_bytes[256] = {
+    0, 3, 5, 5, 5, 5, 7, 7, 0, 5, 0, 7, 0, 7, 0, 9,
+    1, 5, 1, 7, 1, 7, 1, 9, 0, 7, 0, 9, 0, 9, 0, 11,
+};
+constexpr int longest_record = 11;
 
 // Whether the bytes end within a record, and no fault of it is met before: refusal 1.
 inline bool cut(const uint8_t *p, const uint8_t *end, int n, int last) {
@@ -93,7 +98,7 @@ inline int read(Graph &g, const uint8_t *p, size_t length) {
         g.incoming[v] = 0;
     }
     g.open &= ~uint64_t(1);
-    g.late = false;
+    g.late = g.gaps = false;
     int links = 0, returns = 0, source = 0, last = -1;
     g.first[0] = 0;
     for (int r = 0; r < records; r++) {
@@ -113,12 +118,19 @@ inline int read(Graph &g, const uint8_t *p, size_t length) {
                 if (least > weight) weight = least;
                 p += 2;
             }
-            g.forward[links++] = Forward{uint8_t(j), uint8_t(map & 1), weight};
+            g.forward[links++] = Forward{uint8_t(j), uint8_t(map & 1), 0, weight};
             g.incoming[j]++;
         }
-        if (map & 0x14) {
+        if (map & 0x1c) {
             if (map & 4) {
                 g.back[returns++] = Return{uint8_t(j), uint8_t(i), 0, -two(p)};
+                p += 2;
+            }
+            if (map & 8) {
+                Forward &f = g.forward[links - 1];
+                f.gap = two(p);
+                if (g.duration[i] + f.gap > f.weight) f.weight = g.duration[i] + f.gap;
+                g.gaps = true;
                 p += 2;
             }
             if (map & 16) {

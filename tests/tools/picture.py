@@ -84,21 +84,29 @@ def whole(what, wide, high, texts):
             assert end <= begin, f"{what}: '{text}' and '{other}' collide"
 
 
-def linked(what, sheet, starts, ends, svg, x):
-    """With links each forward link is a path from the tick that it counts from, black exactly if it leaves no tick to spare; and so for limits."""
+def linked(what, sheet, starts, ends, svg):
+    """With links each forward link is a path from the tick that it counts from to the earliest that it allows, black exactly if it leaves no tick to spare;
+    a gap has a label, bold then; and so for limits."""
     wide, high, texts, _, _ = drawn(svg)
     whole(what, wide, high, texts)
-    root = tree.fromstring(svg)
-    paths = [(e.get("stroke"), float(re.match(r"M([\d.]+) ", e.get("d"))[1])) for e in root.iterfind(".//{*}path") if e.get("fill") == "none" and e.get("shape-rendering")]
-    wanted = []
+    x, root = placed(texts), tree.fromstring(svg)
+    paths = []
+    for e in root.iterfind(".//{*}path"):
+        if e.get("fill") == "none" and e.get("shape-rendering"):
+            since, earliest = re.match(r"M([\d.]+) [\d.]+(?:v[-\d.]+H([\d.]+))?", e.get("d")).groups()
+            paths.append((e.get("stroke"), float(since), float(earliest or since)))
+    wanted, gaps = [], []
     for (i, j), words in sorted(sheet.links.items()):
-        if tool.AFTER in words:
-            wanted.append((tool.INK if ends[i] == starts[j] else tool.SPARE, x(ends[i])))
-        if tool.AT_LEAST in words:
-            wanted.append((tool.INK if starts[i] + words[tool.AT_LEAST] == starts[j] else tool.SPARE, x(starts[i])))
+        for word, since in ((tool.AFTER, ends[i]), (tool.AT_LEAST, starts[i])):
+            if word in words:
+                earliest = since + (words[word] or 0)
+                wanted.append((tool.INK if earliest == starts[j] else tool.SPARE, x(since), x(earliest)))
+        if words.get(tool.AFTER) is not None:
+            gaps.append((f"gap {words[tool.AFTER]} after {i} ends", "bold" if ends[i] + words[tool.AFTER] == starts[j] else "normal"))
     for colour in (tool.INK, tool.SPARE):
-        same_places([(place,) for stroke, place in paths if stroke == colour], [(place,) for stroke, place in wanted if stroke == colour], f"{what}: links")
+        same_places([places for stroke, *places in paths if stroke == colour], [places for stroke, *places in wanted if stroke == colour], f"{what}: links")
     check(len(paths), len(wanted), f"{what}: links")
+    check(sorted((e.text, e.get("font-weight")) for e in root.iterfind(".//{*}text") if e.text.startswith("gap ")), sorted(gaps), f"{what}: gaps")
     bold = [text for e in root.iterfind(".//{*}text") if e.get("font-weight") == "bold" and (text := e.text).startswith("at most ")]
     tight = [word for (i, j), words in sheet.links.items() for word, since in ((tool.AT_MOST, starts[i]), (tool.FROM_FINISH, ends[i]))
              if word in words and since + words[word] == starts[j]]
@@ -147,10 +155,32 @@ def pictures():
         same_places(lines[tool.LIMIT], wanted, what)
         same_places(lines[tool.WAIT], [(x(min(ends[a] for a in each)), x(starts[i])) for i, each in enumerate(waits) if each], what)
         whole(what, wide, high, texts)
-        linked(what, sheet, starts, ends, tool.picture("a title", sheet, durations, waits, starts, True), x)
+        linked(what, sheet, starts, ends, tool.picture("a title", sheet, durations, waits, starts, True))
         seen += 1
     assert seen > 40 and refused > 40, (seen, refused)
     return seen, refused
+
+
+def gaps():
+    """Gaps, with start times worked out by hand: one that leaves no tick to spare, one that leaves three, one out of the start, one of 0; and their graph."""
+    sheet = sheets.from_text(b"""step 0 open
+step 1 open # hand
+step 2 fixed 2 # glass down
+step 3 fixed 1 # exposure
+link 0 1 after gap 4
+link 1 2 after gap 6 at-most-from-finish 8
+link 1 3 after gap 5
+link 2 3 after gap 0 at-most 2
+""")
+    durations, waits, starts, ends = [0, 10, 0, 0], [[]] * 4, [0, 4, 20, 22], [0, 14, 22, 23]
+    plain, svg = (tool.picture("a title", sheet, durations, waits, starts, links) for links in (False, True))
+    assert ">gap " not in plain, "without links"
+    linked("gaps", sheet, starts, ends, svg)
+    for label in ("gap 4 after 0 ends", "gap 6 after 1 ends", "gap 0 after 2 ends"):
+        assert f'font-weight="bold">{label}<' in svg, label
+    assert f'fill="{tool.GREY}" text-anchor="start" font-weight="normal">gap 5 after 1 ends<' in svg
+    lines = tool.graph("a title", sheet, waits).splitlines()
+    check([line for line in lines if "gap" in line], [f'  {i} -> {j} [label="gap {gap}"];' for i, j, gap in ((0, 1, 4), (1, 2, 6), (1, 3, 5), (2, 3, 0))], "gaps of a graph")
 
 
 def ran(*words, given=b""):
@@ -224,7 +254,7 @@ def graphs():
     odd = b'step 0 open # a "quoted" \\ name\nstep 1 open # \\N\nlink 0 1 after\n'
     refused = b"step 0 open\nstep 1 fixed 1\nstep 2 fixed 1\nlink 1 2 after\nlink 2 1 after at-least 3\n"
     wanted = [("refused 8: forward links close a circle", 1, refused), ("sound", 0, odd)]
-    wanted += [("sound", 0, of_64_steps())] + [("sound with waits" if name == "hands" else "sound", 0, (ROOT / f"examples/{name}.text").read_bytes()) for name in ("stand", "hands", "exposure")]
+    wanted += [("sound", 0, of_64_steps())] + [("sound with waits" if name == "hands" else "sound", 0, (ROOT / f"examples/{name}.text").read_bytes()) for name in ("stand", "hands", "exposure", "lip")]
     for verdict, status, data in wanted:
         found, printed, said = ran("--graph", "-", given=data)
         check((found, said), (status, f"standard input: {verdict}\n" if status else ""), verdict)
@@ -263,6 +293,7 @@ def largest():
 
 
 if __name__ == "__main__":
+    gaps()
     seen, refused = pictures()
     command()
     largest()

@@ -28,7 +28,7 @@ def check(found, wanted, what):
 
 
 def round_trips():
-    rng, seen = random.Random(1), Counter()
+    rng, seen, gaps = random.Random(1), Counter(), 0
     for number, (data, verdict) in enumerate(stored.sheets()):
         what = f"stored sheet {number}, {verdict}"
         if verdict.removeprefix("refused ") in READER:
@@ -46,12 +46,14 @@ def round_trips():
         rng.shuffle(lines)
         check(sheets.to_bytes(sheets.from_text("\r\n \n".join(lines).encode())), data, f"{what}, its lines in another order")
         seen["sheets"] += 1
+        gaps += stored.has_gap(data)
     check({key.removeprefix("refused ") for key in seen} - {"sheets"}, READER, "refusals among the stored sheets")
-    return seen["sheets"], seen.total() - seen["sheets"]
+    assert gaps
+    return seen["sheets"], gaps, seen.total() - seen["sheets"]
 
 
 STEPS = "step 0 open\nstep 1 fixed 3\nstep 2 open\n"
-WORDS = "after, at-least, at-most, at-most-from-finish"
+WORDS = "after, after gap, at-least, at-most, at-most-from-finish"
 TEXTS = [
     ("", "line 1: there is no step; the first is 'step 0 open'"),
     ("# nothing\n\nlink 0 1 after\n", "line 4: there is no step; the first is 'step 0 open'"),
@@ -80,6 +82,13 @@ TEXTS = [
     (STEPS + "link 0 1 at-least 70000\n", "line 4: 70000 is too large: a bound is at most 65535"),
     (STEPS + "link 0 1 at-most 65536\n", "line 4: 65536 is too large: a bound is at most 65535"),
     (STEPS + "link 0 1 after at-most-from-finish 65536\n", "line 4: 65536 is too large: a bound is at most 65535"),
+    (STEPS + "link 0 1 after gap 65536\n", "line 4: 65536 is too large: a gap is at most 65535"),
+    (STEPS + "link 0 1 after gap\n", "line 4: 'gap' has no number behind it"),
+    (STEPS + "link 0 1 after gap at-least 3\n", "line 4: 'at-least' is no number"),
+    (STEPS + "link 0 1 after 6 gap\n", f"line 4: '6' is none of {WORDS}"),
+    *((STEPS + f"link 0 1 {words}\n", "line 4: 'gap' stands only right behind 'after'")
+      for words in ("gap 6", "gap 6 after", "at-most 3 gap 6", "after at-least 3 gap 6", "after gap 6 gap 6", "at-most-from-finish 9 gap 6 after")),
+    (STEPS + "link 0 1 after gap 6 after gap 6\n", "line 4: 'after' stands twice"),
     (STEPS + "link 0 1 after after\n", "line 4: 'after' stands twice"),
     (STEPS + "link 0 1 at-most 3 at-most 3\n", "line 4: 'at-most' stands twice"),
     (STEPS + "link 0 1 at-most-from-finish 5\n", "line 4: 'at-most-from-finish' stands only beside 'after' (refusal 26)"),
@@ -94,18 +103,24 @@ TEXTS = [
 BYTES = [
     ("", "byte 0: refused 1"), ("00", "byte 0: refused 2"), ("41 00 00", "byte 0: refused 2"), ("05 01", "byte 2: refused 1"), ("01 01 02", "byte 1: refused 3"),
     ("01 00 00", "byte 3: refused 1"), ("01 00 00 02", "byte 3: refused 4"), ("02 00 00 01 03", "byte 4: refused 4"), ("02 00 00 01 02 05", "byte 6: refused 1"),
-    ("02 01 00 01 01 00 00 01", "byte 5: refused 4"), ("02 01 00 01 01 08 00 01", "byte 5: refused 4"), ("02 01 00 01 01 10 00 01 05 00", "byte 5: refused 26"),
+    ("02 01 00 01 01 00 00 01", "byte 5: refused 4"), ("02 01 00 01 01 20 00 01", "byte 5: refused 4"), ("02 01 00 01 01 10 00 01 05 00", "byte 5: refused 26"),
+    ("02 01 00 01 01 08 00 01 06 00", "byte 5: refused 4"), ("02 01 00 01 01 18 00 01 06 00 05 00", "byte 5: refused 4"),
+    ("02 01 00 01 01 09 00 01 06", "byte 9: refused 1"),
     ("02 01 00 01 01 01 02 01", "byte 6: refused 5"), ("02 01 00 01 01 01 00 02", "byte 7: refused 5"), ("02 01 00 01 01 01 01 01", "byte 7: refused 5"),
     ("02 02 00 01 01 01 00 01 01 00 01", "byte 9: refused 6"), ("02 01 00 01 01 04 00 01 05", "byte 9: refused 1"), ("01 00 00 01 00", "byte 4: refused 7"),
 ]
-# A text, and its bytes: the limits, and both forms of a duration of 0.
+# A text, and its bytes: the limits, and both forms of a duration of 0 and of a gap of 0.
 TAKEN = [
     ("step 0 open", "01 00 00 01"),
     ("\ufeffstep 0 open # ein Anfang: Größe\n  step  01\tfixed 065535 \n", "02 00 00 01 02 ff ff"),
     ("step 0 open\nstep 1 fixed 0\nstep 2 fixed 0 with-field\n", "03 00 00 01 00 02 00 00"),
     ("link 1 0 at-most 65535\nlink 0 1 at-most-from-finish 5 at-most 4 at-least 3 after\nstep 1 open\nstep 0 open\n",
      "02 02 00 01 01 17 00 01 03 00 04 00 05 00 04 01 00 ff ff"),
+    ("step 0 open\nstep 1 open\nlink 0 1 at-most-from-finish 5 at-most 4 after gap 6 at-least 3\n", "02 01 00 01 01 1f 00 01 03 00 04 00 06 00 05 00"),
+    ("step 0 open\nstep 1 open\nlink 0 1 after\nlink 1 0 after gap 0\n", "02 02 00 01 01 01 00 01 09 01 00 00 00"),
+    ("step 0 open\nstep 1 open\nlink 0 1 at-most 7 after gap 65535\n", "02 01 00 01 01 0d 00 01 07 00 ff ff"),
 ]
+ALLOWED = {*range(1, 8), *range(9, 32, 2)}                 # link maps: bits 3 and 4 stand beside bit 0 only
 
 
 def refusals_and_limits():
@@ -117,6 +132,30 @@ def refusals_and_limits():
         check(sheets.to_bytes(sheets.from_text(text.encode())).hex(" "), data, f"text {text!r}")
     most = TEXTS[-2][0].rsplit("\n", 2)[0]
     check(sheets.to_bytes(sheets.from_text(most.encode()))[:3].hex(" "), "40 00 02", "64 steps and 512 links")
+
+
+def link_maps():
+    """Every map of a link, with fields of 1, 2 and so on in the order of the bits: the allowed ones have a text with these numbers, and go back; others are 4 or 26."""
+    words = {2: "at-least", 4: "at-most", 8: "gap", 16: "at-most-from-finish"}
+    for bits in range(256):
+        given = [bit for bit in words if bits & bit]
+        data = bytes([2, 1, 0, 1, 1, bits, 0, 1]) + b"".join(bytes([k, 0]) for k in range(1, len(given) + 1))
+        if bits in ALLOWED:
+            numbers = {bit: f" {words[bit]} {k}" for k, bit in enumerate(given, 1)}
+            line = "link 0 1" + (" after" if bits & 1 else "") + numbers.pop(8, "") + "".join(numbers.values())
+            sheet = sheets.from_bytes(data)
+            check(sheets.to_text(sheet).splitlines()[2], line, f"link map {bits}")
+            check(sheets.to_bytes(sheets.from_text(sheets.to_text(sheet).encode())), data, f"link map {bits}")
+        else:
+            check(refused(sheets.from_bytes, data).rpartition(":")[0], f"byte 5: refused {26 if bits in (16, 18, 20, 22) else 4}", f"link map {bits}")
+
+
+def longest():
+    """The longest sheet: each field that there can be."""
+    pairs = [(i, j) for i in range(64) for j in range(64) if i != j][:512]
+    data = bytes([64, 0, 2, 1]) + b"\x02\xff\xff" * 63 + b"".join(bytes([31, i, j]) + b"\xff" * 8 for i, j in pairs)
+    check(sheets.to_bytes(sheets.from_text(sheets.to_text(sheets.from_bytes(data)).encode())), data, "the longest sheet")
+    check(len(data), int(re.search(r"#define STANDPLAN_MAX_SHEET (\d+)", (ROOT / "include/standplan.h").read_text("ascii"))[1]), "its bytes, by the header")
 
 
 def command():
@@ -142,7 +181,9 @@ def command():
 
 
 if __name__ == "__main__":
-    there, not_there = round_trips()
+    there, gaps, not_there = round_trips()
     refusals_and_limits()
+    link_maps()
+    longest()
     command()
-    print(f"{there} stored sheets go to text and back, {not_there} are refused as stored; {len(TEXTS)} texts and {len(BYTES)} inputs refused in their place")
+    print(f"{there} stored sheets go to text and back, {gaps} of them with gaps, {not_there} are refused as stored; {len(TEXTS)} texts and {len(BYTES)} inputs refused in their place")

@@ -1,7 +1,10 @@
 """The sheets that the repository stores, with what judging them gives where waits are not allowed: "0" or "refused 10"."""
+import sys
 from pathlib import Path
 
 ROOT = Path(__file__).resolve().parents[2]
+sys.path.insert(0, str(ROOT / "tools"))
+from sheets import AFTER, NoSheet, from_bytes  # noqa: E402
 
 
 def compared():
@@ -41,6 +44,14 @@ def worked():
     examples = [(path, path.with_suffix(".plan")) for path in sorted((ROOT / "examples").glob("*.sheet"))]
     for sheet, plan in [(ROOT / "crates/standplan/stdin", ROOT / "crates/standplan/stdout"), *examples]:
         yield sheet.read_bytes(), "0" if plan.read_text("ascii").startswith("verdict 0\n") else "refused 12"
+
+
+def has_gap(data):
+    """Whether this is a sheet, and one of its after links has a gap."""
+    try:
+        return any(words.get(AFTER) is not None for words in from_bytes(data).links.values())
+    except NoSheet:
+        return False
 
 
 def sheets():

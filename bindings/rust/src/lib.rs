@@ -90,7 +90,7 @@ pub const MAX_STEPS: usize = 64;
 /// The most link records of a sheet.
 pub const MAX_RECORDS: usize = 512;
 /// The bytes of the longest sheet.
-pub const MAX_SHEET: usize = 4801;
+pub const MAX_SHEET: usize = 5825;
 /// The numbers of the largest plan.
 pub const MAX_TABLE: usize = 4096;
 /// The most ticks of a step in a list of durations.

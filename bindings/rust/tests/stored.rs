@@ -121,7 +121,7 @@ fn longest() -> Vec<u8> {
     sheet.extend([2, 1, 0].repeat(63));
     let pairs = (0..64u8).flat_map(|i| (i + 1..64.min(i + 10)).map(move |j| (i, j)));
     for (i, j) in pairs.take(512) {
-        sheet.extend([0x17, i, j, 1, 0, 255, 255, 255, 255]);
+        sheet.extend([0x1f, i, j, 1, 0, 255, 255, 1, 0, 255, 255]);
     }
     sheet
 }

@@ -74,9 +74,9 @@ module _ {s : List ℕ} {allow : Bool} {q : Records} {w : ℕ} (accepted : Accep
       go (inr f) = absurd (omega (arith, later-start i b f, same-start j h, facts .starts-past j))
 
   -- After: an open step that has not finished would outlast the tick, and so the start of j.
-  after-holds : (i j : ℕ) → i < count-of q → our-start q outlasting i + duration (q .steps) outlasting i ≤ our-start q outlasting j → Started st j → AfterHolds q st i j
+  after-holds : (i j g : ℕ) → i < count-of q → our-start q outlasting i + duration (q .steps) outlasting i + g ≤ our-start q outlasting j → Started st j → AfterHolds q st i j g
   unfolding duration
-  after-holds i j b l h = record {
+  after-holds i j g b l h = record {
     started = begun;
     order = omega (arith, line);
     line = line;
@@ -93,7 +93,7 @@ module _ {s : List ℕ} {allow : Bool} {q : Records} {w : ℕ} (accepted : Accep
           go (inl t) = t
           go (inr f) = absurd (omega (arith, l, open-duration outlasting i (delay-at (q .steps) i) z e, outlasting-running i f, same-start j h, facts .starts-past j))
 
-      line : start-tick st i + duration-with (reported st) i (delay-at (q .steps) i) ≤ start-tick st j
+      line : start-tick st i + duration-with (reported st) i (delay-at (q .steps) i) + g ≤ start-tick st j
       line = omega (arith, l, same-start i begun, same-start j h, same-duration outlasting (reported st) i (delay-at (q .steps) i) (λ z e. outlasting-finished i (finished z e)))
 
   at-least-holds : (i j m : ℕ) → i < count-of q → our-start q outlasting i + m ≤ our-start q outlasting j → Started st j → AtLeastHolds st i j m
@@ -127,7 +127,7 @@ module _ {s : List ℕ} {allow : Bool} {q : Records} {w : ℕ} (accepted : Accep
 
   holds : (c : Constraint) → Ends (count-of q) c → Keeps (q .steps) outlasting (our-start q outlasting) c → Holds q st c
   unfolding duration
-  holds (sequencing i j) e k = after-holds i j (e .0) k
+  holds (sequencing i j g) e k = after-holds i j g (e .0) k
   holds (minimum i j m) e k = at-least-holds i j m (e .0) k
   holds (maximum i j u) e k = at-most-holds i j u (e .1) k
   holds (finish-maximum i j u) e k = finish-holds i j u (e .1) (delay-at (q .steps) i) k

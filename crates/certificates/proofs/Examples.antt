@@ -16,7 +16,7 @@ use Rattle.definitions.specs.Answers.{count-of, serialized-of, judged}
 use Rattle.definitions.specs.Dispatcher.{Progress, begin, called, state-after}
 use Rattle.definitions.specs.declared.Call.{Call}
 use Rattle.definitions.specs.declared.Call.the-variants.{Begin, Tick, Finish}
-use Rattle.definitions.specs.Worked.{every-definition, stand, two-hands, exposure, hand-over, held-back, idle}
+use Rattle.definitions.specs.Worked.{every-definition, stand, two-hands, exposure, hand-over, held-back, lip, idle}
 use Rattle.definitions.specs.declared.State.{State}
 use Rattle.definitions.specs.declared.Delay.{Delay}
 use Rattle.definitions.specs.declared.Delay.the-variants.{Open, Fixed}
@@ -111,6 +111,10 @@ back-computed : Computed held-back 0 3 2
 unfolding every-definition called judged is-open says-open
 back-computed = record { small = refl; reads = refl; accepts = refl; opens = refl; begin-given = refl; begin-called = refl; table = refl }
 
+lip-computed : Computed lip 0 3 2
+unfolding every-definition called judged is-open says-open
+lip-computed = record { small = refl; reads = refl; accepts = refl; opens = refl; begin-given = refl; begin-called = refl; table = refl }
+
 pub examples : RunsMet
 unfolding every-definition called
 examples = record {
@@ -120,4 +124,5 @@ examples = record {
   exposure-in-time = worked-run exposure-computed (Tick ∷ Tick ∷ Tick ∷ Finish 1 ∷ []) (0 ∷ 0 ∷ 3 ∷ []) refl refl;
   hand-over-waits = worked-run over-computed (Tick ∷ Tick ∷ Finish 2 ∷ Tick ∷ Tick ∷ Tick ∷ Finish 1 ∷ []) (0 ∷ 2 ∷ 0 ∷ 5 ∷ []) refl refl;
   held-back-in-time = worked-run back-computed (Tick ∷ Tick ∷ Tick ∷ Tick ∷ Tick ∷ Tick ∷ Tick ∷ Finish 1 ∷ Tick ∷ Tick ∷ Tick ∷ []) (0 ∷ 6 ∷ 10 ∷ []) refl refl;
+  lip-lets-go = worked-run lip-computed (Tick ∷ Tick ∷ Tick ∷ Finish 1 ∷ Tick ∷ Tick ∷ Tick ∷ Tick ∷ Tick ∷ Tick ∷ []) (0 ∷ 0 ∷ 9 ∷ []) refl refl;
 }

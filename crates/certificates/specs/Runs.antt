@@ -18,7 +18,7 @@ use Rattle.definitions.specs.Answers.{count-of, serialized-of, planned}
 use Rattle.definitions.specs.Dispatcher.{entry, Progress, sweep, begin, ticked, tick, ended, finish, called, state-after, map-after}
 use Rattle.definitions.specs.declared.Call.{Call}
 use Rattle.definitions.specs.declared.Call.the-variants.{Begin, Tick, Finish}
-use Rattle.definitions.specs.Worked.{stand, two-hands, exposure, hand-over, held-back, idle}
+use Rattle.definitions.specs.Worked.{stand, two-hands, exposure, hand-over, held-back, lip, idle}
 use Rattle.definitions.specs.declared.State.{State}
 use Rattle.definitions.specs.declared.Delay.{Delay}
 use Rattle.definitions.specs.declared.Delay.the-variants.{Open, Fixed}
@@ -166,12 +166,13 @@ NothingStuck =
 
 -- ## The certificate
 
--- After: where j has started, i has started before it or at the same tick, and the link's line holds of the ticks. Out of an open i other than step 0: i has finished, not after j's start.
-pub record AfterHolds (q : Records) (st : State) (i j : ℕ) : Type 0 where
+-- After, with the gap g: where j has started, i has started before it or at the same tick, and the link's line holds of the ticks. Out of an open i other than step 0: i has finished, and j started no
+-- earlier than the gap after that.
+pub record AfterHolds (q : Records) (st : State) (i j g : ℕ) : Type 0 where
   pub started : Started st i
   pub order : start-tick st i ≤ start-tick st j
-  pub line : start-tick st i + duration (q .steps) (reported st) i ≤ start-tick st j
-  pub ended : i ≢ 0 → delay-at (q .steps) i ≡ Open → Finished st i × (finish-tick st i ≤ start-tick st j)
+  pub line : start-tick st i + duration (q .steps) (reported st) i + g ≤ start-tick st j
+  pub ended : i ≢ 0 → delay-at (q .steps) i ≡ Open → Finished st i × (finish-tick st i + g ≤ start-tick st j)
 
 -- At least m.
 pub record AtLeastHolds (st : State) (i j m : ℕ) : Type 0 where
@@ -194,7 +195,7 @@ FinishHolds st i j u Open = Finished st i → NotMissed st j (finish-tick st i +
 FinishHolds st i j u (Fixed ticks) = Started st i → NotMissed st j (start-tick st i + ticks + u)
 
 abbrev pub Holds : Records → State → Constraint → Type 0
-Holds q st (sequencing i j) = Started st j → AfterHolds q st i j
+Holds q st (sequencing i j g) = Started st j → AfterHolds q st i j g
 Holds q st (minimum i j m) = Started st j → AtLeastHolds st i j m
 Holds q st (maximum i j u) = Started st i → AtMostHolds st i j u
 Holds q st (finish-maximum i j u) = FinishHolds st i j u (delay-at (q .steps) i)
@@ -232,7 +233,7 @@ pub record WorkedRun (bytes : List ℕ) (verdict n unbounded : ℕ) (calls : Lis
 
 -- "Run of it: Begin gives 7; Finish 2 gives 0; ticks give 8, 0, 16. A second Finish 2: 17." A run in which the hand takes 10: "Stand sheet, hand 10: starts 0, 0, 0, 10, 12." And a run of two hands, in which step 3
 -- waits for hand 2. Of request L11: the exposure starts when the hand is done, 3 ticks in; of the hand-over, hand 1 starts when hand 2 is done, and step 3 when hand 1 is; and
--- the hand that is held back is done at 7, while step 2 waits for tick 10. Proof: runs-met.
+-- the hand that is held back is done at 7, while step 2 waits for tick 10. Of request L1: the hand is done at 3, and the step after it starts six ticks later. Proof: runs-met.
 pub record RunsMet : Type 0 where
   pub stand-at-once : WorkedRun (stand 2) 0 5 4 (Finish 2 ∷ Tick ∷ Tick ∷ Tick ∷ Finish 2 ∷ []) (0 ∷ 0 ∷ 0 ∷ 1 ∷ 3 ∷ [])
   pub stand-hand-ten : WorkedRun (stand 2) 0 5 4 (Tick ∷ Tick ∷ Tick ∷ Tick ∷ Tick ∷ Tick ∷ Tick ∷ Tick ∷ Tick ∷ Tick ∷ Finish 2 ∷ Tick ∷ Tick ∷ []) (0 ∷ 0 ∷ 0 ∷ 10 ∷ 12 ∷ [])
@@ -240,3 +241,4 @@ pub record RunsMet : Type 0 where
   pub exposure-in-time : WorkedRun exposure 0 3 2 (Tick ∷ Tick ∷ Tick ∷ Finish 1 ∷ []) (0 ∷ 0 ∷ 3 ∷ [])
   pub hand-over-waits : WorkedRun hand-over 1 4 6 (Tick ∷ Tick ∷ Finish 2 ∷ Tick ∷ Tick ∷ Tick ∷ Finish 1 ∷ []) (0 ∷ 2 ∷ 0 ∷ 5 ∷ [])
   pub held-back-in-time : WorkedRun held-back 0 3 2 (Tick ∷ Tick ∷ Tick ∷ Tick ∷ Tick ∷ Tick ∷ Tick ∷ Finish 1 ∷ Tick ∷ Tick ∷ Tick ∷ []) (0 ∷ 6 ∷ 10 ∷ [])
+  pub lip-lets-go : WorkedRun lip 0 3 2 (Tick ∷ Tick ∷ Tick ∷ Finish 1 ∷ Tick ∷ Tick ∷ Tick ∷ Tick ∷ Tick ∷ Tick ∷ []) (0 ∷ 0 ∷ 9 ∷ [])

@@ -11,7 +11,7 @@ abbrev pub edge : ℕ → ℕ → ℕ → ℕ → Bool → Bool → Bool → Edg
 edge f t g l c b late = record { from = f; to = t; gain = g; loss = l; counted = c; back = b; late = late }
 
 -- The digits, from the lowest on: from and to, the marks counted and back, gain and loss, and the mark late. An end has six bits and a mark one. Gain and loss have 24 each, of which
--- the largest loss needs 17, so that a word has 63. The place of a digit is the product of the bases below it.
+-- the largest need 17, so that a word has 63. The place of a digit is the product of the bases below it.
 abbrev pub weight-base : ℕ
 weight-base = 16777216
 

@@ -1,4 +1,4 @@
--- "A sheet in bytes", and the refusals 1 to 7 of "From the input", with 26 of request L11.
+-- "A sheet in bytes", and the refusals 1 to 7 of "From the input"; with the gap of request L1, and with the limit from the finish and 26 of request L11.
 use mathlib.Core.Bool.{Bool, true, false, not, _&&_, _||_}
 use mathlib.Core.List.{List, [], _∷_}
 use Prim.Native.Nat.{ℕ, zero, suc, _+_, _*_}
@@ -71,9 +71,10 @@ operation first = do
   ticks ← ticks-if (test-bit m 1)
   give (record { delay = delay-from (test-bit m 0) ticks })
 
--- A link record: a bit map, i and j, then the fields whose bit stands. Bit 0: after; bit 1: at least; bit 2: at most; bit 4: at most, from the finish. An empty map is not allowed, nor is an unknown bit: 3, and 5 to 7.
+-- A link record: a bit map, i and j, then the fields whose bit stands. Bit 0: after; bit 1: at least; bit 2: at most; bit 3: the gap; bit 4: at most, from the finish. An empty map is not allowed, nor is an
+-- unknown bit, 5 to 7, nor a gap without bit 0.
 unfoldable pub link-map : ℕ → Bool
-link-map m = leb 1 m && leb m 7 || leb 16 m && leb m 23
+link-map m = leb 1 m && leb m 31 && (test-bit m 0 || not (test-bit m 3))
 
 -- 26: bit 4 without bit 0.
 unfoldable pub sequenced : ℕ → Bool
@@ -104,8 +105,9 @@ link n previous = do
   demand (rises previous i j) 6
   least ← ticks-if (test-bit m 1)
   most ← ticks-if (test-bit m 2)
+  gap ← ticks-if (test-bit m 3)
   latest ← ticks-if (test-bit m 4)
-  give (record { from = i; to = j; sequencing = test-bit m 0; minimum = bound-from (test-bit m 1) least; maximum = bound-from (test-bit m 2) most; latest = bound-from (test-bit m 4) latest })
+  give (record { from = i; to = j; sequencing = test-bit m 0; minimum = bound-from (test-bit m 1) least; maximum = bound-from (test-bit m 2) most; gap = bound-from (test-bit m 3) gap; latest = bound-from (test-bit m 4) latest })
 
 -- k records in a row, each read in the state that the one before it leaves.
 unfoldable pub records : {A S : Type 0} → (S → Parser A) → (A → S) → ℕ → S → Parser (List A)

@@ -25,17 +25,29 @@ links-of-record = 4
 abbrev pub most-edges : ℕ
 most-edges = links-of-record * most-records
 
--- What one edge gains: a fixed duration, or the ticks of an at-least link.
+-- What one edge gains: a fixed duration and the gap after it, or the ticks of an at-least link.
 abbrev pub most-gain : ℕ
-most-gain = most-ticks
+most-gain = most-ticks + most-ticks
+
+-- What an edge gains that leaves step 0, or that counts from the end of an open step: the ticks of an at-least link, or a gap.
+abbrev pub most-first-gain : ℕ
+most-first-gain = most-ticks
 
 -- What one edge loses: the ticks of an at-most link; from the finish of a fixed step its duration besides.
 abbrev pub most-loss : ℕ
 most-loss = most-ticks + most-ticks
 
--- "Offsets never exceed 4,128,705": a heaviest walk comes to each step once, so it has an edge less than there are steps.
+-- What a heaviest walk gains: it comes to each step once, so it has an edge less than there are steps.
+abbrev pub most-walk : ℕ
+most-walk = (most-steps - 1) * most-gain
+
+-- "Offsets may now reach 8,191,875" (request L1): the walk of an offset begins at step 0, or at the end of an open step.
 abbrev pub most-offset : ℕ
-most-offset = (most-steps - 1) * most-gain
+most-offset = most-first-gain + (most-steps - 2) * most-gain
+
+-- "Offsets never exceed 4,128,705": document 01's limit, which holds where no after link has a gap (request L1).
+abbrev pub most-gapless-offset : ℕ
+most-gapless-offset = (most-steps - 1) * most-ticks
 
 -- "At most 64 by 64": the numbers of a plan's table.
 abbrev pub longest-table : ℕ
@@ -45,12 +57,12 @@ longest-table = most-steps * most-steps
 abbrev pub most-start : ℕ
 most-start = most-steps * (most-duration + most-offset)
 
--- The longest step record: a map and a duration; that of step 0 is its map. The longest link record: a map, a pair and three fields.
+-- The longest step record: a map and a duration; that of step 0 is its map. The longest link record: a map, a pair and four fields.
 abbrev pub longest-step : ℕ
 longest-step = 1 + 2
 
 abbrev pub longest-record : ℕ
-longest-record = 1 + 2 + 3 * 2
+longest-record = 1 + 2 + 4 * 2
 
 -- The longest sheet: N and R, the map of step 0, the other steps and the link records.
 abbrev pub longest-sheet : ℕ
@@ -60,9 +72,15 @@ longest-sheet = 3 + 1 + (most-steps - 1) * longest-step + most-records * longest
 abbrev pub last-tick : ℕ
 last-tick = 4294967295
 
--- The numbers that document 01 and the documents here give for what is computed above.
-pub most-offset-said : most-offset ≡ 4128705
+-- The numbers that the documents give for what is computed above.
+pub most-offset-said : most-offset ≡ 8191875
 most-offset-said = refl
 
-pub longest-sheet-said : longest-sheet ≡ 4801
+pub most-gapless-offset-said : most-gapless-offset ≡ 4128705
+most-gapless-offset-said = refl
+
+pub most-start-said : most-start ≡ 1598021760
+most-start-said = refl
+
+pub longest-sheet-said : longest-sheet ≡ 5825
 longest-sheet-said = refl

@@ -15,17 +15,17 @@ use Rattle.definitions.specs.declared.Bound.{Bound}
 use Rattle.definitions.specs.declared.Bound.the-variants.{Absent, Ticks}
 use Rattle.definitions.specs.declared.Link.{Link}
 
--- A link on a pair (i, j): after, at least m, at most u, and at most u from the finish (request L11).
+-- A link on a pair (i, j): after, with a gap g (request L1), at least m, at most u, and at most u from the finish (request L11).
 pub data Constraint : Type 0 where
-  sequencing : ℕ → ℕ → Constraint
+  sequencing : ℕ → ℕ → ℕ → Constraint
   minimum : ℕ → ℕ → ℕ → Constraint
   maximum : ℕ → ℕ → ℕ → Constraint
   finish-maximum : ℕ → ℕ → ℕ → Constraint
 
 -- A link record holds up to four links on its pair; a sheet holds those of its records. A list of any length stands for a sheet past the limits, as the rival's may be.
-unfoldable pub sequencing-of : ℕ → ℕ → Bool → List Constraint
-sequencing-of i j true = sequencing i j ∷ []
-sequencing-of i j false = []
+unfoldable pub sequencing-of : ℕ → ℕ → Bool → ℕ → List Constraint
+sequencing-of i j true g = sequencing i j g ∷ []
+sequencing-of i j false g = []
 
 unfoldable pub minimum-of : ℕ → ℕ → Bound → List Constraint
 minimum-of i j (Ticks m) = minimum i j m ∷ []
@@ -39,9 +39,14 @@ unfoldable pub finish-maximum-of : ℕ → ℕ → Bound → List Constraint
 finish-maximum-of i j (Ticks u) = finish-maximum i j u ∷ []
 finish-maximum-of i j Absent = []
 
+-- The gap of a record's after link: 0 where none is said.
+unfoldable pub gap-of : Bound → ℕ
+gap-of (Ticks g) = g
+gap-of Absent = 0
+
 -- The links of a record, and of all records of a sheet.
 unfoldable pub link-constraints : Link → List Constraint
-link-constraints l = sequencing-of (l .from) (l .to) (l .sequencing) ++ minimum-of (l .from) (l .to) (l .minimum) ++ maximum-of (l .from) (l .to) (l .maximum) ++ finish-maximum-of (l .from) (l .to) (l .latest)
+link-constraints l = sequencing-of (l .from) (l .to) (l .sequencing) (gap-of (l .gap)) ++ minimum-of (l .from) (l .to) (l .minimum) ++ maximum-of (l .from) (l .to) (l .maximum) ++ finish-maximum-of (l .from) (l .to) (l .latest)
 
 unfoldable pub constraints : List Link → List Constraint
 constraints ls = flatMap link-constraints ls
@@ -58,9 +63,9 @@ duration-with d (suc i) Open = d (suc i)
 unfoldable pub duration : List Operation → (ℕ → ℕ) → ℕ → ℕ
 duration os d i = duration-with d i (delay-at os i)
 
--- Start times keep a link: the three lines of document 01, and start(j) at most the end of i plus u. Times have no largest one either.
+-- Start times keep a link: the three lines of document 01, an after link with its gap besides, and start(j) at most the end of i plus u. Times have no largest one either.
 abbrev pub Keeps : List Operation → (ℕ → ℕ) → (ℕ → ℕ) → Constraint → Type 0
-Keeps os d t (sequencing i j) = t i + duration os d i ≤ t j
+Keeps os d t (sequencing i j g) = t i + duration os d i + g ≤ t j
 Keeps os d t (minimum i j m) = t i + m ≤ t j
 Keeps os d t (maximum i j u) = t j ≤ t i + u
 Keeps os d t (finish-maximum i j u) = t j ≤ t i + duration os d i + u
@@ -81,18 +86,18 @@ pub record Edge : Type 0 where
   pub back : Bool
   pub late : Bool
 
--- After and at-least links are forward edges from i to j; an at-most link is a return from j to i that weighs −u. An after link is counted where i is open and not step 0. There a return from the
--- finish is late; where i is fixed it is one of its duration plus u, and step 0 ends at tick 0.
-unfoldable pub sequencing-edge : Delay → ℕ → ℕ → Edge
-sequencing-edge (Fixed ticks) i j = record { from = i; to = j; gain = ticks; loss = 0; counted = false; back = false; late = false }
-sequencing-edge Open i j = record { from = i; to = j; gain = 0; loss = 0; counted = not (eqb i 0); back = false; late = false }
+-- After and at-least links are forward edges from i to j; an at-most link is a return from j to i that weighs −u. An after link weighs the duration plus the gap; it is counted where i is open and not
+-- step 0. There a return from the finish is late; where i is fixed it is one of its duration plus u, and step 0 ends at tick 0.
+unfoldable pub sequencing-edge : Delay → ℕ → ℕ → ℕ → Edge
+sequencing-edge (Fixed ticks) i j g = record { from = i; to = j; gain = ticks + g; loss = 0; counted = false; back = false; late = false }
+sequencing-edge Open i j g = record { from = i; to = j; gain = g; loss = 0; counted = not (eqb i 0); back = false; late = false }
 
 unfoldable pub finish-edge : Delay → ℕ → ℕ → ℕ → Edge
 finish-edge (Fixed ticks) i j u = record { from = j; to = i; gain = 0; loss = ticks + u; counted = false; back = true; late = false }
 finish-edge Open i j u = record { from = j; to = i; gain = 0; loss = u; counted = false; back = true; late = not (eqb i 0) }
 
 unfoldable pub edge-of : List Operation → Constraint → Edge
-edge-of os (sequencing i j) = sequencing-edge (delay-at os i) i j
+edge-of os (sequencing i j g) = sequencing-edge (delay-at os i) i j g
 edge-of os (minimum i j m) = record { from = i; to = j; gain = m; loss = 0; counted = false; back = false; late = false }
 edge-of os (maximum i j u) = record { from = j; to = i; gain = 0; loss = u; counted = false; back = true; late = false }
 edge-of os (finish-maximum i j u) = finish-edge (delay-at os i) i j u

@@ -9,9 +9,9 @@ use Rattle.definitions.specs.Anchors.{WellPosed}
 use Rattle.definitions.specs.declared.Delay.the-variants.{Open}
 use Rattle.definitions.specs.declared.Operation.{Operation}
 
--- A further link is an after or an at-least link between two of the steps.
+-- A further link is an after link, with any gap, or an at-least link between two of the steps.
 abbrev pub Further : ℕ → Constraint → Type 0
-Further n (sequencing i j) = (i < n) × (j < n)
+Further n (sequencing i j g) = (i < n) × (j < n)
 Further n (minimum i j m) = (i < n) × (j < n)
 Further n (maximum i j u) = ⊥
 Further n (finish-maximum i j u) = ⊥

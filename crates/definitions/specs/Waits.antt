@@ -51,7 +51,7 @@ wait-count n es = length (wait-list n es)
 unfoldable pub needs-waits : ℕ → List Edge → Bool
 needs-waits n es = ltb 0 (wait-count n es)
 
--- A wait is an added after link from a to i.
+-- A wait is an added after link from a to i, with gap 0.
 abbrev pub wait-edge : WaitPair → Edge
 wait-edge w = record { from = w .anchor; to = w .target; gain = 0; loss = 0; counted = true; back = false; late = false }
 

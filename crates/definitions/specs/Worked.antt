@@ -1,4 +1,4 @@
--- "Marked and unmarked sheets": the sheets marked ★ in document 01, and sheets of ours for readings that those do not tell apart and for request L11. One table, proved against the definitions in one go.
+-- "Marked and unmarked sheets": the sheets marked ★ in document 01, and sheets of ours for readings that those do not tell apart and for requests L11 and L1. One table, proved against the definitions in one go.
 use mathlib.Core.Path.{_≡_, refl}
 use mathlib.Core.Bool.{Bool, true, false}
 use mathlib.Core.Logic.{_⊎_, inl, inr}
@@ -8,7 +8,7 @@ use lib.ListN.{replicate}
 use Rattle.definitions.specs.Limits.{most-steps}
 use Rattle.definitions.specs.Basics.{any, all, without, any-below, all-below, tabulate, select-below, largest, test-bit, bits-below, Outcome, given, refused, refuse-if, when-given}
 use Rattle.definitions.specs.Bytes.{demand, byte, two-bytes, ticks-if, operation-map, delay-from, operation, link-map, sequenced, endpoints, rises, bound-from, link, records, operations, pair-of, links, at-end, sheet, read}
-use Rattle.definitions.specs.Links.{sequencing-of, minimum-of, maximum-of, finish-maximum-of, link-constraints, constraints, delay-at, sequencing-edge, finish-edge, edge-of, edges, forwards, late-into, usable}
+use Rattle.definitions.specs.Links.{sequencing-of, minimum-of, maximum-of, finish-maximum-of, gap-of, link-constraints, constraints, delay-at, sequencing-edge, finish-edge, edge-of, edges, forwards, late-into, usable}
 use Rattle.definitions.specs.Rounds.{extend, raise, round, rounds, stable, source-row, seed, seeds, after-row, bares, reaches, after-reaches}
 use Rattle.definitions.specs.Anchors.{in-anchor-set}
 use Rattle.definitions.specs.Waits.{WaitPair, waits-for, waits-of, wait-list, wait-count, needs-waits, serialized, wait-pair}
@@ -30,7 +30,7 @@ unfolding demand byte two-bytes ticks-if operation-map delay-from operation link
 every-reading = tt
 
 unfoldable every-links : Unit {0}
-unfolding sequencing-of minimum-of maximum-of finish-maximum-of link-constraints constraints delay-at sequencing-edge finish-edge edge-of edges forwards late-into usable extend raise round rounds stable source-row seed seeds after-row bares reaches after-reaches
+unfolding sequencing-of minimum-of maximum-of finish-maximum-of gap-of link-constraints constraints delay-at sequencing-edge finish-edge edge-of edges forwards late-into usable extend raise round rounds stable source-row seed seeds after-row bares reaches after-reaches
 every-links = tt
 
 unfoldable every-plan : Unit {0}
@@ -155,7 +155,31 @@ fixed-finish m = 0x03 ∷ 0x02 ∷ 0x00 ∷ 0x01 ∷ 0x02 ∷ 0x03 ∷ 0x00 ∷ 
 abbrev pub source-finish : ℕ → List ℕ
 source-finish m = 0x02 ∷ 0x01 ∷ 0x00 ∷ 0x01 ∷ 0x00 ∷ 0x13 ∷ 0x00 ∷ 0x01 ∷ m ∷ 0x00 ∷ 0x05 ∷ 0x00 ∷ []
 
--- The marked sheets, in document 01's order; then ours: a chain of returns, and the first fault met in sheets that have more than one, or that are cut; then those of request L11.
+-- Request L1. The suction lip needs six ticks to let go after the hand is done: open 1 after 0; 2 after 1 with the gap 6.
+abbrev pub lip : List ℕ
+lip = 0x03 ∷ 0x02 ∷ 0x00 ∷ 0x01 ∷ 0x01 ∷ 0x00 ∷ 0x01 ∷ 0x00 ∷ 0x01 ∷ 0x09 ∷ 0x01 ∷ 0x02 ∷ 0x06 ∷ 0x00 ∷ []
+
+-- The same, at most u from the finish of 1: u may be 6 and no less.
+abbrev pub lip-limited : ℕ → List ℕ
+lip-limited u = 0x03 ∷ 0x02 ∷ 0x00 ∷ 0x01 ∷ 0x01 ∷ 0x00 ∷ 0x01 ∷ 0x00 ∷ 0x01 ∷ 0x19 ∷ 0x01 ∷ 0x02 ∷ 0x06 ∷ 0x00 ∷ u ∷ 0x00 ∷ []
+
+-- 1 after 0 with the gap 7; 2 after 1, which is open, with the gap 2: a gap out of step 0, and one on the way.
+abbrev pub gap-of-source : List ℕ
+gap-of-source = 0x03 ∷ 0x02 ∷ 0x00 ∷ 0x01 ∷ 0x01 ∷ 0x00 ∷ 0x09 ∷ 0x00 ∷ 0x01 ∷ 0x07 ∷ 0x00 ∷ 0x09 ∷ 0x01 ∷ 0x02 ∷ 0x02 ∷ 0x00 ∷ []
+
+-- 1 of 3 ticks after 0; on (1, 2) at least 8, at most 9, after with the gap 4, at most 6 from the finish: every field in one record.
+abbrev pub every-field : List ℕ
+every-field = 0x03 ∷ 0x02 ∷ 0x00 ∷ 0x01 ∷ 0x02 ∷ 0x03 ∷ 0x00 ∷ 0x00 ∷ 0x01 ∷ 0x00 ∷ 0x01 ∷ 0x1f ∷ 0x01 ∷ 0x02 ∷ 0x08 ∷ 0x00 ∷ 0x09 ∷ 0x00 ∷ 0x04 ∷ 0x00 ∷ 0x06 ∷ 0x00 ∷ []
+
+-- 1 of 3 ticks after 0; 2 after 1 with the gap 4.
+abbrev pub gap-of-fixed : List ℕ
+gap-of-fixed = 0x03 ∷ 0x02 ∷ 0x00 ∷ 0x01 ∷ 0x02 ∷ 0x03 ∷ 0x00 ∷ 0x00 ∷ 0x01 ∷ 0x00 ∷ 0x01 ∷ 0x09 ∷ 0x01 ∷ 0x02 ∷ 0x04 ∷ 0x00 ∷ []
+
+-- Two hands, where 3 is after 1 with the gap 6: the wait of 3 for 2 has none.
+abbrev pub gap-and-wait : List ℕ
+gap-and-wait = 0x05 ∷ 0x05 ∷ 0x00 ∷ 0x01 ∷ 0x01 ∷ 0x01 ∷ 0x00 ∷ 0x00 ∷ 0x01 ∷ 0x00 ∷ 0x01 ∷ 0x01 ∷ 0x00 ∷ 0x02 ∷ 0x09 ∷ 0x01 ∷ 0x03 ∷ 0x06 ∷ 0x00 ∷ 0x01 ∷ 0x02 ∷ 0x04 ∷ 0x04 ∷ 0x03 ∷ 0x04 ∷ 0x05 ∷ 0x00 ∷ []
+
+-- The marked sheets, in document 01's order; then ours: a chain of returns, and the first fault met in sheets that have more than one, or that are cut; then those of request L11, and of L1.
 unfoldable pub worked-sheets : List Worked
 worked-sheets =
     record { bytes = smallest; question = listing true; expected = accepted 0 [] (line 0 0 0 ∷ []) } ∷
@@ -210,6 +234,17 @@ worked-sheets =
     faulty (0x02 ∷ 0x01 ∷ 0x00 ∷ 0x01 ∷ 0x00 ∷ 0x30 ∷ []) 4 ∷
     faulty (0x02 ∷ 0x01 ∷ 0x00 ∷ 0x01 ∷ 0x00 ∷ 0x18 ∷ []) 4 ∷
     faulty (0x02 ∷ 0x01 ∷ 0x00 ∷ 0x01 ∷ 0x00 ∷ 0x15 ∷ 0x00 ∷ 0x01 ∷ 0x09 ∷ 0x00 ∷ 0x05 ∷ []) 1 ∷
+    record { bytes = lip; question = listing false; expected = accepted 0 [] (line 0 0 0 ∷ line 1 0 0 ∷ line 2 1 6 ∷ []) } ∷
+    record { bytes = lip; question = times-for (0 ∷ 9 ∷ 0 ∷ []); expected = started (0 ∷ 0 ∷ 15 ∷ []) } ∷
+    record { bytes = lip-limited 6; question = listing false; expected = accepted 0 [] (line 0 0 0 ∷ line 1 0 0 ∷ line 2 1 6 ∷ []) } ∷
+    record { bytes = lip-limited 5; question = listing true; expected = refuses 10 } ∷
+    record { bytes = gap-of-source; question = listing false; expected = accepted 0 [] (line 0 0 0 ∷ line 1 0 7 ∷ line 2 1 2 ∷ []) } ∷
+    record { bytes = gap-of-fixed; question = listing false; expected = accepted 0 [] (line 0 0 0 ∷ line 1 0 0 ∷ line 2 0 7 ∷ []) } ∷
+    record { bytes = every-field; question = listing false; expected = accepted 0 [] (line 0 0 0 ∷ line 1 0 0 ∷ line 2 0 8 ∷ []) } ∷
+    record { bytes = gap-and-wait; question = listing true; expected = accepted 1 (wait-pair 2 3 ∷ []) (line 0 0 0 ∷ line 1 0 0 ∷ line 2 0 0 ∷ line 3 1 6 ∷ line 3 2 0 ∷ line 4 2 0 ∷ []) } ∷
+    faulty (0x02 ∷ 0x01 ∷ 0x00 ∷ 0x01 ∷ 0x00 ∷ 0x0e ∷ []) 4 ∷
+    faulty (0x02 ∷ 0x01 ∷ 0x00 ∷ 0x01 ∷ 0x00 ∷ 0x1e ∷ []) 4 ∷
+    faulty (0x02 ∷ 0x01 ∷ 0x00 ∷ 0x01 ∷ 0x00 ∷ 0x09 ∷ 0x00 ∷ 0x01 ∷ 0x07 ∷ []) 1 ∷
     []
 
 -- The computed test: the definitions answer every sheet of the table as expected.

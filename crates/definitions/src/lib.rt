@@ -32,13 +32,14 @@ pub enum Bound {
     Ticks(u16),
 }
 
-// A link record for the pair (from, to): after, at least, at most, and at most from the finish.
+// A link record for the pair (from, to): after, at least, at most, the gap of the after link, and at most from the finish.
 pub struct Link {
     pub from: u8,
     pub to: u8,
     pub sequencing: bool,
     pub minimum: Bound,
     pub maximum: Bound,
+    pub gap: Bound,
     pub latest: Bound,
 }
 

@@ -1,7 +1,7 @@
 -- The theorems: one for each statement of specs/Demands.antt, in its order.
 use mathlib.Core.Path.{refl}
 use Rattle.demands.specs.Demands.{EdgesMeant, ListsMeant, ImpossibleExactly, ReadExactly, WellFormedExactly, JudgedExactly, EachCallRefuses, StartsReturned, CallsExactly, StartsKept, NobodyEarlier, NobodyEarlierWithWaits, OursAmongRivals, NobodyEarlierWithoutForesight}
-use Rattle.demands.specs.Demands.{OursWithoutForesight, Refused28Exactly, NothingNew, TestsMeant, WaitsListed, WaitsSound, OffsetsRight, StartRule, DecidingSets, PlanTable, LinesListed, FrontDecides, HypothesesMet}
+use Rattle.demands.specs.Demands.{OursWithoutForesight, Refused28Exactly, NothingNew, PlansAsBefore, TestsMeant, WaitsListed, WaitsSound, OffsetsRight, StartRule, DecidingSets, PlanTable, LinesListed, FrontDecides, HypothesesMet}
 use Rattle.demands.proofs.Reading.{fits-of}
 use Rattle.demands.proofs.FirstBytes.{front-for}
 use Rattle.demands.proofs.Meaning.{meant-for}
@@ -15,6 +15,7 @@ use Rattle.demands.proofs.Verdicts.{judged-for}
 use Rattle.demands.proofs.Foresight.{earliest-of-strategies, nothing-new-for, ours-dynamic, rivals-28}
 use Rattle.demands.proofs.OurStarts.{kept-for, ours-among, earliest, earliest-of-rivals}
 use Rattle.demands.proofs.Planning.{waits-for-sheet, offset-for, start-rule-for, deciding-for, plan-for}
+use Rattle.demands.proofs.Gapless.{as-before-all}
 use Rattle.demands.proofs.Examples.{examples}
 
 -- ## The words
@@ -91,6 +92,12 @@ refused-28-exactly = rivals-28
 -- No edge is late then. A wait stands for a walk, so that a circle through one would be an open step that waits for its own end.
 pub nothing-new : NothingNew
 nothing-new = nothing-new-for
+
+-- ## Request L1
+
+-- The parser before answers 4, or as the parser of now does, part by part; and a gap of 0 adds nothing to a link's weight.
+pub plans-as-before : PlansAsBefore
+plans-as-before = as-before-all
 
 -- ## Demand 2
 

@@ -7,9 +7,9 @@ use Prim.Native.Nat.{ℕ, zero, suc, _+_, _≤_, _<_}
 use native.Mathlib.Omega.{arith}
 use lib.Dec.{eqb}
 use borrow.Author.Tests.{eq-eqb, ne-eqb}
-use Rattle.definitions.specs.Limits.{most-ticks, most-gain, most-loss}
+use Rattle.definitions.specs.Limits.{most-ticks, most-gain, most-first-gain, most-loss}
 use Rattle.definitions.specs.Bytes.{Records}
-use Rattle.definitions.specs.Links.{Constraint, sequencing, minimum, maximum, finish-maximum, sequencing-of, minimum-of, maximum-of, finish-maximum-of, link-constraints, constraints, delay-at}
+use Rattle.definitions.specs.Links.{Constraint, sequencing, minimum, maximum, finish-maximum, sequencing-of, minimum-of, maximum-of, finish-maximum-of, gap-of, link-constraints, constraints, delay-at}
 use Rattle.definitions.specs.Links.{duration-with, duration, Keeps, KeepsAll, Edge, sequencing-edge, finish-edge, edge-of, edges, members, _⊑_}
 use Rattle.definitions.specs.Rival.{Further, Extension, Lasts}
 use Rattle.definitions.specs.Answers.{count-of, edges-of}
@@ -21,20 +21,20 @@ use Rattle.definitions.specs.declared.Bound.the-variants.{Absent, Ticks}
 use Rattle.definitions.specs.declared.Link.{Link}
 use Rattle.laws.proofs.Bools.{both-ways, same-or-not}
 use Rattle.laws.proofs.Tests.{flatMap-only}
-use Rattle.theory.specs.Graphs.{KeepsEdge, Schedule, Shape, Gains, Losses, Timely}
+use Rattle.theory.specs.Graphs.{KeepsEdge, Schedule, Shape, FirstGains, Gains, Losses, Timely}
 use Rattle.demands.specs.Demands.{NoLateLinks}
 use Rattle.demands.proofs.Reading.{Fits, LinkFits}
 
 -- Both ends of a link are steps.
 abbrev pub Ends : ℕ → Constraint → Type 0
-Ends n (sequencing i j) = (i < n) × (j < n)
+Ends n (sequencing i j g) = (i < n) × (j < n)
 Ends n (minimum i j m) = (i < n) × (j < n)
 Ends n (maximum i j u) = (i < n) × (j < n)
 Ends n (finish-maximum i j u) = (i < n) × (j < n)
 
 -- And its ticks are at most g.
 abbrev pub TicksWithin : ℕ → Constraint → Type 0
-TicksWithin g (sequencing i j) = Unit {0}
+TicksWithin g (sequencing i j x) = x ≤ g
 TicksWithin g (minimum i j m) = m ≤ g
 TicksWithin g (maximum i j u) = u ≤ g
 TicksWithin g (finish-maximum i j u) = u ≤ g
@@ -54,6 +54,10 @@ pub record EdgeFits (os : List Operation) (n : ℕ) (e : Edge) : Type 0 where
 false-true : {A : Type 0} → false ≡ true → A
 false-true e = absurd (false≢true e)
 
+-- No step is both.
+fixed-open : {ticks : ℕ} → Fixed ticks ≡ Open → ⊥
+fixed-open e = let z : _≡_ {A = ℕ} 0 1 = cc in absurd (omega arith)
+
 -- An edge that is neither counted nor late.
 plain-fits : {os : List Operation} {n : ℕ} {e : Edge} → e .from < n → e .to < n → e .counted ≡ false → e .late ≡ false → (e .back ≡ false → e .loss ≡ 0) → EdgeFits os n e
 plain-fits from to uncounted timely lossless = record {
@@ -68,10 +72,10 @@ plain-fits from to uncounted timely lossless = record {
   late-not-source = λ z. absurd (both-ways z timely);
 }
 
-sequencing-fits : (os : List Operation) (n i j : ℕ) (d : Delay) → delay-at os i ≡ d → i < n → j < n → EdgeFits os n (sequencing-edge d i j)
+sequencing-fits : (os : List Operation) (n i j g : ℕ) (d : Delay) → delay-at os i ≡ d → i < n → j < n → EdgeFits os n (sequencing-edge d i j g)
 unfolding sequencing-edge
-sequencing-fits os n i j (Fixed x) h a b = plain-fits a b refl refl (λ z. refl)
-sequencing-fits os n i j Open h a b = record {
+sequencing-fits os n i j g (Fixed x) h a b = plain-fits a b refl refl (λ z. refl)
+sequencing-fits os n i j g Open h a b = record {
   from-below = a;
   to-below = b;
   back-uncounted = λ z. false-true z;
@@ -100,7 +104,7 @@ finish-fits os n i j u Open h a b = record {
 
 edge-fits : (os : List Operation) (n : ℕ) (c : Constraint) → Ends n c → EdgeFits os n (edge-of os c)
 unfolding edge-of
-edge-fits os n (sequencing i j) h = sequencing-fits os n i j (delay-at os i) refl (h .0) (h .1)
+edge-fits os n (sequencing i j g) h = sequencing-fits os n i j g (delay-at os i) refl (h .0) (h .1)
 edge-fits os n (minimum i j m) h = plain-fits (h .0) (h .1) refl refl (λ z. refl)
 edge-fits os n (maximum i j u) h = plain-fits (h .1) (h .0) refl refl (λ z. false-true (sym z))
 edge-fits os n (finish-maximum i j u) h = finish-fits os n i j u (delay-at os i) refl (h .0) (h .1)
@@ -141,9 +145,9 @@ finish-timely os i j u Open h none = go (same-or-not i 0)
 
 link-timely : (os : List Operation) (c : Constraint) → ((i j u : ℕ) → c ≡ finish-maximum i j u → ¬ Lasts os i) → edge-of os c .late ≡ false
 unfolding edge-of sequencing-edge
-link-timely os (sequencing i j) none = sequencing-timely (delay-at os i)
+link-timely os (sequencing i j g) none = sequencing-timely (delay-at os i)
   where
-    sequencing-timely : (d : Delay) → sequencing-edge d i j .late ≡ false
+    sequencing-timely : (d : Delay) → sequencing-edge d i j g .late ≡ false
     sequencing-timely (Fixed x) = refl
     sequencing-timely Open = refl
 link-timely os (minimum i j m) none = refl
@@ -152,11 +156,11 @@ link-timely os (finish-maximum i j u) none = finish-timely os i j u (delay-at os
 
 -- Start times keep a link exactly if they keep its edge: the edge is counted, or late, just where the duration is the delay. By the kind of link and the delay of its first step.
 module _ (os : List Operation) (d t : ℕ → ℕ) where
-  sequencing-keeps : (i j : ℕ) (x : Delay) → (t i + duration-with d i x ≤ t j) ↔ KeepsEdge d t (sequencing-edge x i j)
+  sequencing-keeps : (i j g : ℕ) (x : Delay) → (t i + duration-with d i x + g ≤ t j) ↔ KeepsEdge d t (sequencing-edge x i j g)
   unfolding duration-with sequencing-edge
-  sequencing-keeps i j (Fixed x) = (λ h. omega arith, λ h. omega arith)
-  sequencing-keeps zero j Open = (λ h. omega arith, λ h. omega arith)
-  sequencing-keeps (suc i) j Open =
+  sequencing-keeps i j g (Fixed x) = (λ h. omega arith, λ h. omega arith)
+  sequencing-keeps zero j g Open = (λ h. omega arith, λ h. omega arith)
+  sequencing-keeps (suc i) j g Open =
       let c : eqb (suc i) 0 ≡ false = ne-eqb (suc i) 0 (λ e. omega arith) in
       rw c (λ h. omega arith, λ h. omega arith)
 
@@ -170,7 +174,7 @@ module _ (os : List Operation) (d t : ℕ → ℕ) where
 
   pub link-keeps : (c : Constraint) → Keeps os d t c ↔ KeepsEdge d t (edge-of os c)
   unfolding edge-of duration
-  link-keeps (sequencing i j) = sequencing-keeps i j (delay-at os i)
+  link-keeps (sequencing i j g) = sequencing-keeps i j g (delay-at os i)
   link-keeps (minimum i j m) = (λ h. omega arith, λ h. omega arith)
   link-keeps (maximum i j u) = (λ h. omega arith, λ h. omega arith)
   link-keeps (finish-maximum i j u) = finish-keeps i j u (delay-at os i)
@@ -181,33 +185,48 @@ module _ (os : List Operation) (d t : ℕ → ℕ) where
   pub schedule-keeps : (cs : List Constraint) → Schedule (members (edges os cs)) d t → KeepsAll os cs d t
   schedule-keeps cs S = record { starts = S .starts; keeps = λ c m. link-keeps c .1 (S .keeps (edge-of os c) (link-edge os cs c m)) }
 
--- Gains and losses: of a fixed duration, or of the link's ticks; a return from the finish of a fixed step loses both.
-sequencing-gain : (g i j : ℕ) (x : Delay) → ((ticks : ℕ) → x ≡ Fixed ticks → ticks ≤ g) → (sequencing-edge x i j .gain ≤ g) × (sequencing-edge x i j .loss ≤ g + g)
-unfolding sequencing-edge
-sequencing-gain g i j (Fixed x) h = (h x refl, omega arith)
-sequencing-gain g i j Open h = (omega arith, omega arith)
+-- Gains and losses: of a fixed duration, or of the link's ticks, or of both: an after link out of a fixed step gains both, and a return from its finish loses both. An edge that is counted or leaves
+-- step 0, which is open, gains the link's ticks alone.
+record Weighs (g : ℕ) (e : Edge) : Type 0 where
+  gain : e .gain ≤ g + g
+  loss : e .loss ≤ g + g
+  first : (e .from ≡ 0) ⊎ (e .counted ≡ true) → e .gain ≤ g
 
-finish-loss : (g i j u : ℕ) (x : Delay) → ((ticks : ℕ) → x ≡ Fixed ticks → ticks ≤ g) → u ≤ g → (finish-edge x i j u .gain ≤ g) × (finish-edge x i j u .loss ≤ g + g)
-unfolding finish-edge
-finish-loss g i j u (Fixed x) h w = (omega arith, omega (arith, h x refl))
-finish-loss g i j u Open h w = (omega arith, omega arith)
+weighs-light : {g : ℕ} {e : Edge} → e .gain ≤ g → e .loss ≤ g + g → Weighs g e
+weighs-light light loss = record { gain = omega arith; loss = loss; first = λ h. light }
 
-edge-weights : (os : List Operation) (g : ℕ) → ((i x : ℕ) → delay-at os i ≡ Fixed x → x ≤ g) → (c : Constraint) → TicksWithin g c → (edge-of os c .gain ≤ g) × (edge-of os c .loss ≤ g + g)
-unfolding edge-of
-edge-weights os g h (sequencing i j) w = sequencing-gain g i j (delay-at os i) (h i)
-edge-weights os g h (minimum i j m) w = (w, omega arith)
-edge-weights os g h (maximum i j u) w = (omega arith, omega arith)
-edge-weights os g h (finish-maximum i j u) w = finish-loss g i j u (delay-at os i) (h i) w
+module _ (os : List Operation) (g : ℕ) (source : delay-at os 0 ≡ Open) (ticks : (i x : ℕ) → delay-at os i ≡ Fixed x → x ≤ g) where
+  sequencing-weighs : (i j gap : ℕ) (x : Delay) → delay-at os i ≡ x → gap ≤ g → Weighs g (sequencing-edge x i j gap)
+  unfolding sequencing-edge
+  sequencing-weighs i j gap Open h w = weighs-light w (omega arith)
+  sequencing-weighs i j gap (Fixed x) h w = record { gain = omega (arith, ticks i x h); loss = omega arith; first = λ k. absurd (none k) }
+    where
+      none : (i ≡ 0) ⊎ (false ≡ true) → ⊥
+      none (inl e) = fixed-open (sym h ∙ ap (delay-at os) e ∙ source)
+      none (inr e) = false-true e
+
+  finish-weighs : (i j u : ℕ) (x : Delay) → delay-at os i ≡ x → u ≤ g → Weighs g (finish-edge x i j u)
+  unfolding finish-edge
+  finish-weighs i j u (Fixed x) h w = weighs-light (omega arith) (omega (arith, ticks i x h))
+  finish-weighs i j u Open h w = weighs-light (omega arith) (omega arith)
+
+  edge-weighs : (c : Constraint) → TicksWithin g c → Weighs g (edge-of os c)
+  unfolding edge-of
+  edge-weighs (sequencing i j gap) w = sequencing-weighs i j gap (delay-at os i) refl w
+  edge-weighs (minimum i j m) w = weighs-light w (omega arith)
+  edge-weighs (maximum i j u) w = weighs-light (omega arith) (omega arith)
+  edge-weighs (finish-maximum i j u) w = finish-weighs i j u (delay-at os i) refl w
 
 -- A link record's links: on its pair, with its ticks.
-record LinkIs (n g : ℕ) (c : Constraint) : Type 0 where
-  ends : Ends n c
-  within : TicksWithin g c
+pub record LinkIs (n g : ℕ) (c : Constraint) : Type 0 where
+  pub ends : Ends n c
+  pub within : TicksWithin g c
 
-sequencing-is : (n g i j : ℕ) (b : Bool) (c : Constraint) → i < n → j < n → List·Memᴰ c (sequencing-of i j b) → LinkIs n g c
-unfolding sequencing-of
-sequencing-is n g i j true c a b m = subst (LinkIs n g) (sym (List·Memᴰ·eq-of-singleton m)) (record { ends = (a, b); within = tt })
-sequencing-is n g i j false c a b m = absurd (List·Memᴰ·not-nil m)
+sequencing-is : (n g i j : ℕ) (there : Bool) (gap : Bound) (c : Constraint) → i < n → j < n → ((x : ℕ) → gap ≡ Ticks x → x ≤ g) → List·Memᴰ c (sequencing-of i j there (gap-of gap)) → LinkIs n g c
+unfolding sequencing-of gap-of
+sequencing-is n g i j true (Ticks x) c a b h m = subst (LinkIs n g) (sym (List·Memᴰ·eq-of-singleton m)) (record { ends = (a, b); within = h x refl })
+sequencing-is n g i j true Absent c a b h m = subst (LinkIs n g) (sym (List·Memᴰ·eq-of-singleton m)) (record { ends = (a, b); within = omega arith })
+sequencing-is n g i j false gap c a b h m = absurd (List·Memᴰ·not-nil m)
 
 minimum-is : (n g i j : ℕ) (x : Bound) (c : Constraint) → i < n → j < n → ((m : ℕ) → x ≡ Ticks m → m ≤ g) → List·Memᴰ c (minimum-of i j x) → LinkIs n g c
 unfolding minimum-of
@@ -228,18 +247,21 @@ record-is : (n : ℕ) (l : Link) (c : Constraint) → LinkFits n l → List·Mem
 unfolding link-constraints
 record-is n l c f m = go (List·Memᴰ·append-cases (three l) m)
   where
+    one : Link → List Constraint
+    one l = sequencing-of (l .from) (l .to) (l .sequencing) (gap-of (l .gap))
+
     two : Link → List Constraint
-    two l = sequencing-of (l .from) (l .to) (l .sequencing) ++ minimum-of (l .from) (l .to) (l .minimum)
+    two l = one l ++ minimum-of (l .from) (l .to) (l .minimum)
 
     three : Link → List Constraint
     three l = two l ++ maximum-of (l .from) (l .to) (l .maximum)
 
-    first : List·Memᴰ c (sequencing-of (l .from) (l .to) (l .sequencing)) ⊎ List·Memᴰ c (minimum-of (l .from) (l .to) (l .minimum)) → LinkIs n most-ticks c
-    first (inl i) = sequencing-is n most-ticks (l .from) (l .to) (l .sequencing) c (f .from-below) (f .to-below) i
+    first : List·Memᴰ c (one l) ⊎ List·Memᴰ c (minimum-of (l .from) (l .to) (l .minimum)) → LinkIs n most-ticks c
+    first (inl i) = sequencing-is n most-ticks (l .from) (l .to) (l .sequencing) (l .gap) c (f .from-below) (f .to-below) (f .gap-few) i
     first (inr i) = minimum-is n most-ticks (l .from) (l .to) (l .minimum) c (f .from-below) (f .to-below) (f .minimum-few) i
 
     second : List·Memᴰ c (two l) ⊎ List·Memᴰ c (maximum-of (l .from) (l .to) (l .maximum)) → LinkIs n most-ticks c
-    second (inl i) = first (List·Memᴰ·append-cases (sequencing-of (l .from) (l .to) (l .sequencing)) i)
+    second (inl i) = first (List·Memᴰ·append-cases (one l) i)
     second (inr i) = maximum-is n most-ticks (l .from) (l .to) (l .maximum) c (f .from-below) (f .to-below) (f .maximum-few) i
 
     go : List·Memᴰ c (three l) ⊎ List·Memᴰ c (finish-maximum-of (l .from) (l .to) (l .latest)) → LinkIs n most-ticks c
@@ -248,7 +270,7 @@ record-is n l c f m = go (List·Memᴰ·append-cases (three l) m)
 
 -- The edges of a sheet that has been read.
 module _ {q : Records} (fits : Fits q) where
-  sheet-link : (c : Constraint) → List·Memᴰ c (constraints (q .pairs)) → LinkIs (count-of q) most-ticks c
+  pub sheet-link : (c : Constraint) → List·Memᴰ c (constraints (q .pairs)) → LinkIs (count-of q) most-ticks c
   unfolding constraints
   sheet-link c m = let r = flatMap-only link-constraints (q .pairs) m in record-is (count-of q) (r .0) c (fits .links (r .0) (r .1)) (r .2)
 
@@ -263,18 +285,21 @@ module _ {q : Records} (fits : Fits q) where
   unfolding edges-of
   sheet-shape = edges-shape (q .steps) (count-of q) (constraints (q .pairs)) sheet-ends
 
-  -- The numbers of a sheet are of two bytes: a gain is one of them, a loss one or two.
-  sheet-weights : (e : Edge) → members (edges-of q) e → (e .gain ≤ most-ticks) × (e .loss ≤ most-ticks + most-ticks)
+  -- The numbers of a sheet are of two bytes: a gain is one or two of them, and so is a loss.
+  sheet-weighs : (e : Edge) → members (edges-of q) e → Weighs most-ticks e
   unfolding edges-of
-  sheet-weights e m =
+  sheet-weighs e m =
       let r = edge-link (q .steps) (constraints (q .pairs)) e m in
-      subst (λ (x : Edge). (x .gain ≤ most-ticks) × (x .loss ≤ most-ticks + most-ticks)) (r .2) (edge-weights (q .steps) most-ticks (fits .ticks) (r .0) (sheet-link (r .0) (r .1) .within))
+      subst (Weighs most-ticks) (r .2) (edge-weighs (q .steps) most-ticks (fits .source) (fits .ticks) (r .0) (sheet-link (r .0) (r .1) .within))
 
   pub sheet-gains : Gains (members (edges-of q)) most-gain
-  sheet-gains e m = omega (arith, sheet-weights e m .0)
+  sheet-gains e m = sheet-weighs e m .gain
+
+  pub sheet-first-gains : FirstGains (members (edges-of q)) most-first-gain
+  sheet-first-gains e m = sheet-weighs e m .first
 
   pub sheet-losses : Losses (members (edges-of q)) most-loss
-  sheet-losses e m = omega (arith, sheet-weights e m .1)
+  sheet-losses e m = sheet-weighs e m .loss
 
   -- Without late links no edge is late: by the link that it is.
   pub sheet-timely : NoLateLinks q → Timely (members (edges-of q))
@@ -286,7 +311,7 @@ module _ {q : Records} (fits : Fits q) where
   -- A rival's sheet: its graph has the sheet's edges, and the shape of a sheet's.
   module _ {fs : List Constraint} (extension : Extension (q .steps) (constraints (q .pairs)) fs) where
     further-ends : (c : Constraint) → Further (count-of q) c → Ends (count-of q) c
-    further-ends (sequencing i j) h = h
+    further-ends (sequencing i j g) h = h
     further-ends (minimum i j m) h = h
     further-ends (maximum i j u) h = absurd h
     further-ends (finish-maximum i j u) h = absurd h

@@ -47,24 +47,24 @@ are-bytes s h b m = ltb-true b 256 (all-each (λ b. ltb b 256) s h b m)
 
 -- Whether start times keep a link.
 keeps-test : List Operation → (ℕ → ℕ) → (ℕ → ℕ) → Constraint → Bool
-keeps-test os d t (sequencing i j) = leb (t i + duration os d i) (t j)
+keeps-test os d t (sequencing i j g) = leb (t i + duration os d i + g) (t j)
 keeps-test os d t (minimum i j m) = leb (t i + m) (t j)
 keeps-test os d t (maximum i j u) = leb (t j) (t i + u)
 keeps-test os d t (finish-maximum i j u) = leb (t j) (t i + duration os d i + u)
 
 keeps-tested : (os : List Operation) (d t : ℕ → ℕ) (c : Constraint) → keeps-test os d t c ≡ true → Keeps os d t c
 unfolding keeps-test
-keeps-tested os d t (sequencing i j) h = leb-true (t i + duration os d i) (t j) h
+keeps-tested os d t (sequencing i j g) h = leb-true (t i + duration os d i + g) (t j) h
 keeps-tested os d t (minimum i j m) h = leb-true (t i + m) (t j) h
 keeps-tested os d t (maximum i j u) h = leb-true (t j) (t i + u) h
 keeps-tested os d t (finish-maximum i j u) h = leb-true (t j) (t i + duration os d i + u) h
 
--- A rival's sheet for two hands: the wait, and step 3 at least 7 after step 0. Hand 1 takes 3, hand 2 takes 4: ours starts step 3 at 4, the rival at 7.
+-- A rival's sheet for two hands: the wait, with a gap of 2, and step 3 at least 7 after step 0. Hand 1 takes 3, hand 2 takes 4: ours starts step 3 at 4, the rival at 7.
 abbrev hands : Records
 hands = worked-records 3
 
 abbrev further : List Constraint
-further = sequencing 2 3 ∷ minimum 0 3 7 ∷ []
+further = sequencing 2 3 2 ∷ minimum 0 3 7 ∷ []
 
 abbrev rival-links : List Constraint
 rival-links = constraints (hands .pairs) ++ further
@@ -91,7 +91,7 @@ abbrev used : List ℕ
 used = 1 ∷ 2 ∷ 3 ∷ 5 ∷ 35 ∷ 37 ∷ 43 ∷ []
 
 record Computed : Type 0 where
-  size : length worked-sheets ≡ 52
+  size : length worked-sheets ≡ 63
   bytes : (k : ℕ) → List·Memᴰ k used → all (λ b. ltb b 256) (worked k) ≡ true
   reads : (k : ℕ) → List·Memᴰ k used → read (worked k) ≡ given (worked-records k)
   formed : (k : ℕ) → List·Memᴰ k used → (closes-circle (count-of (worked-records k)) (edges-of (worked-records k)) ≡ false) × (unreached (count-of (worked-records k)) (edges-of (worked-records k)) ≡ false)
@@ -202,7 +202,7 @@ is-sheet k h = record { bytes = are-bytes (worked k) (computed .bytes k h); read
 is-formed : (k : ℕ) → List·Memᴰ k used → WellFormed (worked k) (worked-records k)
 is-formed k h = record { sheet = is-sheet k h; no-circle = computed .formed k h .0; all-reached = computed .formed k h .1 }
 
-in-worked : (k : ℕ) → k < 52 → WorkedBytes (worked k)
+in-worked : (k : ℕ) → k < 63 → WorkedBytes (worked k)
 in-worked k h = in-table k (omega (arith, computed .size))
 
 -- The rival's sheet is an extension: by the computed test for sound.
@@ -213,7 +213,7 @@ further-each c m = go (List·Memᴰ·cases-cons m)
     last (inl e) = subst (Further (count-of hands)) (sym e) (omega (arith, computed .five), omega (arith, computed .five))
     last (inr m) = absurd (List·Memᴰ·not-nil m)
 
-    go : (c ≡ sequencing 2 3) ⊎ List·Memᴰ c (minimum 0 3 7 ∷ []) → Further (count-of hands) c
+    go : (c ≡ sequencing 2 3 2) ⊎ List·Memᴰ c (minimum 0 3 7 ∷ []) → Further (count-of hands) c
     go (inl e) = subst (Further (count-of hands)) (sym e) (omega (arith, computed .five), omega (arith, computed .five))
     go (inr m) = last (List·Memᴰ·cases-cons m)
 
@@ -222,7 +222,7 @@ rival-only c (inl m) = inl m
 rival-only c (inr m) = inr (further-each c m)
 
 further-ends : (c : Constraint) → Further (count-of hands) c → Ends (count-of hands) c
-further-ends (sequencing i j) h = h
+further-ends (sequencing i j g) h = h
 further-ends (minimum i j m) h = h
 further-ends (maximum i j u) h = absurd h
 further-ends (finish-maximum i j u) h = absurd h

@@ -100,8 +100,9 @@ looks-link n previous =
     (λ h5. looks-demand (rises previous i j) 6
     (λ h6. looks-bind (looks-ticks (test-bit m 1))
     (λ least. looks-bind (looks-ticks (test-bit m 2))
-    (λ most. looks-bind (looks-ticks (test-bit m 4))
-    (λ latest. looks-give _))))))))))
+    (λ most. looks-bind (looks-ticks (test-bit m 3))
+    (λ gap. looks-bind (looks-ticks (test-bit m 4))
+    (λ latest. looks-give _)))))))))))
 
 -- Records in a row. Induction on their number.
 looks-records : {A S : Type 0} (item : S → Parser A) (next : A → S) (j : ℕ) → ((state : S) → Looks (item state) j) → (k : ℕ) (state : S) → Looks (records item next k state) (k * j)

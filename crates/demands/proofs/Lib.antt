@@ -16,5 +16,6 @@ pub mod Verdicts
 pub mod Foresight
 pub mod OurStarts
 pub mod Planning
+pub mod Gapless
 pub mod Examples
 pub mod Demands

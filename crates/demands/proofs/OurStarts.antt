@@ -35,7 +35,7 @@ open-duration d zero x z e = absurd (z refl)
 open-duration d (suc i) Open z e = refl
 open-duration d (suc i) (Fixed t) z e = let c : _≡_ {A = ℕ} 0 1 = cc in absurd (omega arith)
 
-open-edge : (i j : ℕ) (x : Delay) → i ≢ 0 → x ≡ Open → sequencing-edge x i j ≡ record { from = i; to = j; gain = 0; loss = 0; counted = true; back = false; late = false }
+open-edge : (i j : ℕ) (x : Delay) → i ≢ 0 → x ≡ Open → sequencing-edge x i j 0 ≡ record { from = i; to = j; gain = 0; loss = 0; counted = true; back = false; late = false }
 unfolding sequencing-edge
 open-edge i j Open z e = rw (ne-eqb i 0 z)
 open-edge i j (Fixed t) z e = let c : _≡_ {A = ℕ} 0 1 = cc in absurd (omega arith)

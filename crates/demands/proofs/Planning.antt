@@ -3,7 +3,7 @@ use mathlib.Core.Path.{_≡_, refl, sym, ap, subst, _∙_}
 use mathlib.Core.Bool.{Bool, true, false, cond, not}
 use mathlib.Core.Logic.{_⊎_, inl, inr, _↔_}
 use mathlib.Core.List.{List, [], _∷_}
-use Prim.Native.Nat.{ℕ, suc, _≤_, _<_}
+use Prim.Native.Nat.{ℕ, suc, _+_, _-_, _*_, _≤_, _<_}
 use native.Mathlib.Omega.{arith}
 use native.Mathlib.Decide.{decLt}
 use lib.ListN.{length, List·getD-eq-default}
@@ -18,7 +18,7 @@ use Rattle.definitions.specs.Plan.{start-times, overrides, decides, plan-entry,
 use Rattle.definitions.specs.Answers.{count-of, edges-of, serialized-of}
 use Rattle.laws.proofs.Bools.{bool-cases, both-ways, and-join, not-passing}
 use Rattle.laws.proofs.Tests.{any-below-has, any-below-by}
-use Rattle.theory.specs.Graphs.{Shape, Well, Acyclic, Relative, Decides, Overrides, Serializable}
+use Rattle.theory.specs.Graphs.{Gains, Shape, Well, Acyclic, Relative, Decides, Overrides, Serializable}
 use Rattle.theory.proofs.Walks.{member-below}
 use Rattle.theory.proofs.Serialization.{forward-acyclic}
 use Rattle.theory.proofs.Reachability.{in-anchor-set-iff}
@@ -26,10 +26,10 @@ use Rattle.theory.proofs.WaitLists.{needs-waits-iff}
 use Rattle.theory.proofs.StartTimes.{start-times-length, start-times-source, start-times-rule}
 use Rattle.theory.proofs.DecidingSets.{overrides-iff, decides-iff}
 use Rattle.theory.proofs.PlanTables.{plan-table-length, plan-table-at, plan-table-row}
-use Rattle.theory.proofs.Plans.{plan-some, plan-posed, plan-wait-other, plan-wait-not-source, plan-relative, plan-enough, plan-offset-limit, plan-start-limit, plan-strict, plan-deciding-least}
+use Rattle.theory.proofs.Plans.{plan-some, plan-posed, plan-wait-other, plan-wait-not-source, plan-relative, plan-enough, plan-offset-gains, plan-offset-limit, plan-start-limit, plan-strict, plan-deciding-least}
 use Rattle.demands.specs.Demands.{Accepted, IsDelayList, in-start-set, sheet-offset, sheet-decides, our-start, term, WaitsFor, OffsetFor, StartRuleFor, GivesStart, Needed, LeftOut, DecidingFor, PlanFor}
 use Rattle.demands.proofs.Reading.{Fits}
-use Rattle.demands.proofs.Edges.{sheet-shape, sheet-gains}
+use Rattle.demands.proofs.Edges.{sheet-shape, sheet-first-gains, sheet-gains}
 use Rattle.demands.proofs.Meaning.{waits-shape, meant-for}
 use Rattle.demands.proofs.Listing.{listed-iff}
 use Rattle.theory.proofs.DelayLimits.{source-zero, list-most}
@@ -102,7 +102,12 @@ module _ {s : List ℕ} {allow : Bool} {q : Records} {v : ℕ} (accepted : Accep
 
   offset-most : (a i : ℕ) → i < n → in-start-set q a i ≡ true → sheet-offset q a i ≤ most-offset
   unfolding serialized-of
-  offset-most a i b h = plan-offset-limit well serial (sheet-gains fits) (fits .few) a i b (member a i .0 h)
+  offset-most a i b h = plan-offset-limit well serial (sheet-gains fits) (fits .few) (sheet-first-gains fits) a i b (member a i .0 h)
+
+  -- By what edges gain, where that is less than it may be.
+  pub offset-by-gains : {g : ℕ} → Gains (members (edges-of q)) g → (a i : ℕ) → i < n → in-start-set q a i ≡ true → sheet-offset q a i ≤ g + (n - 2) * g
+  unfolding serialized-of
+  offset-by-gains gains a i b h = plan-offset-gains well serial (λ e m k. gains e m) gains a i b (member a i .0 h)
 
   pub offset-for : (a i : ℕ) → i < n → in-start-set q a i ≡ true → OffsetFor q a i
   offset-for a i b h = record { heaviest = relative (λ x. 0) refl .offsets a i b (member a i .0 h); small = offset-most a i b h }
@@ -112,7 +117,7 @@ module _ {s : List ℕ} {allow : Bool} {q : Records} {v : ℕ} (accepted : Accep
   unfolding serialized-of
   starts-most list L i (no c) = omega (arith, List·getD-eq-default (start-times n (serialized-of q) (delays list)) 0 {n = i} (omega (arith, start-times-length n (serialized-of q) (delays list))))
   starts-most list L i (yes c) =
-      plan-start-limit well serial (sheet-gains fits) (fits .few) (delays list) (source-zero (q .steps) list (fits .some) (L .within)) (list-most (q .steps) list (L .within)) i c
+      plan-start-limit well serial (sheet-gains fits) (fits .few) (sheet-first-gains fits) (delays list) (source-zero (q .steps) list (fits .some) (L .within)) (list-most (q .steps) list (L .within)) i c
 
   pub start-rule-for : StartRuleFor q
   start-rule-for = record {

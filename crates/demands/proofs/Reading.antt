@@ -26,14 +26,14 @@ use Rattle.laws.proofs.Outcomes.{given-same, given-not-refused, refused-same, w
 use Rattle.demands.specs.Demands.{Bytes, FromReading, IsSheet}
 
 -- Whatever a parser takes from bytes has the property P, and bytes are left; whatever it refuses with is a refusal of reading.
-record Takes {A : Type 0} (p : Parser A) (P : A → Type 0) : Type 0 where
-  each : (s : List ℕ) → Bytes s → (t : Taken A) → p s ≡ given t → P (t .value) × Bytes (t .rest)
-  most : (s : List ℕ) → Bytes s → (k : ℕ) → p s ≡ refused k → FromReading k
+pub record Takes {A : Type 0} (p : Parser A) (P : A → Type 0) : Type 0 where
+  pub each : (s : List ℕ) → Bytes s → (t : Taken A) → p s ≡ given t → P (t .value) × Bytes (t .rest)
+  pub most : (s : List ℕ) → Bytes s → (k : ℕ) → p s ≡ refused k → FromReading k
 
-takes-give : {A : Type 0} {P : A → Type 0} (a : A) → P a → Takes (give a) P
+pub takes-give : {A : Type 0} {P : A → Type 0} (a : A) → P a → Takes (give a) P
 takes-give {P = P} a h = record { each = λ s b t e. let z = given-same e in (rw (← z) h, rw (← z) b); most = λ s b k e. absurd (given-not-refused e) }
 
-takes-bind : {A B : Type 0} {p : Parser A} {f : A → Parser B} {P : A → Type 0} {Q : B → Type 0} → Takes p P → ((a : A) → P a → Takes (f a) Q) → Takes (p >>= f) Q
+pub takes-bind : {A B : Type 0} {p : Parser A} {f : A → Parser B} {P : A → Type 0} {Q : B → Type 0} → Takes p P → ((a : A) → P a → Takes (f a) Q) → Takes (p >>= f) Q
 unfolding when-given
 takes-bind {A} {B} {p} {f} {P} {Q} g h = record { each = λ s b t e. taken s b t (p s) refl e; most = λ s b k e. refuses s b k (p s) refl e }
   where
@@ -45,12 +45,12 @@ takes-bind {A} {B} {p} {f} {P} {Q} g h = record { each = λ s b t e. taken s b t
     refuses s b k (given u) e i = let r = g .each s b u e in h (u .value) (r .0) .most (u .rest) (r .1) k i
     refuses s b k (refused l) e i = subst FromReading (refused-same i) (g .most s b l e)
 
-takes-demand : (b : Bool) (k : ℕ) → FromReading k → Takes (demand b k) (λ u. b ≡ true)
+pub takes-demand : (b : Bool) (k : ℕ) → FromReading k → Takes (demand b k) (λ u. b ≡ true)
 unfolding demand
 takes-demand true k h = takes-give tt refl
 takes-demand false k h = record { each = λ s b t e. absurd (given-not-refused (sym e)); most = λ s b l e. subst FromReading (refused-same e) h }
 
-takes-byte : Takes byte (λ b. b < 256)
+pub takes-byte : Takes byte (λ b. b < 256)
 unfolding byte
 takes-byte = record { each = taken; most = refuses }
   where
@@ -64,19 +64,19 @@ takes-byte = record { each = taken; most = refuses }
     refuses [] b k e = subst FromReading (refused-same e) (inl (omega arith))
     refuses (x ∷ s) b k e = absurd (given-not-refused e)
 
-takes-two-bytes : Takes two-bytes (λ x. x ≤ most-ticks)
+pub takes-two-bytes : Takes two-bytes (λ x. x ≤ most-ticks)
 unfolding two-bytes
 takes-two-bytes = takes-bind takes-byte (λ low l. takes-bind takes-byte (λ high h. takes-give (low + 256 * high) (omega arith)))
 
-takes-ticks : (b : Bool) → Takes (ticks-if b) (λ x. x ≤ most-ticks)
+pub takes-ticks : (b : Bool) → Takes (ticks-if b) (λ x. x ≤ most-ticks)
 unfolding ticks-if
 takes-ticks true = takes-two-bytes
 takes-ticks false = takes-give 0 (omega arith)
 
 -- A step record: the first one is open, and a fixed duration is of two bytes.
-record OperationFits (first : Bool) (o : Operation) : Type 0 where
-  source : first ≡ true → o .delay ≡ Open
-  ticks : (x : ℕ) → o .delay ≡ Fixed x → x ≤ most-ticks
+pub record OperationFits (first : Bool) (o : Operation) : Type 0 where
+  pub source : first ≡ true → o .delay ≡ Open
+  pub ticks : (x : ℕ) → o .delay ≡ Fixed x → x ≤ most-ticks
 
 delay-fits : (b : Bool) (ticks x : ℕ) → ticks ≤ most-ticks → delay-from b ticks ≡ Fixed x → x ≤ most-ticks
 unfolding delay-from
@@ -103,6 +103,7 @@ pub record LinkFits (n : ℕ) (l : Link) : Type 0 where
   pub apart : l .from ≢ l .to
   pub minimum-few : (m : ℕ) → l .minimum ≡ Ticks m → m ≤ most-ticks
   pub maximum-few : (u : ℕ) → l .maximum ≡ Ticks u → u ≤ most-ticks
+  pub gap-few : (g : ℕ) → l .gap ≡ Ticks g → g ≤ most-ticks
   pub latest-few : (u : ℕ) → l .latest ≡ Ticks u → u ≤ most-ticks
 
 bound-fits : (b : Bool) (ticks x : ℕ) → ticks ≤ most-ticks → bound-from b ticks ≡ Ticks x → x ≤ most-ticks
@@ -129,12 +130,13 @@ takes-link n previous =
     (λ u5 ends. takes-bind (takes-demand (rises previous i j) 6 (inl (omega arith)))
     (λ u6 up. takes-bind (takes-ticks (test-bit m 1))
     (λ least few-least. takes-bind (takes-ticks (test-bit m 2))
-    (λ most few-most. takes-bind (takes-ticks (test-bit m 4))
+    (λ most few-most. takes-bind (takes-ticks (test-bit m 3))
+    (λ gap few-gap. takes-bind (takes-ticks (test-bit m 4))
     (λ latest few-latest.
     let r = endpoints-fit n i j ends in
     takes-give
-    (record { from = i; to = j; sequencing = test-bit m 0; minimum = bound-from (test-bit m 1) least; maximum = bound-from (test-bit m 2) most; latest = bound-from (test-bit m 4) latest })
-    (record { from-below = r .0; to-below = r .1; apart = r .2; minimum-few = λ x e. bound-fits (test-bit m 1) least x few-least e; maximum-few = λ x e. bound-fits (test-bit m 2) most x few-most e; latest-few = λ x e. bound-fits (test-bit m 4) latest x few-latest e })))))))))))
+    (record { from = i; to = j; sequencing = test-bit m 0; minimum = bound-from (test-bit m 1) least; maximum = bound-from (test-bit m 2) most; gap = bound-from (test-bit m 3) gap; latest = bound-from (test-bit m 4) latest })
+    (record { from-below = r .0; to-below = r .1; apart = r .2; minimum-few = λ x e. bound-fits (test-bit m 1) least x few-least e; maximum-few = λ x e. bound-fits (test-bit m 2) most x few-most e; gap-few = λ x e. bound-fits (test-bit m 3) gap x few-gap e; latest-few = λ x e. bound-fits (test-bit m 4) latest x few-latest e }))))))))))))
 
 -- Records in a row: as many as are asked for, each with its property in the state that the one before it leaves. Induction on their number.
 module _ {A S : Type 0} (P : S → A → Type 0) (next : A → S) where
@@ -142,13 +144,13 @@ module _ {A S : Type 0} (P : S → A → Type 0) (next : A → S) where
   Row state [] = Unit {0}
   Row state (x ∷ xs) = P state x × Row (next x) xs
 
-  takes-records : (item : S → Parser A) → ((state : S) → Takes (item state) (P state)) → (k : ℕ) (state : S) → Takes (records item next k state) (λ xs. (length xs ≡ k) × Row state xs)
+  pub takes-records : (item : S → Parser A) → ((state : S) → Takes (item state) (P state)) → (k : ℕ) (state : S) → Takes (records item next k state) (λ xs. (length xs ≡ k) × Row state xs)
   unfolding records
   takes-records item fits zero state = takes-give [] (refl, tt)
   takes-records item fits (suc k) state =
       takes-bind (fits state) (λ x h. takes-bind (takes-records item fits k (next x)) (λ xs r. takes-give (x ∷ xs) (ap suc (r .0), (h, r .1))))
 
-  row-each : (Q : A → Type 0) → ((state : S) (x : A) → P state x → Q x) → (state : S) (xs : List A) → Row state xs → (x : A) → List·Memᴰ x xs → Q x
+  pub row-each : (Q : A → Type 0) → ((state : S) (x : A) → P state x → Q x) → (state : S) (xs : List A) → Row state xs → (x : A) → List·Memᴰ x xs → Q x
   row-each Q f state [] r x m = absurd (List·Memᴰ·not-nil m)
   row-each Q f state (y ∷ xs) r x m = go (List·Memᴰ·cases-cons m) (row-each Q f (next y) xs (r .1) x)
     where
@@ -189,7 +191,7 @@ StepRow n os = (length os ≡ n) × Row OperationFits (λ o. false) true os
 abbrev LinkRow : ℕ → ℕ → List Link → Type 0
 LinkRow n r ls = (length ls ≡ r) × Row (λ previous. LinkFits n) pair-of Nothing ls
 
-takes-operations : (n : ℕ) → Takes (operations n) (StepRow n)
+pub takes-operations : (n : ℕ) → Takes (operations n) (StepRow n)
 unfolding operations
 takes-operations n = takes-records OperationFits (λ o. false) operation takes-operation n true
 
@@ -197,7 +199,7 @@ takes-links : (n r : ℕ) → Takes (links n r) (LinkRow n r)
 unfolding links
 takes-links n r = takes-records (λ previous. LinkFits n) pair-of (link n) (takes-link n) r Nothing
 
-takes-end : Takes at-end (λ u. Unit {0})
+pub takes-end : Takes at-end (λ u. Unit {0})
 unfolding at-end
 takes-end = record { each = taken; most = refuses }
   where

@@ -5,9 +5,10 @@
 --    wait, and nobody is earlier: not a rival who knows every duration beforehand and gives any start times that keep every link (no waits needed), nor one who picks any sound sheet with these
 --    steps, these links and further after or at-least links, and any start times that keep it (waits added).
 -- L11. On sheets with a limit from the finish of an open step, nobody without foresight is earlier; refused 28 exactly if, not being 10 or 11, there is no such rival.
+-- L1. All this holds of after links with a gap, and sheets without one plan as before.
 --
 -- Words that are not defined here are those of the crate definitions, in the words of document 01: Bytes, Links, Anchors, Waits, Plan, Rival, Answers, to be read in this order. Quoted sentences are
--- document 01's, and document 02's where they speak of request L11.
+-- document 01's, and document 02's where they speak of requests L11 and L1.
 -- Start times and durations are functions from steps to whole numbers, with no largest one: a hand may take any time at all. Lists of durations are a case of them.
 use mathlib.Core.Path.{_≡_}
 use mathlib.Core.Bool.{Bool, true, false, cond}
@@ -15,7 +16,7 @@ use mathlib.Core.Logic.{_⊎_, _≢_, _↔_}
 use mathlib.Core.List.{List, [], _∷_, _++_, map, List·Memᴰ}
 use Prim.Native.Nat.{ℕ, suc, _+_, _*_, _^_, _≤_, _<_}
 use lib.ListN.{length, getD, take, drop, replicate}
-use Rattle.definitions.specs.Limits.{most-steps, most-duration, most-offset, most-start, longest-sheet}
+use Rattle.definitions.specs.Limits.{most-steps, most-duration, most-offset, most-gapless-offset, most-start, longest-sheet}
 use Rattle.definitions.specs.Basics.{largest, test-bit, given, refused}
 use Rattle.definitions.specs.Bytes.{Records, read}
 use Rattle.definitions.specs.Links.{Constraint, sequencing, finish-maximum, constraints, delay-at, Keeps, KeepsAll, Edge, Graph, members, Forward, Walk, Joined, After, UsableFrom, usable}
@@ -30,6 +31,7 @@ use Rattle.definitions.specs.Worked.{Worked, worked-sheets}
 use Rattle.definitions.specs.declared.Delay.the-variants.{Open, Fixed}
 use Rattle.theory.specs.Counts.{standing-bits}
 use Rattle.theory.specs.Graphs.{Carries, Schedule}
+use Rattle.demands.specs.Gapless.{gapless-read, gapless-edges-of}
 
 -- ## The words
 
@@ -113,9 +115,9 @@ term q d v a = our-start q d a + d a + sheet-offset q a v
 abbrev pub sheet-waits : Records → List WaitPair
 sheet-waits q = wait-list (count-of q) (edges-of q)
 
--- "A wait is kept as an after link."
+-- "A wait is kept as an after link." "Waits have gap 0".
 abbrev pub wait-link : WaitPair → Constraint
-wait-link w = sequencing (w .anchor) (w .target)
+wait-link w = sequencing (w .anchor) (w .target) 0
 
 -- With the waits put in as after links.
 abbrev pub links-and-waits : Records → List Constraint
@@ -299,6 +301,19 @@ pub record NothingNewFor (s : List ℕ) (allow : Bool) (q : Records) : Type 0 wh
 abbrev pub NothingNew : Type 0
 NothingNew = (s : List ℕ) (allow : Bool) (q : Records) → IsSheet s q → NoLateLinks q → NothingNewFor s allow q
 
+-- ## Request L1
+
+-- "Every sheet without the bit plans as before". What was read before is read as the same records, with the edges that they had, and the offsets of an accepted one keep to document 01's limit: "Offsets never
+-- exceed 4,128,705." What was refused is refused as before, unless it was a map. All else is worked out from the steps and the edges. Proof: plans-as-before.
+pub record AsBefore (s : List ℕ) (q : Records) : Type 0 where
+  pub reads : read s ≡ given q
+  pub edges : edges-of q ≡ gapless-edges-of q
+  pub small : (allow : Bool) (v : ℕ) → judged s allow ≡ given v → (a i : ℕ) → i < count-of q → in-start-set q a i ≡ true → sheet-offset q a i ≤ most-gapless-offset
+
+pub record PlansAsBefore : Type 0 where
+  pub sheets : (s : List ℕ) (q : Records) → Bytes s → gapless-read s ≡ given q → AsBefore s q
+  pub refusals : (s : List ℕ) (k : ℕ) → k ≢ 4 → gapless-read s ≡ refused k → read s ≡ refused k
+
 -- ## Demand 2: the tests mean what document 01 says
 
 -- What the definitions compute over a list of edges is what document 01 says in words, as relations: chains and walks, start sets, sound; and the refusals 8 and 9.
@@ -371,7 +386,7 @@ WaitsSound = (s : List ℕ) (allow : Bool) (q : Records) (v : ℕ) → Accepted 
 -- ## Demand 2: offsets and starts
 
 -- "Offset of v for a in its start set: the heaviest walk from a to v that begins with an after link out of a; for a = 0, the heaviest walk from 0." "A walk that counts from the end of i, for a wait or
--- an offset, never takes" i's own return from the finish. "Offsets never exceed 4,128,705." Proof: offsets-right.
+-- an offset, never takes" i's own return from the finish. "Offsets may now reach 8,191,875". Proof: offsets-right.
 pub record OffsetFor (q : Records) (a v : ℕ) : Type 0 where
   pub heaviest : Offset (UsableFrom (members (serialized-of q)) a) a v (sheet-offset q a v)
   pub small : sheet-offset q a v ≤ most-offset
@@ -452,7 +467,7 @@ LinesListed = (s : List ℕ) (allow : Bool) (q : Records) (v : ℕ) → Accepted
 
 -- ## How much of an input decides
 
--- The longest sheet has 4,801 bytes (`longest-sheet`); one more shows that something follows it. So any longer front of any bytes decides what is read and what `standplan` prints. Proof:
+-- The longest sheet has 5,825 bytes (`longest-sheet`); one more shows that something follows it. So any longer front of any bytes decides what is read and what `standplan` prints. Proof:
 -- front-decides.
 pub record FrontFor (s : List ℕ) (limit : ℕ) : Type 0 where
   pub reads : read (take limit s) ≡ read s

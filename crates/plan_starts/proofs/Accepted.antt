@@ -14,7 +14,7 @@ use Rattle.definitions.specs.declared.Operation.{Operation}
 use Rattle.theory.proofs.DelayLimits.{list-most, source-zero}
 use Rattle.plan_starts.specs.Times.{cut}
 use Rattle.theory.specs.Graphs.{Gains, Serializable, Well}
-use Rattle.theory.proofs.Plans.{plan-start-limit}
+use Rattle.theory.proofs.Plans.{plan-start-fits}
 
 module _ {n : ℕ} {es : List Edge} (well : Well n (members es)) (serial : Serializable (members (serialized n es))) (gains : Gains (members es) most-gain) (few : n ≤ most-steps) where
   -- No start is near 2 ^ 32.
@@ -22,7 +22,7 @@ module _ {n : ℕ} {es : List Edge} (well : Well n (members es)) (serial : Seria
   plan-starts-fit os list e long right v b =
       omega (
         arith,
-        plan-start-limit
+        plan-start-fits
             well
             serial
             gains

@@ -73,7 +73,7 @@ impossible-from-each-call s allow q well = record {
 
 -- Start times that agree on the steps keep the same links.
 keeps-same : (os : List Operation) (d t u : ℕ → ℕ) (n : ℕ) → ((i : ℕ) → i < n → u i ≡ t i) → (c : Constraint) → Ends n c → Keeps os d t c → Keeps os d u c
-keeps-same os d t u n same (sequencing i j) b h = omega (arith, same i (b .0), same j (b .1))
+keeps-same os d t u n same (sequencing i j g) b h = omega (arith, same i (b .0), same j (b .1))
 keeps-same os d t u n same (minimum i j m) b h = omega (arith, same i (b .0), same j (b .1))
 keeps-same os d t u n same (maximum i j m) b h = omega (arith, same i (b .0), same j (b .1))
 keeps-same os d t u n same (finish-maximum i j m) b h = omega (arith, same i (b .0), same j (b .1))

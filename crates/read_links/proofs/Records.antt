@@ -8,7 +8,7 @@ use lib.ListN.{length, take, length-append, length-map}
 use Rattle.definitions.specs.Basics.{test-bit, when-given}
 use Rattle.definitions.specs.Bytes.{ticks-if, bound-from}
 use Rattle.definitions.specs.Limits.{links-of-record}
-use Rattle.definitions.specs.Links.{sequencing, minimum, maximum, finish-maximum, sequencing-of, minimum-of, maximum-of, finish-maximum-of}
+use Rattle.definitions.specs.Links.{sequencing, minimum, maximum, finish-maximum, sequencing-of, minimum-of, maximum-of, finish-maximum-of, gap-of}
 use Rattle.definitions.specs.Links.{Edge, link-constraints, constraints, delay-at, sequencing-edge, finish-edge, edge-of, edges}
 use Rattle.definitions.specs.declared.Link.{Link}
 use Rattle.definitions.specs.declared.Operation.{Operation}
@@ -19,7 +19,7 @@ use Rattle.read_pair.proofs.Parts.{no-fields, fields-there, fields-refused}
 use Rattle.read_pair.specs.declared.Fields.{Fields}
 use Rattle.read_steps.specs.Leaving.{leaving}
 use Rattle.laws.proofs.Lists.{flatMap-snoc}
-use Rattle.read_links.specs.Pushes.{if-there, Pushed, PushedIf, LinkPushed, BoundReads, LinkReads}
+use Rattle.read_links.specs.Pushes.{if-there, Pushed, PushedIf, GapThere, LinkPushed, BoundReads, LinkReads}
 use Rattle.read_links.specs.declared.LinkRead.{LinkRead}
 use Rattle.read_links.specs.declared.LinkRead.the-variants.{Item, Refused}
 use Rattle.read_links.proofs.Pushing.{if-few, push-both}
@@ -46,12 +46,18 @@ four-length m x y z u x′ y′ z′ u′ = sym (length-map (four m x y z u) uni
 four-few : {A : Type 0} (m : ℕ) (x y z u : A) → length (four m x y z u) ≤ links-of-record
 four-few m x y z u = simp length-append (omega (arith, if-few (test-bit m 0) x, if-few (test-bit m 1) y, if-few (test-bit m 2) z, if-few (test-bit m 4) u))
 
--- The links of a record: one for each bit of its map.
+-- The gap of a record, where 0 stands for one that is not there.
+gap-there : (there : Bool) (g : ℕ) → (there ≡ false → g ≡ 0) → gap-of (bound-from there g) ≡ g
+unfolding gap-of bound-from
+gap-there true g h = refl
+gap-there false g h = sym (h refl)
+
+-- The links of a record: one for each bit of its map but the gap's.
 module _ (i j : ℕ) where
-  after-there : (there : Bool) → sequencing-of i j there ≡ if-there there (sequencing i j)
+  after-there : (there : Bool) (g : ℕ) → sequencing-of i j there g ≡ if-there there (sequencing i j g)
   unfolding sequencing-of
-  after-there true = refl
-  after-there false = refl
+  after-there true g = refl
+  after-there false g = refl
 
   module _ (ticks : ℕ) where
     least-there : (there : Bool) → minimum-of i j (bound-from there ticks) ≡ if-there there (minimum i j ticks)
@@ -71,7 +77,7 @@ module _ (i j : ℕ) where
 
 -- What the four edges of a record for (i, j) with these fields are, where i adds these digits.
 pub record Meant (i j digits : ℕ) (t : Fields) (e₀ e₁ e₂ e₄ : Edge) : Type 0 where
-  pub after : (d : Delay) → digits ≡ leaving d i → e₀ ≡ sequencing-edge d i j
+  pub after : (d : Delay) → digits ≡ leaving d i → e₀ ≡ sequencing-edge d i j (t .gap)
   pub least : e₁ ≡ edge i j (t .least) 0 false false false
   pub most : e₂ ≡ edge j i 0 (t .most) false true false
   pub latest : (d : Delay) → digits ≡ leaving d i → e₄ ≡ finish-edge d i j (t .latest)
@@ -84,18 +90,21 @@ pub by-bit : (m k : ℕ) {there : Bool} {e : Edge} {s t : List ℕ} {c d : ℕ} 
 by-bit m k h P = rw h at P
 
 module _ (m i j : ℕ) (t : Fields) where
-  links-there : link-constraints (link-from m i j t) ≡ four m (sequencing i j) (minimum i j (t .least)) (maximum i j (t .most)) (finish-maximum i j (t .latest))
+  abbrev gap : ℕ
+  gap = gap-of (bound-from (test-bit m 3) (t .gap))
+
+  links-there : link-constraints (link-from m i j t) ≡ four m (sequencing i j gap) (minimum i j (t .least)) (maximum i j (t .most)) (finish-maximum i j (t .latest))
   unfolding link-constraints link-from
   links-there = simp (after-there, least-there, most-there, latest-there)
 
   pub link-few : length (link-constraints (link-from m i j t)) ≤ links-of-record
-  link-few = rw links-there (four-few m (sequencing i j) (minimum i j (t .least)) (maximum i j (t .most)) (finish-maximum i j (t .latest)))
+  link-few = rw links-there (four-few m (sequencing i j gap) (minimum i j (t .least)) (maximum i j (t .most)) (finish-maximum i j (t .latest)))
 
   -- These edges, pushed one for each bit, are the record's.
-  module _ (digits : ℕ) (e₀ e₁ e₂ e₄ : Edge) (meant : Meant i j digits t e₀ e₁ e₂ e₄) where
+  module _ (digits : ℕ) (e₀ e₁ e₂ e₄ : Edge) (said : GapThere m t) (meant : Meant i j digits t e₀ e₁ e₂ e₄) where
     edges-there : (os : List Operation) → digits ≡ leaving (delay-at os i) i → four m e₀ e₁ e₂ e₄ ≡ edges os (link-constraints (link-from m i j t))
     unfolding edges edge-of
-    edges-there os e = rw (links-there, four-map, meant .after (delay-at os i) e, meant .least, meant .most, meant .latest (delay-at os i) e)
+    edges-there os e = rw (links-there, four-map, gap-there (test-bit m 3) (t .gap) said, meant .after (delay-at os i) e, meant .least, meant .most, meant .latest (delay-at os i) e)
 
     all-pushed : {words words′ : List ℕ} {c c′ : ℕ} → Pushed (four m e₀ e₁ e₂ e₄) words words′ c c′ → LinkPushed (link-from m i j t) digits words words′ c c′
     unfolding link-from
@@ -111,32 +120,35 @@ module _ (m i j : ℕ) (t : Fields) where
       link-pushed P Q R S = all-pushed (push-both (push-both (push-both (P .pushed) (Q .pushed)) (R .pushed)) (S .pushed))
 
 -- A word of an after link, and nothing else.
-module _ (m i j digits w : ℕ) (alone : m ≡ 1) (after : (d : Delay) → digits ≡ leaving d i → unpack w ≡ sequencing-edge d i j) where
+module _ (m i j digits w : ℕ) (alone : m ≡ 1) (after : (d : Delay) → digits ≡ leaving d i → unpack w ≡ sequencing-edge d i j 0) where
   alone-meant : Meant i j digits no-fields (unpack w) (edge i j 0 0 false false false) (edge j i 0 0 false true false) (finish-unpacked i j 0 digits)
   alone-meant = record { after = after; least = refl; most = refl; latest = λ d. finish-same d i j 0 digits }
 
   pub link-alone : {words words′ : List ℕ} {c c′ : ℕ} → PushedIf true (unpack w) words words′ c c′ → LinkPushed (link-from m i j no-fields) digits words words′ c c′
   unfolding test-bit
-  link-alone P = all-pushed m i j no-fields digits _ _ _ _ alone-meant (rw alone (P .pushed))
+  link-alone P = all-pushed m i j no-fields digits _ _ _ _ (λ h. refl) alone-meant (rw alone (P .pushed))
 
 -- An at-least link and nothing else, or an at-most link: the map has one bit. What the other edges would be is read off the digits.
 module _ (i j digits : ℕ) (fit : Fit i j) (small : digits < loss-place) where
-  meant-by : (t : Fields) → Meant i j digits t (unpack (i + j * to-place + digits)) (edge i j (t .least) 0 false false false) (edge j i 0 (t .most) false true false) (finish-unpacked i j (t .latest) digits)
-  meant-by t = record { after = λ d e. sequencing-unpacked d i j digits _ fit small e refl; least = refl; most = refl; latest = λ d. finish-same d i j (t .latest) digits }
+  abbrev bounds : ℕ → ℕ → Fields
+  bounds least most = record { least = least; most = most; gap = 0; latest = 0 }
+
+  meant-by : (least most : ℕ) → Meant i j digits (bounds least most) (unpack (i + j * to-place + digits)) (edge i j least 0 false false false) (edge j i 0 most false true false) (finish-unpacked i j 0 digits)
+  meant-by least most = record { after = λ d e. sequencing-unpacked d i j 0 digits _ fit (omega arith) e (omega arith); least = refl; most = refl; latest = λ d. finish-same d i j 0 digits }
 
   module _ (s : List ℕ) (at : ℕ) (words words′ : List ℕ) (c m : ℕ) where
     pub least-read : m ≡ 2 → (r : LinkRead) → BoundReads false i j s at words words′ c r → LinkReads m i j digits s at words words′ c r
     unfolding link-ticks ticks-if test-bit when-given
     least-read e (Item next c′) T =
-        let t : Fields = record { least = T .ticks; most = 0; latest = 0 } in
-        record { fields = t; same = fields-there m i j _ (rw (e, T .same)); inside = T .inside; pushed = all-pushed m i j t digits _ _ _ _ (meant-by t) (rw e (T .pushed)) }
+        let t = bounds (T .ticks) 0 in
+        record { fields = t; same = fields-there m i j _ (rw (e, T .same)); inside = T .inside; pushed = all-pushed m i j t digits _ _ _ _ (λ h. refl) (meant-by (T .ticks) 0) (rw e (T .pushed)) }
     least-read e (Refused k) f = fields-refused m i j _ (rw (e, f))
 
     pub most-read : m ≡ 4 → (r : LinkRead) → BoundReads true i j s at words words′ c r → LinkReads m i j digits s at words words′ c r
     unfolding link-ticks ticks-if test-bit when-given
     most-read e (Item next c′) T =
-        let t : Fields = record { least = 0; most = T .ticks; latest = 0 } in
-        record { fields = t; same = fields-there m i j _ (rw (e, T .same)); inside = T .inside; pushed = all-pushed m i j t digits _ _ _ _ (meant-by t) (rw e (T .pushed)) }
+        let t = bounds 0 (T .ticks) in
+        record { fields = t; same = fields-there m i j _ (rw (e, T .same)); inside = T .inside; pushed = all-pushed m i j t digits _ _ _ _ (λ h. refl) (meant-by 0 (T .ticks)) (rw e (T .pushed)) }
     most-read e (Refused k) f = fields-refused m i j _ (rw (e, f))
 
 -- One record more.

@@ -12,15 +12,15 @@ use Rattle.data_edges.specs.Words.{edge, unpack, marked, Fit, to-place, counted
 use Rattle.data_edges.proofs.Digits.{same-edge, unpack-word}
 use Rattle.read_steps.specs.Leaving.{leaving}
 
--- An after link: what is added are the digits of the mark and of the gain.
-pub sequencing-unpacked : (d : Delay) (i j digits w : ℕ) → Fit i j → digits < loss-place → digits ≡ leaving d i → w ≡ i + j * to-place + digits → unpack w ≡ sequencing-edge d i j
+-- An after link: what is added are the digits of the mark and of the gain, and the gap to the gain.
+pub sequencing-unpacked : (d : Delay) (i j gap digits w : ℕ) → Fit i j → digits + gap * gain-place < loss-place → digits ≡ leaving d i → w ≡ i + j * to-place + digits + gap * gain-place → unpack w ≡ sequencing-edge d i j gap
 unfolding leaving sequencing-edge
-sequencing-unpacked (Fixed ticks) i j digits w fit small e f = unpack-word {c = 0} {b = 0} {g = ticks} {l = 0} {late = 0} w (search needs) (omega arith)
-sequencing-unpacked Open i j digits w fit small e f = go (eqb i 0) e
+sequencing-unpacked (Fixed ticks) i j gap digits w fit small e f = unpack-word {c = 0} {b = 0} {g = ticks + gap} {l = 0} {late = 0} w (search needs) (omega arith)
+sequencing-unpacked Open i j gap digits w fit small e f = go (eqb i 0) e
   where
-    go : (b : Bool) → digits ≡ cond b 0 counted-place → unpack w ≡ edge i j 0 0 (not b) false false
-    go true e = unpack-word {c = 0} {b = 0} {g = 0} {l = 0} {late = 0} w (search needs) (omega arith)
-    go false e = unpack-word {c = 1} {b = 0} {g = 0} {l = 0} {late = 0} w (search needs) (omega arith)
+    go : (b : Bool) → digits ≡ cond b 0 counted-place → unpack w ≡ edge i j gap 0 (not b) false false
+    go true e = unpack-word {c = 0} {b = 0} {g = gap} {l = 0} {late = 0} w (search needs) (omega arith)
+    go false e = unpack-word {c = 1} {b = 0} {g = gap} {l = 0} {late = 0} w (search needs) (omega arith)
 
 -- A link from the finish loses the gain of the after link besides, and is late where that one is counted.
 abbrev pub finish-unpacked : ℕ → ℕ → ℕ → ℕ → Edge

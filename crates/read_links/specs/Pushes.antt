@@ -4,7 +4,7 @@ use mathlib.Core.Bool.{Bool, true, false, cond}
 use mathlib.Core.List.{List, [], _∷_, _++_}
 use Prim.Native.Nat.{ℕ, _+_, _≤_}
 use lib.ListN.{length, take, drop}
-use Rattle.definitions.specs.Basics.{refused}
+use Rattle.definitions.specs.Basics.{refused, test-bit}
 use Rattle.definitions.specs.Bytes.{two-bytes}
 use Rattle.definitions.specs.Limits.{links-of-record}
 use Rattle.definitions.specs.Links.{Edge, link-constraints, delay-at, edges}
@@ -45,7 +45,16 @@ pub record Room (words : List ℕ) (c i j : ℕ) : Type 0 where
   pub room : c + links-of-record ≤ length words
   pub ends : Fit i j
 
--- And its fields begin within the bytes.
+-- Its fields are known too: a gap that the map m does not say is there has 0 ticks.
+abbrev pub GapThere : ℕ → Fields → Type 0
+GapThere m t = test-bit m 3 ≡ false → t .gap ≡ 0
+
+pub record Pushable (words : List ℕ) (c m i j : ℕ) (t : Fields) : Type 0 where
+  pub room : c + links-of-record ≤ length words
+  pub ends : Fit i j
+  pub gap : GapThere m t
+
+-- There is room, and its fields begin within the bytes.
 pub record Ready (s : List ℕ) (at : ℕ) (words : List ℕ) (c i j : ℕ) : Type 0 where
   pub begins : at ≤ length s
   pub room : Room words c i j

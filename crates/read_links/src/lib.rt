@@ -22,7 +22,7 @@ ghost use Rattle.definitions.specs.declared.Delay.{Delay};
 ghost use Rattle.data_edges.specs.Words.{edge, unpack, Fit, DigitsFit};
 ghost use Rattle.read_steps.specs.Leaving.{leaving};
 ghost use Rattle.read_pair.specs.Parts.{link-from};
-ghost use Rattle.read_links.specs.Pushes.{PushedIf, Room, LinkPushed, Ready, bound-edge, BoundReads, LinkReads};
+ghost use Rattle.read_links.specs.Pushes.{PushedIf, Pushable, LinkPushed, Ready, bound-edge, BoundReads, LinkReads};
 
 // The place after a link record that was read, and the count of words after its edges; or the fault met there.
 pub enum LinkRead {
@@ -62,12 +62,12 @@ fn word(from: u64, to: u64, counted: u64, back: u64, gain: u64, loss: u64, late:
         + late * LATE_PLACE
 }
 
-// The words of an after, an at-least and an at-most link on (from, to), and of one at most from the finish; `digits` are what `from` adds.
-fn sequencing_word(digits: u32, from: u8, to: u8) -> u64
+// The words of an after link with its gap, an at-least and an at-most link on (from, to), and of one at most from the finish; `digits` are what `from` adds.
+fn sequencing_word(digits: u32, from: u8, to: u8, gap: u16) -> u64
     requires { ⌜ Fit from to ⌝ }
-    ensures { λ r. ⌜ ((d : Delay) → digits ≡ leaving d from → unpack r ≡ sequencing-edge d from to) ⌝ }
+    ensures { λ r. ⌜ ((d : Delay) → digits ≡ leaving d from → unpack r ≡ sequencing-edge d from to gap) ⌝ }
 {
-    wide(from) + wide(to) * TO_PLACE + digits_of(digits)
+    wide(from) + wide(to) * TO_PLACE + digits_of(digits) + ticks_of(gap) * GAIN_PLACE
 }
 
 fn minimum_word(from: u8, to: u8, least: u16) -> u64
@@ -122,10 +122,10 @@ fn push_edges(
     digits: u32,
     fields: Fields,
 ) -> usize
-    requires { ⌜ Room (now words) count from to ⌝ }
+    requires { ⌜ Pushable (now words) count m from to fields ⌝ }
     ensures { λ r. ⌜ LinkPushed (link-from m from to fields) digits (now (words .entry)) (now (words .exit)) count r ⌝ }
 {
-    let after = sequencing_word(digits, from, to);
+    let after = sequencing_word(digits, from, to, fields.gap);
     let first = push(words, count, has(m, 0), after);
     let least = minimum_word(from, to, fields.least);
     let second = push(words, first, has(m, 1), least);
@@ -184,7 +184,7 @@ pub fn push_link(
 {
     match m {
         1 => {
-            let after = sequencing_word(digits, from, to);
+            let after = sequencing_word(digits, from, to, 0);
             LinkRead::Item(at, push(words, count, true, after))
         }
         2 => push_bound(s, at, false, words, count, from, to),

@@ -11,8 +11,8 @@ use lib.ListN.{length, getD, drop}
 use mir.Val.{hasKey}
 use types.Run.{OneOf, hit}
 use borrow.Author.Tests.{leb-true, ltb-true, ltb-false, eqb-false, not-true, lt-ltb, le-ltb, lt-leb, le-leb, eq-eqb, ne-eqb}
-use Rattle.definitions.specs.Basics.{all, all-below, test-bit, given, refused, when-given}
-use Rattle.definitions.specs.Bytes.{Parser, _>>=_, give, demand, byte, ticks-if, link-map, sequenced, endpoints, rises, bound-from, link}
+use Rattle.definitions.specs.Basics.{all, all-below, test-bit, Outcome, given, refused, when-given}
+use Rattle.definitions.specs.Bytes.{Parser, Taken, _>>=_, give, demand, byte, ticks-if, link-map, sequenced, endpoints, rises, bound-from, link}
 use Rattle.definitions.specs.declared.Link.{Link}
 use Rattle.definitions.specs.declared.Previous.{Previous}
 use Rattle.definitions.specs.declared.Previous.the-variants.{Nothing, Pair}
@@ -21,11 +21,11 @@ use Rattle.laws.proofs.Tests.{all-below-each}
 use Rattle.laws.proofs.Parsers.{when-given-twice, drop-byte, drop-end}
 use Rattle.read_fields.specs.Answers.{item-at, field-at, field-end}
 use Rattle.read_fields.proofs.Parts.{field-there, field-cut, field-forth}
-use Rattle.read_pair.specs.Answers.{Ranks, Ranked, allowed, late-allowed, map-refusal}
+use Rattle.read_pair.specs.Answers.{Ranks, Ranked, allowed, upper-allowed, map-refusal}
 use Rattle.read_pair.specs.Parts.{link-ticks, link-from, link-fields, link-pair}
 use Rattle.read_pair.specs.declared.Fields.{Fields}
 
--- A map that is refused with 26: bit 4 without bit 0.
+-- A map that is refused with 26: bit 4 without bit 0, and without bit 3.
 abbrev pub unsequenced : ℕ → Bool
 unsequenced m = link-map m && not (sequenced m)
 
@@ -37,96 +37,116 @@ keys-pass test (k₀ ∷ []) m h e = ap test e ∙ and-split (test k₀) true h 
 keys-pass test (k₀ ∷ (k₁ ∷ ks)) m h (inl e) = ap test e ∙ and-split (test k₀) (all test (k₁ ∷ ks)) h .0
 keys-pass test (k₀ ∷ (k₁ ∷ ks)) m h (inr k) = keys-pass test (k₁ ∷ ks) m (and-split (test k₀) (all test (k₁ ∷ ks)) h .1) k
 
--- The maps with bits 0 and 4, and those with bit 4 and without bit 0.
-abbrev finish-maps : List ℕ
-finish-maps = 17 ∷ 19 ∷ 21 ∷ 23 ∷ []
+-- The maps with bit 0 and with bit 3 or bit 4, and those with bit 4 and without bits 0 and 3.
+abbrev upper-maps : List ℕ
+upper-maps = 9 ∷ 11 ∷ 13 ∷ 15 ∷ 17 ∷ 19 ∷ 21 ∷ 23 ∷ 25 ∷ 27 ∷ 29 ∷ 31 ∷ []
 
 abbrev alone-maps : List ℕ
 alone-maps = 16 ∷ 18 ∷ 20 ∷ 22 ∷ []
 
-pub map-late : (m : ℕ) → OneOf finish-maps m → late-allowed m ≡ true
+pub map-upper : (m : ℕ) → OneOf upper-maps m → upper-allowed m ≡ true
 unfolding all link-map sequenced test-bit
-map-late m k = keys-pass late-allowed finish-maps m refl k
+map-upper m k = keys-pass upper-allowed upper-maps m refl k
 
 pub map-alone : (m : ℕ) → OneOf alone-maps m → unsequenced m ≡ true
 unfolding all link-map sequenced test-bit
 map-alone m k = keys-pass unsequenced alone-maps m refl k
 
--- The maps without bit 4: a test computed for each.
+-- The maps with neither: a test computed for each.
 pub map-low : (m : ℕ) → 1 ≤ m → m < 8 → allowed m ≡ true
 unfolding all-below link-map sequenced test-bit
 map-low m from to = rw (le-ltb m 1 from) at (all-below-each (λ k. ltb k 1 || allowed k) 8 refl m to)
 
--- No map from 24 on is known.
-map-small : (m : ℕ) → link-map m ≡ true → m < 24
-unfolding link-map
-map-small m h = go (or-split (leb 1 m && leb m 7) (leb 16 m && leb m 23) h)
-  where
-    go : (leb 1 m && leb m 7 ≡ true) ⊎ (leb 16 m && leb m 23 ≡ true) → m < 24
-    go (inl e) = let to : m ≤ 7 = leb-true m 7 (and-split (leb 1 m) (leb m 7) e .1) in omega arith
-    go (inr e) = let to : m ≤ 23 = leb-true m 23 (and-split (leb 16 m) (leb m 23) e .1) in omega arith
+-- No map from 32 on is known.
+abbrev maps-end : ℕ
+maps-end = 32
 
--- A map that is not listed fails a test of known maps: of those below 24, the listed ones alone pass it, as a computed test says.
-not-listed : (listed test : ℕ → Bool) (m : ℕ) → (test m ≡ true → link-map m ≡ true) → all-below (λ k. listed k || not (test k)) 24 ≡ true → listed m ≡ false → test m ≡ false
-not-listed listed test m known each none = not-passing (test m) (λ t. both-ways t (not-true (test m) (rw none at (all-below-each (λ k. listed k || not (test k)) 24 each m (map-small m (known t))))))
+map-small : (m : ℕ) → link-map m ≡ true → m < maps-end
+unfolding link-map
+map-small m h =
+    let bits = and-split (leb 1 m && leb m 31) (test-bit m 0 || not (test-bit m 3)) h in
+    let to : m ≤ 31 = leb-true m 31 (and-split (leb 1 m) (leb m 31) (bits .0) .1) in
+    omega arith
+
+-- A map that is not listed fails a test of known maps: of those below 32, the listed ones alone pass it, as a computed test says.
+not-listed : (listed test : ℕ → Bool) (m : ℕ) → (test m ≡ true → link-map m ≡ true) → all-below (λ k. listed k || not (test k)) maps-end ≡ true → listed m ≡ false → test m ≡ false
+not-listed listed test m known each none = not-passing (test m) (λ t. both-ways t (not-true (test m) (rw none at (all-below-each (λ k. listed k || not (test k)) maps-end each m (map-small m (known t))))))
 
 none-of : (keys : List ℕ) (m : ℕ) → (OneOf keys m → ⊥) → hasKey keys m ≡ false
 none-of keys m none = not-passing (hasKey keys m) (λ k. none (hit keys m (subst T (sym k) tt)))
 
-pub map-not-late : (m : ℕ) → (OneOf finish-maps m → ⊥) → late-allowed m ≡ false
+pub map-not-upper : (m : ℕ) → (OneOf upper-maps m → ⊥) → upper-allowed m ≡ false
 unfolding all-below link-map sequenced test-bit
-map-not-late m none = not-listed (hasKey finish-maps) late-allowed m (λ t. and-split (link-map m) (sequenced m) (and-split (leb 16 m) (allowed m) t .1) .0) refl (none-of finish-maps m none)
+map-not-upper m none = not-listed (hasKey upper-maps) upper-allowed m (λ t. and-split (link-map m) (sequenced m) (and-split (leb 8 m) (allowed m) t .1) .0) refl (none-of upper-maps m none)
 
--- A map with more than bits 0 to 2, or with none, is allowed only with bit 4.
-pub map-outside : (m : ℕ) → (m < 1) ⊎ (8 ≤ m) → late-allowed m ≡ allowed m
+-- A map with more than bits 0 to 2, or with none, is allowed only with bit 3 or bit 4.
+pub map-outside : (m : ℕ) → (m < 1) ⊎ (8 ≤ m) → upper-allowed m ≡ allowed m
 unfolding link-map
-map-outside m outside =
-    elim (bool-cases (leb 16 m)) [
-      | inl high ↦ rw high
-      | inr low ↦ elim outside [ inl h ↦ rw (low, lt-leb 1 m h) | inr h ↦ rw (low, le-leb 1 m (omega arith), lt-leb m 7 h) ]
-    ]
+map-outside m (inl h) = rw (lt-leb 8 m (omega arith), lt-leb 1 m h)
+map-outside m (inr h) = rw (le-leb 8 m h)
 
 pub map-not-alone : (m : ℕ) → (OneOf alone-maps m → ⊥) → unsequenced m ≡ false
 unfolding all-below link-map sequenced test-bit
 map-not-alone m none = not-listed (hasKey alone-maps) unsequenced m (λ t. and-split (link-map m) (not (sequenced m)) t .0) refl (none-of alone-maps m none)
 
--- The fields of a link record with the map m, from the place `at` on: where the second and the third begin and the last ends, and their ticks.
+-- The fields of a link record with the map m, from the place `at` on: where those after the first begin and the last ends, and their ticks.
 abbrev most-at : ℕ → ℕ → ℕ
 most-at m at = field-end at (test-bit m 1)
 
+abbrev gap-at : ℕ → ℕ → ℕ
+gap-at m at = field-end (most-at m at) (test-bit m 2)
+
 abbrev latest-at : ℕ → ℕ → ℕ
-latest-at m at = field-end (most-at m at) (test-bit m 2)
+latest-at m at = field-end (gap-at m at) (test-bit m 3)
 
 abbrev pub ticks-end : ℕ → ℕ → ℕ
 ticks-end m at = field-end (latest-at m at) (test-bit m 4)
 
 abbrev pub fields-at : ℕ → List ℕ → ℕ → Fields
-fields-at m s at = record { least = field-at s at (test-bit m 1); most = field-at s (most-at m at) (test-bit m 2); latest = field-at s (latest-at m at) (test-bit m 4) }
+fields-at m s at = record { least = field-at s at (test-bit m 1); most = field-at s (most-at m at) (test-bit m 2); gap = field-at s (gap-at m at) (test-bit m 3); latest = field-at s (latest-at m at) (test-bit m 4) }
 
 -- They end within the bytes, or the first that does not is cut off.
 module _ (m : ℕ) (s : List ℕ) (at : ℕ) where
   pub ticks-there : ticks-end m at ≤ length s → link-ticks m (drop at s) ≡ item-at s (fields-at m s at) (ticks-end m at)
   unfolding link-ticks when-given
   ticks-there h =
-      let last : latest-at m at ≤ length s = omega (arith, field-forth (latest-at m at) (test-bit m 4)) in
+      let third : latest-at m at ≤ length s = omega (arith, field-forth (latest-at m at) (test-bit m 4)) in
+      let second : gap-at m at ≤ length s = omega (arith, field-forth (gap-at m at) (test-bit m 3)) in
       let first : most-at m at ≤ length s = omega (arith, field-forth (most-at m at) (test-bit m 2)) in
-      rw (field-there s at (test-bit m 1) first, field-there s (most-at m at) (test-bit m 2) last, field-there s (latest-at m at) (test-bit m 4) h)
+      rw (field-there s at (test-bit m 1) first, field-there s (most-at m at) (test-bit m 2) second, field-there s (gap-at m at) (test-bit m 3) third, field-there s (latest-at m at) (test-bit m 4) h)
 
   pub ticks-cut : at ≤ length s → length s < ticks-end m at → link-ticks m (drop at s) ≡ refused 1
   unfolding link-ticks when-given
-  ticks-cut inside h = go (decLt (length s) (most-at m at)) (decLt (length s) (latest-at m at))
+  ticks-cut inside h = go (decLt (length s) (most-at m at)) (decLt (length s) (gap-at m at)) (decLt (length s) (latest-at m at))
     where
       first : most-at m at ≤ length s → ticks-if (test-bit m 1) (drop at s) ≡ item-at s (field-at s at (test-bit m 1)) (most-at m at)
       first = field-there s at (test-bit m 1)
 
-      go : Dec (length s < most-at m at) → Dec (length s < latest-at m at) → link-ticks m (drop at s) ≡ refused 1
-      go (yes k) l = rw (field-cut s at (test-bit m 1) inside k)
-      go (no k) (yes l) = rw (first (omega arith), field-cut s (most-at m at) (test-bit m 2) (omega arith) l)
-      go (no k) (no l) = rw (first (omega arith), field-there s (most-at m at) (test-bit m 2) (omega arith), field-cut s (latest-at m at) (test-bit m 4) (omega arith) h)
+      second : gap-at m at ≤ length s → ticks-if (test-bit m 2) (drop (most-at m at) s) ≡ item-at s (field-at s (most-at m at) (test-bit m 2)) (gap-at m at)
+      second = field-there s (most-at m at) (test-bit m 2)
+
+      go : Dec (length s < most-at m at) → Dec (length s < gap-at m at) → Dec (length s < latest-at m at) → link-ticks m (drop at s) ≡ refused 1
+      go (yes k) l o = rw (field-cut s at (test-bit m 1) inside k)
+      go (no k) (yes l) o = rw (first (omega arith), field-cut s (most-at m at) (test-bit m 2) (omega arith) l)
+      go (no k) (no l) (yes o) = rw (first (omega arith), second (omega arith), field-cut s (gap-at m at) (test-bit m 3) (omega arith) o)
+      go (no k) (no l) (no o) = rw (first (omega arith), second (omega arith), field-there s (gap-at m at) (test-bit m 3) (omega arith), field-cut s (latest-at m at) (test-bit m 4) (omega arith) h)
+
+-- A gap that the map does not say is there has 0 ticks, where the fields are taken; gap-in reads it off what is taken.
+gap-in : Outcome (Taken Fields) → ℕ
+gap-in (given t) = t .value .gap
+gap-in (refused k) = 0
+
+pub gap-none : (m : ℕ) (s : List ℕ) (at next : ℕ) {t : Fields} → at ≤ length s → item-at s t next ≡ link-ticks m (drop at s) → test-bit m 3 ≡ false → t .gap ≡ 0
+unfolding gap-in
+gap-none m s at next {t} inside taken none = go (decLt (length s) (ticks-end m at))
+  where
+    go : Dec (length s < ticks-end m at) → t .gap ≡ 0
+    go (yes cut) = ap gap-in (taken ∙ ticks-cut m s at inside cut)
+    go (no there) = rw none at (ap gap-in (taken ∙ ticks-there m s at (omega arith)))
 
 -- A map of an after link alone says that no field is there.
 abbrev pub no-fields : Fields
-no-fields = record { least = 0; most = 0; latest = 0 }
+no-fields = record { least = 0; most = 0; gap = 0; latest = 0 }
 
 pub ticks-none : (m : ℕ) (t : List ℕ) → m ≡ 1 → link-ticks m t ≡ given (record { value = no-fields; rest = t })
 unfolding link-ticks ticks-if test-bit when-given
@@ -226,8 +246,9 @@ abbrev as-defined : ℕ → ℕ → ℕ → Parser Link
 as-defined m i j = do
   least ← ticks-if (test-bit m 1)
   most ← ticks-if (test-bit m 2)
+  gap ← ticks-if (test-bit m 3)
   latest ← ticks-if (test-bit m 4)
-  give (record { from = i; to = j; sequencing = test-bit m 0; minimum = bound-from (test-bit m 1) least; maximum = bound-from (test-bit m 2) most; latest = bound-from (test-bit m 4) latest })
+  give (record { from = i; to = j; sequencing = test-bit m 0; minimum = bound-from (test-bit m 1) least; maximum = bound-from (test-bit m 2) most; gap = bound-from (test-bit m 3) gap; latest = bound-from (test-bit m 4) latest })
 
 fields-as-defined : (m i j : ℕ) (s : List ℕ) → as-defined m i j s ≡ link-fields m i j s
 unfolding link-fields link-ticks link-from when-given

@@ -28,12 +28,12 @@ abbrev pub Ranked : Previous → ℕ → Type 0
 Ranked Nothing last = last ≡ 0
 Ranked (Pair i j) last = Ranks i j last
 
--- The maps that are allowed; and those of them with bit 4.
+-- The maps that are allowed; and those of them with bit 3 or bit 4.
 abbrev pub allowed : ℕ → Bool
 allowed m = link-map m && sequenced m
 
-abbrev pub late-allowed : ℕ → Bool
-late-allowed m = leb 16 m && allowed m
+abbrev pub upper-allowed : ℕ → Bool
+upper-allowed m = leb 8 m && allowed m
 
 -- What is refused in a map that is not allowed.
 abbrev pub map-refusal : ℕ → ℕ

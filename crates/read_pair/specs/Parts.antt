@@ -11,8 +11,9 @@ unfoldable pub link-ticks : ℕ → Parser Fields
 link-ticks m = do
   least ← ticks-if (test-bit m 1)
   most ← ticks-if (test-bit m 2)
+  gap ← ticks-if (test-bit m 3)
   latest ← ticks-if (test-bit m 4)
-  give (record { least = least; most = most; latest = latest })
+  give (record { least = least; most = most; gap = gap; latest = latest })
 
 unfoldable pub link-from : ℕ → ℕ → ℕ → Fields → Link
 link-from m i j t = record {
@@ -21,6 +22,7 @@ link-from m i j t = record {
   sequencing = test-bit m 0;
   minimum = bound-from (test-bit m 1) (t .least);
   maximum = bound-from (test-bit m 2) (t .most);
+  gap = bound-from (test-bit m 3) (t .gap);
   latest = bound-from (test-bit m 4) (t .latest);
 }
 

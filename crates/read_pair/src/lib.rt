@@ -6,7 +6,7 @@ ghost use Rattle.definitions.specs.Numbers.{number};
 ghost use Rattle.definitions.specs.Bytes.{endpoints, link};
 ghost use Rattle.definitions.specs.declared.Previous.{Previous};
 ghost use Rattle.read_pair.specs.Parts.{link-pair};
-ghost use Rattle.read_pair.specs.Answers.{Ranks, Ranked, PairReads, FieldsReads, allowed, late-allowed, map-refusal};
+ghost use Rattle.read_pair.specs.Answers.{Ranks, Ranked, PairReads, FieldsReads, allowed, upper-allowed, map-refusal};
 use data_indices::byte_index;
 use definitions::Refusal;
 use read_fields::field;
@@ -19,10 +19,11 @@ pub enum PairRead {
     Refused(Refusal),
 }
 
-// The ticks of the fields: at least, at most, at most from the finish. Those of a field that is not there are 0.
+// The ticks of the fields: at least, at most, the gap, at most from the finish. Those of a field that is not there are 0.
 pub struct Fields {
     pub least: u16,
     pub most: u16,
+    pub gap: u16,
     pub latest: u16,
 }
 
@@ -73,12 +74,12 @@ fn read_pair(s: &[u8], at: usize, n: usize, last: usize, m: u8) -> PairRead
     PairRead::Pair(m, i, j)
 }
 
-// Whether a map with bit 4 is allowed: with bit 0.
-fn late_map_allowed(m: u8) -> bool
-    ensures { λ r. ⌜ r ≡ late-allowed m ⌝ }
+// Whether a map with bit 3 or bit 4 is allowed: with bit 0.
+fn upper_map_allowed(m: u8) -> bool
+    ensures { λ r. ⌜ r ≡ upper-allowed m ⌝ }
 {
     match m {
-        17 | 19 | 21 | 23 => true,
+        9 | 11 | 13 | 15 | 17 | 19 | 21 | 23 | 25 | 27 | 29 | 31 => true,
         _ => false,
     }
 }
@@ -89,11 +90,11 @@ fn map_allowed(m: u8) -> bool
 {
     match m {
         1..=7 => true,
-        _ => late_map_allowed(m),
+        _ => upper_map_allowed(m),
     }
 }
 
-// The refusal of a map that is not allowed: 26 is bit 4 without bit 0.
+// The refusal of a map that is not allowed: 26 is bit 4 without bit 0, where no bit 3 stands.
 fn map_fault(m: u8) -> Refusal
     ensures { λ r. ⌜ number r ≡ map-refusal m ⌝ }
 {
@@ -124,9 +125,11 @@ pub fn read_fields(s: &[u8], at: usize, m: u8) -> FieldsRead
 {
     let has_least = has(m, 1);
     let has_most = has(m, 2);
+    let has_gap = has(m, 3);
     let has_latest = has(m, 4);
     let most_at = field_end(at, has_least);
-    let latest_at = field_end(most_at, has_most);
+    let gap_at = field_end(most_at, has_most);
+    let latest_at = field_end(gap_at, has_gap);
     let end = field_end(latest_at, has_latest);
     if s.len() < end {
         return FieldsRead::Refused(Refusal::Truncated);
@@ -134,6 +137,7 @@ pub fn read_fields(s: &[u8], at: usize, m: u8) -> FieldsRead
     let fields = Fields {
         least: field(s, at, has_least),
         most: field(s, most_at, has_most),
+        gap: field(s, gap_at, has_gap),
         latest: field(s, latest_at, has_latest),
     };
     FieldsRead::Item(fields, end)

@@ -1,18 +1,18 @@
 -- Offsets: n rounds find them, and how large they can be.
-use mathlib.Core.Path.{_≡_, refl}
+use mathlib.Core.Path.{_≡_, refl, _∙_}
 use mathlib.Core.Logic.{_↔_, _⊎_, inl, inr}
 use mathlib.Core.List.{List, List·Memᴰ}
 use Prim.Native.Nat.{_*_, _+_, _-_, _<_, _≤_, suc, zero, ℕ}
 use native.Mathlib.Omega.{arith}
-use native.Mathlib.Nat.{mul-le-mul-right, suc-mul}
-use Rattle.definitions.specs.Limits.{most-steps, most-gain, most-offset}
+use native.Mathlib.Nat.{mul-le-mul-right}
+use Rattle.definitions.specs.Limits.{most-steps, most-gain, most-first-gain, most-walk, most-offset}
 use Rattle.definitions.specs.Anchors.{InAnchorSet, WellPosed, chain, is-source}
 use Rattle.definitions.specs.Links.{After, Edge, Graph, UsableFrom, Walk, members, usable}
 use Rattle.definitions.specs.Plan.{Offset, Span, after, first-row, offset, offset-row, source}
 use Rattle.definitions.specs.Rounds.{cell, rounds}
-use Rattle.theory.specs.Graphs.{Carries, Gains, NonPositive, Rooted, Shape, Well}
+use Rattle.theory.specs.Graphs.{Carries, FirstGains, Gains, NonPositive, Rooted, Shape, Well}
 use Rattle.theory.proofs.FirstRows.{after-start, source-start}
-use Rattle.theory.proofs.Pigeonhole.{Loop, Short, free, free-take, loop-or-free, shorten, split-at, trail, walk-gain}
+use Rattle.theory.proofs.Pigeonhole.{Loop, Short, free, free-take, loop-or-free, shorten, split-at, trail, walk-first-gain, walk-gain}
 use Rattle.theory.proofs.Relaxation.{Grounded, Start, grounded, rounds-offset, rounds-span, rounds-under}
 use Rattle.theory.proofs.Usables.{carries-list, forwards-usable, member-usable, members-usable, nonpositive-mono, usable-list-shape, usable-members, usable-shape, usable-sub}
 use Rattle.theory.proofs.Walks.{after-by, after-mono, join, joined-mono, member-below, member-mono, member-span, offset-same, walk-from, walk-mono}
@@ -106,46 +106,42 @@ module _ {n : ℕ} {E : Graph} (shape : Shape n E) (never : NonPositive E) {a : 
           let r = below s in
           record { k₂ = r .k₂; p₂ = r .p₂; q₂ = r .q₂; few = r .few; walk = r .walk; heavy = omega (arith, r .heavy, s .ps, s .qs, never .closed (s .round)) }
 
--- An offset is at most n - 1 edges' gains.
-module _ {n : ℕ} {E : Graph} {g : ℕ} (shape : Shape n E) (never : NonPositive E) (gains : Gains E g) where
-  span-gain : {a v p q : ℕ} → ¬ After E a a → 0 < n → Span E a v p q → p ≤ (n - 1) * g + q
+-- An offset is at most what a first edge gains and n - 2 others do.
+module _ {n : ℕ} {E : Graph} {f g : ℕ} (shape : Shape n E) (never : NonPositive E) (firsts : FirstGains E f) (gains : Gains E g) where
+  span-gain : {a v p q : ℕ} → ¬ After E a a → 0 < n → Span E a v p q → p ≤ f + (n - 2) * g + q
   span-gain {v = v} {p = p} {q = q} once b (source h w) =
       let s = shorten shape never (omega arith) w in
-      let few : s .k₂ ≤ n - 1 = omega (arith, s .few) in
-      omega (arith, s .heavy, walk-gain gains (s .walk), mul-le-mul-right g few)
+      let few : s .k₂ - 1 ≤ n - 2 = omega (arith, s .few) in
+      omega (arith, s .heavy, walk-first-gain (λ e m l. firsts e m (inl (l ∙ h))) gains (s .walk), mul-le-mul-right g few)
   span-gain {a} {v} once b (after w) =
       let avoids : (k p q : ℕ) → ¬ Walk E (w .edge .to) a k p q = λ k p q u. once (after-by (w .edge) (w .not-source) (w .mem) (w .leaves) (w .counts) (record { k = k; p = p; q = q; walk = u })) in
       let inside : a < n = rw (w .leaves) at (shape .from-below (w .edge) (w .mem)) in
       let s = fewer-below shape never inside (suc (w .k)) (omega arith) (shape .to-below (w .edge) (w .mem)) avoids (w .rest) in
-      let few : suc (s .k₂) ≤ n - 1 = omega (arith, s .few) in
-      omega (
-        arith,
-        s .heavy,
-        walk-gain gains (s .walk),
-        gains (w .edge) (w .mem),
-        mul-le-mul-right g few,
-        suc-mul (s .k₂) g,
-        w .gains,
-        w .losses,
-      )
+      let few : s .k₂ ≤ n - 2 = omega (arith, s .few) in
+      omega (arith, s .heavy, walk-gain gains (s .walk), firsts (w .edge) (w .mem) (inr (w .counts)), mul-le-mul-right g few, w .gains, w .losses)
 
-  pub offset-small : {a v o : ℕ} → ¬ After E a a → 0 < n → Offset E a v o → o ≤ (n - 1) * g
+  pub offset-small : {a v o : ℕ} → ¬ After E a a → 0 < n → Offset E a v o → o ≤ f + (n - 2) * g
   offset-small once b O = omega (arith, span-gain once b (O .span), O .attained)
 
-module _ {n g : ℕ} {es : List Edge} (well : Well n (members es)) (posed : WellPosed (members es)) (gains : Gains (members es) g) where
-  offset-gains : (a v : ℕ) → v < n → InAnchorSet (members es) a v → offset n es a v ≤ (n - 1) * g
+module _ {n f g : ℕ} {es : List Edge} (well : Well n (members es)) (posed : WellPosed (members es)) (firsts : FirstGains (members es) f) (gains : Gains (members es) g) where
+  pub offset-gains : (a v : ℕ) → v < n → InAnchorSet (members es) a v → offset n es a v ≤ f + (n - 2) * g
   offset-gains a v b i =
       offset-small
       (usable-shape (well .shape) a)
       (nonpositive-mono (usable-sub (members es) a) (well .never))
+      (λ e m. firsts e (m .0))
       (λ e m. gains e (m .0))
       (well .consistent a)
       (well .some)
       (offset-found well posed a v b i)
 
--- With the limits of a sheet.
+-- With the limits of a sheet: an offset is a walk's weight, and less, since its walk's first edge gains less than others may.
 module _ {n : ℕ} {es : List Edge} (well : Well n (members es)) (posed : WellPosed (members es)) (gains : Gains (members es) most-gain) (few : n ≤ most-steps) where
-  pub offset-limit : (a v : ℕ) → v < n → InAnchorSet (members es) a v → offset n es a v ≤ most-offset
-  offset-limit a v b i =
-      let fewer : n - 1 ≤ most-steps - 1 = omega arith in
-      omega (arith, offset-gains well posed gains a v b i, mul-le-mul-right most-gain fewer)
+  fewer : (n - 2) * most-gain ≤ (most-steps - 2) * most-gain
+  fewer = let h : n - 2 ≤ most-steps - 2 = omega arith in mul-le-mul-right most-gain h
+
+  pub walk-limit : (a v : ℕ) → v < n → InAnchorSet (members es) a v → offset n es a v ≤ most-walk
+  walk-limit a v b i = omega (arith, offset-gains well posed (λ e m h. gains e m) gains a v b i, fewer)
+
+  pub offset-limit : FirstGains (members es) most-first-gain → (a v : ℕ) → v < n → InAnchorSet (members es) a v → offset n es a v ≤ most-offset
+  offset-limit firsts a v b i = omega (arith, offset-gains well posed firsts gains a v b i, fewer)

@@ -2,7 +2,7 @@
 use mathlib.Core.Path.{_∙_, _≡_, ap, refl, sym}
 use mathlib.Core.Logic.{_≢_, _⊎_, inl, inr}
 use mathlib.Core.List.{List, List·Memᴰ, List·Memᴰ·cases-cons, List·Memᴰ·eq-of-singleton, List·Memᴰ·head, List·Memᴰ·not-nil, List·Memᴰ·tail, Memᴰ·cast, [], _∷_}
-use Prim.Native.Nat.{_*_, _+_, _<_, _≤_, suc, zero, ℕ}
+use Prim.Native.Nat.{_*_, _+_, _-_, _<_, _≤_, suc, zero, ℕ}
 use native.Mathlib.Omega.{arith}
 use native.Mathlib.Decide.{decLt, ℕ-discrete}
 use native.Mathlib.Nat.{suc-mul}
@@ -249,6 +249,15 @@ module _ {n : ℕ} {E : Graph} (shape : Shape n E) where
 pub walk-gain : {E : Graph} {g x y k p q : ℕ} → Gains E g → Walk E x y k p q → p ≤ k * g
 walk-gain G (stop e hk hp hq) = omega arith
 walk-gain {g = g} G (step {k = k₀} w e m f o hk hp hq) = omega (arith, walk-gain G w, G e m, suc-mul k₀ g, ap (λ (i : ℕ). i * g) hk)
+
+-- A walk whose first edge gains at most f: the other edges gain at most g each.
+pub walk-first-gain : {E : Graph} {f g x y k p q : ℕ} → ((e : Edge) → E e → e .from ≡ x → e .gain ≤ f) → Gains E g → Walk E x y k p q → p ≤ f + (k - 1) * g
+walk-first-gain F G (stop e hk hp hq) = omega arith
+walk-first-gain F G (step (stop e₀ hk₀ hp₀ hq₀) e m l o hk hp hq) = omega (arith, F e m (l ∙ sym e₀))
+walk-first-gain {g = g} {k = k} F G (step {k = k₁} (step w e₀ m₀ l₀ o₀ hk₀ hp₀ hq₀) e m l o hk hp hq) =
+    let some : suc (k₁ - 1) ≡ k₁ = omega arith in
+    let same : k₁ ≡ k - 1 = omega arith in
+    omega (arith, walk-first-gain F G (step w e₀ m₀ l₀ o₀ hk₀ hp₀ hq₀), G e m, suc-mul (k₁ - 1) g, ap (λ (i : ℕ). i * g) some, ap (λ (i : ℕ). i * g) same)
 
 pub walk-loss : {E : Graph} {l x y k p q : ℕ} → Losses E l → Walk E x y k p q → q ≤ k * l
 walk-loss L (stop e hk hp hq) = omega arith

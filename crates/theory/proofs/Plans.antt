@@ -3,23 +3,23 @@ use mathlib.Core.Path.{_≡_, subst, sym}
 use mathlib.Core.Bool.{Bool, false, true}
 use mathlib.Core.Logic.{_≢_}
 use mathlib.Core.List.{List}
-use Prim.Native.Nat.{_+_, _<_, _≤_, ℕ}
+use Prim.Native.Nat.{_*_, _+_, _-_, _<_, _≤_, ℕ}
 use native.Mathlib.Omega.{arith}
 use native.Mathlib.Nat.{mul-le-mul-right}
-use Rattle.definitions.specs.Limits.{most-steps, most-duration, most-gain, most-offset, most-start}
+use Rattle.definitions.specs.Limits.{most-steps, most-duration, most-gain, most-first-gain, most-walk, most-offset, most-start}
 use Rattle.definitions.specs.Anchors.{InAnchorSet, WellPosed}
 use Rattle.definitions.specs.Basics.{largest}
 use Rattle.definitions.specs.Links.{After, Edge, Forward, Graph, _⊑_, members}
 use Rattle.definitions.specs.Plan.{decides, offset}
 use Rattle.definitions.specs.Waits.{Wait, needs-waits, serialized}
-use Rattle.theory.specs.Graphs.{Acyclic, ForwardAcyclic, Gains, Relative, Schedule, Serializable, Shape, Timely, Well, sole-delay}
+use Rattle.theory.specs.Graphs.{Acyclic, FirstGains, ForwardAcyclic, Gains, Relative, Schedule, Serializable, Shape, Timely, Well, sole-delay}
 use Rattle.theory.specs.Strategies.{Assigned, Strategy, Unbounded}
 use Rattle.theory.proofs.AnchorOrder.{least-acyclic}
 use Rattle.theory.proofs.DecidingSets.{Suffices, deciding-enough, deciding-least, deciding-some, deciding-strict}
-use Rattle.theory.proofs.Offsets.{offset-limit}
+use Rattle.theory.proofs.Offsets.{offset-gains, offset-limit, walk-limit}
 use Rattle.theory.proofs.Reachability.{dec-member}
 use Rattle.theory.proofs.RelativeSchedules.{relative-keeps}
-use Rattle.theory.proofs.Serialization.{forward-acyclic, rival-keeps, timely-serializable, wait-chain, wait-other, waited-gains, waited-timely, waited-well}
+use Rattle.theory.proofs.Serialization.{forward-acyclic, rival-keeps, timely-serializable, wait-chain, wait-other, waited-first-gains, waited-gains, waited-timely, waited-well}
 use Rattle.theory.proofs.StartTimes.{relative-small, start-term, start-time, start-times-relative}
 use Rattle.theory.proofs.Strategies.{ours-strategy, strategy-earliest, strategy-serializable, unbounded-waited}
 use Rattle.theory.proofs.WaitLists.{serialized-none, serialized-waited, serialized-well-posed, wait-anchor-below}
@@ -93,26 +93,44 @@ module _ {n : ℕ} {es : List Edge} (well : Well n (members es)) (serial : Seria
   pub plan-some : (v : ℕ) → v < n → (a : ℕ) × (a < n) × (decides n (serialized n es) a v ≡ true)
   plan-some = deciding-some plan-well plan-posed
 
+  -- Each of at most n anchors on the way to a step adds a delay and an offset.
+  abbrev OffsetsWithin : ℕ → Type 0
+  OffsetsWithin o = (a v : ℕ) → v < n → InAnchorSet (members (serialized n es)) a v → offset n (serialized n es) a v ≤ o
+
+  plan-start-within : (o : ℕ) → OffsetsWithin o → n ≤ most-steps → (d : ℕ → ℕ) → d 0 ≡ 0 → ((a : ℕ) → a < n → d a ≤ most-duration) → (v : ℕ) → v < n → start-time n (serialized n es) d v ≤ most-steps * (most-duration + o)
+  plan-start-within o within few d d0 short v b =
+      omega (arith, relative-small (plan-well .shape) acyclic (plan-relative d d0) (most-duration + o) adds v b, mul-le-mul-right (most-duration + o) few)
+    where
+      adds : (a v : ℕ) → v < n → InAnchorSet (members (serialized n es)) a v → d a + offset n (serialized n es) a v ≤ most-duration + o
+      adds a v b i = omega (arith, short a (member-below (plan-well .shape) b i), within a v b i)
+
+  -- An offset by what its first edge gains and the others do.
+  pub plan-offset-gains : {f g : ℕ} → FirstGains (members es) f → Gains (members es) g → (a v : ℕ) → v < n → InAnchorSet (members (serialized n es)) a v → offset n (serialized n es) a v ≤ f + (n - 2) * g
+  plan-offset-gains firsts gains = offset-gains plan-well plan-posed (waited-first-gains (serialized-waited (well .shape)) firsts) (waited-gains (serialized-waited (well .shape)) gains)
+
   -- With the limits of a sheet.
   module _ (gains : Gains (members es) most-gain) (few : n ≤ most-steps) where
-    pub plan-offset-limit : (a v : ℕ) → v < n → InAnchorSet (members (serialized n es)) a v → offset n (serialized n es) a v ≤ most-offset
-    plan-offset-limit = offset-limit plan-well plan-posed (waited-gains (serialized-waited (well .shape)) gains) few
+    waited : Gains (members (serialized n es)) most-gain
+    waited = waited-gains (serialized-waited (well .shape)) gains
 
-    -- Each of at most n anchors on the way to a step adds a delay and an offset.
-    pub plan-start-limit : (d : ℕ → ℕ) → d 0 ≡ 0 → ((a : ℕ) → a < n → d a ≤ most-duration) → (v : ℕ) → v < n → start-time n (serialized n es) d v ≤ most-start
-    plan-start-limit d d0 short v b =
-        omega (
-          arith,
-          relative-small (plan-well .shape) acyclic (plan-relative d d0) (most-duration + most-offset) adds v b,
-          mul-le-mul-right (most-duration + most-offset) few,
-        )
-      where
-        adds : (a v : ℕ) → v < n → InAnchorSet (members (serialized n es)) a v → d a + offset n (serialized n es) a v ≤ most-duration + most-offset
-        adds a v b i = omega (arith, short a (member-below (plan-well .shape) b i), plan-offset-limit a v b i)
+    plan-walk-limit : OffsetsWithin most-walk
+    plan-walk-limit = walk-limit plan-well plan-posed waited few
+
+    -- What starts are at most by the gains of the edges alone.
+    pub plan-start-fits : (d : ℕ → ℕ) → d 0 ≡ 0 → ((a : ℕ) → a < n → d a ≤ most-duration) → (v : ℕ) → v < n → start-time n (serialized n es) d v ≤ most-steps * (most-duration + most-walk)
+    plan-start-fits = plan-start-within most-walk plan-walk-limit few
+
+    -- And what offsets and starts are at most, where first edges gain less.
+    module _ (firsts : FirstGains (members es) most-first-gain) where
+      pub plan-offset-limit : (a v : ℕ) → v < n → InAnchorSet (members (serialized n es)) a v → offset n (serialized n es) a v ≤ most-offset
+      plan-offset-limit = offset-limit plan-well plan-posed waited few (waited-first-gains (serialized-waited (well .shape)) firsts)
+
+      pub plan-start-limit : (d : ℕ → ℕ) → d 0 ≡ 0 → ((a : ℕ) → a < n → d a ≤ most-duration) → (v : ℕ) → v < n → start-time n (serialized n es) d v ≤ most-start
+      plan-start-limit = plan-start-within most-offset plan-offset-limit few
 
     -- No deciding member can be left out: the delays that show it are within the limit.
     pub plan-strict : (a v : ℕ) → v < n → decides n (serialized n es) a v ≡ true → (b : ℕ) → b ≢ a → InAnchorSet (members (serialized n es)) b v → start-term n (serialized n es) (sole-delay most-duration a) v b < start-term n (serialized n es) (sole-delay most-duration a) v a
-    plan-strict = deciding-strict plan-well plan-posed most-offset plan-offset-limit most-duration (omega arith)
+    plan-strict = deciding-strict plan-well plan-posed most-walk plan-walk-limit most-duration (omega arith)
 
     pub plan-deciding-least : (part : ℕ → Bool) (a v : ℕ) → v < n → Suffices n (serialized n es) (sole-delay most-duration a) part v → decides n (serialized n es) a v ≡ true → part a ≡ true
-    plan-deciding-least = deciding-least plan-well plan-posed most-offset plan-offset-limit most-duration (omega arith)
+    plan-deciding-least = deciding-least plan-well plan-posed most-walk plan-walk-limit most-duration (omega arith)

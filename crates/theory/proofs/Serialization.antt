@@ -8,7 +8,7 @@ use Rattle.definitions.specs.Anchors.{InAnchorSet, WellPosed, chain, is-source}
 use Rattle.definitions.specs.Links.{After, AfterWalk, Edge, Forward, Graph, Joined, LateInto, UsableFrom, Walk, _⊑_, step, stop}
 use Rattle.definitions.specs.Waits.{Wait, wait-edge, wait-pair}
 use Rattle.laws.proofs.Bools.{bool-cases, both-ways, cond-true}
-use Rattle.theory.specs.Graphs.{Acyclic, Carries, Consistent, ForwardAcyclic, Gains, KeepsEdge, NonPositive, Rooted, Schedule, Serializable, Shape, Timely, WaitEdge, Waited, Well}
+use Rattle.theory.specs.Graphs.{Acyclic, Carries, Consistent, FirstGains, ForwardAcyclic, Gains, KeepsEdge, NonPositive, Rooted, Schedule, Serializable, Shape, Timely, WaitEdge, Waited, Well}
 use Rattle.theory.proofs.Usables.{carries-usable, dec-late-into, forward-usable, timely-usable, usable-member, usable-shape, usable-sub}
 use Rattle.theory.proofs.Walks.{after-bound, after-edge, after-from, after-join, after-joined, after-mono, after-start-below, after-to, after-trans, after-walk, chain-after, counted-forward, forward-losses}
 use Rattle.theory.proofs.Walks.{join, joined-mono, member-after, member-mono, member-to, schedule-mono, some-after, walk-edge, walk-from, walk-mono, walk-none, walk-to}
@@ -158,6 +158,9 @@ waited-rooted W rooted v b = joined-mono (λ e m. (W .keeps-all e (m .0), m .1))
 -- Serialization edges gain nothing.
 pub waited-gains : {E E′ : Graph} {g : ℕ} → Waited E E′ → Gains E g → Gains E′ g
 waited-gains {g = g} W G = waited-each W (λ e. e .gain ≤ g) G (λ e h. omega (arith, h .gainless))
+
+pub waited-first-gains : {E E′ : Graph} {g : ℕ} → Waited E E′ → FirstGains E g → FirstGains E′ g
+waited-first-gains {g = g} W G = waited-each W (λ e. (e .from ≡ 0) ⊎ (e .counted ≡ true) → e .gain ≤ g) G (λ e h i. omega (arith, h .gainless))
 
 -- In a well-posed graph what the end of b reaches, b stands before. So, where forward edges close no circle, no step waits for its own end.
 module _ {n : ℕ} {E : Graph} (shape : Shape n E) (posed : WellPosed E) where

@@ -3,14 +3,14 @@ use mathlib.Core.Path.{_∙_, _≡_, ap, refl, sym}
 use mathlib.Core.List.{List}
 use Prim.Native.Nat.{_+_, _<_, _≤_, suc, zero, ℕ}
 use native.Mathlib.Omega.{arith}
-use Rattle.definitions.specs.Limits.{most-steps, most-gain, most-offset}
+use Rattle.definitions.specs.Limits.{most-steps, most-gain, most-walk}
 use Rattle.definitions.specs.Anchors.{WellPosed, is-source}
 use Rattle.definitions.specs.Links.{Edge, Graph, LateInto, Walk, members, step, stop, usable}
 use Rattle.definitions.specs.Plan.{Span, after, first-row, offset, offset-row, source}
 use Rattle.definitions.specs.Rounds.{cell, extend, rounds}
 use Rattle.theory.specs.Graphs.{Carries, Gains, NonPositive, Rooted, Shape, Well}
 use Rattle.theory.specs.Sweeps.{Seeds, Settles, Sweeps, hand, more, none}
-use Rattle.theory.proofs.Offsets.{first-start, offset-found, offset-limit, offset-row-iff, usable-nonpositive, usable-rooted}
+use Rattle.theory.proofs.Offsets.{first-start, offset-found, offset-row-iff, usable-nonpositive, usable-rooted, walk-limit}
 use Rattle.theory.proofs.Pigeonhole.{shorten}
 use Rattle.theory.proofs.RelativeSchedules.{span-walk}
 use Rattle.theory.proofs.Relaxation.{Covers, Grounded, Start, covers-eq, covers-hand, covers-up, fixpoint-stable, fits-rounds, grounded, rounds-fixed, rounds-rise, rounds-under}
@@ -112,13 +112,13 @@ module _ {n : ℕ} {es : List Edge} (well : Well n (members es)) (posed : WellPo
   offsets-swept = row-swept (well .some) (usable-list-shape (well .shape) a) (usable-nonpositive (well .never) a) inside (λ h. usable-rooted (well .shape) (well .rooted) a) (carries-list (well .shape) posed a)
 
   -- The cells are small.
-  pub offsets-small : Gains (members es) most-gain → n ≤ most-steps → (v : ℕ) → v < n → cell (offset-row n es a) v ≤ most-offset + 1
+  pub offsets-small : Gains (members es) most-gain → n ≤ most-steps → (v : ℕ) → v < n → cell (offset-row n es a) v ≤ most-walk + 1
   unfolding offset
   offsets-small gains few v b = go (cell (offset-row n es a) v) refl
     where
-      go : (c : ℕ) → cell (offset-row n es a) v ≡ c → cell (offset-row n es a) v ≤ most-offset + 1
+      go : (c : ℕ) → cell (offset-row n es a) v ≡ c → cell (offset-row n es a) v ≤ most-walk + 1
       go zero e = omega arith
-      go (suc o) e = omega (arith, offset-limit well posed gains few a v b (offset-row-iff well posed a v b .0 (omega arith)))
+      go (suc o) e = omega (arith, walk-limit well posed gains few a v b (offset-row-iff well posed a v b .0 (omega arith)))
 
 extend-closes : (c g l : ℕ) → 1 ≤ c → c + g ≤ suc l → extend c g l ≤ 1
 unfolding extend

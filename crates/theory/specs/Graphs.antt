@@ -55,10 +55,15 @@ Carries E a = (e : Edge) → E e → e .back ≡ true → InAnchorSet E a (e .fr
 pub record NonPositive (E : Graph) : Type 0 where
   pub closed : {x k p q : ℕ} → Walk E x x k p q → p ≤ q
 
--- No edge gains, or loses, more than g.
+-- No edge gains more than g.
 abbrev pub Gains : Graph → ℕ → Type 0
 Gains E g = (e : Edge) → E e → e .gain ≤ g
 
+-- No edge gains more that a walk from step 0, or from the end of an open step, begins with.
+abbrev pub FirstGains : Graph → ℕ → Type 0
+FirstGains E g = (e : Edge) → E e → (e .from ≡ 0) ⊎ (e .counted ≡ true) → e .gain ≤ g
+
+-- No edge loses more than l.
 abbrev pub Losses : Graph → ℕ → Type 0
 Losses E l = (e : Edge) → E e → e .loss ≤ l
 

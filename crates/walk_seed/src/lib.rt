@@ -133,7 +133,7 @@ fn counted_gain(w: u64) -> u64
     if is_counted(w) { gain } else { 0 }
 }
 
-// Whether a counted edge gains, as few do. The loop has no branch, so that the compiler makes vectors of it.
+// Whether a counted edge gains, as one with a gap does. The loop has no branch, so that the compiler makes vectors of it.
 fn begins_some(es: &[u64]) -> bool
     ensures { λ r. ⌜ (r ≡ false → Idle (now (es .entry)) (length (now (es .entry)))) ⌝ }
 {

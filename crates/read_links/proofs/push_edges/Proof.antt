@@ -14,6 +14,9 @@ second s = s .before .before .before .before .before .before
 abbrev first : tie.After-push2 → tie.After-push
 first s = s .before .before .before .before .before .before
 
+abbrev start : tie.After-push → tie.Start
+start s = s .before .before .before .before .before
+
 sequencing-word-requires : tie.Need-sequencing-word-requires
 sequencing-word-requires c κs = search needs
 
@@ -59,7 +62,7 @@ returns c =
     let r = third u in
     let q = second r in
     let p = first q in
-    link-pushed _ _ _ _ _ _ _ _ _
+    link-pushed _ _ _ _ _ _ _ _ _ (start p .pre .gap)
     (record {
       after = p .before .before .before .sequencing-word .ensures;
       least = q .before .before .before .minimum-word .ensures;

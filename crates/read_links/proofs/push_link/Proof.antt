@@ -4,7 +4,7 @@ use native.Mathlib.Omega.{arith}
 use denote.Ref.{now}
 use Rattle.read_pair.specs.Answers.{FieldsReads}
 use Rattle.read_pair.specs.declared.FieldsRead.{FieldsRead}
-use Rattle.read_pair.proofs.Parts.{no-fields, ticks-none, fields-there, fields-refused}
+use Rattle.read_pair.proofs.Parts.{no-fields, gap-none, ticks-none, fields-there, fields-refused}
 use Rattle.read_links.proofs.Records.{link-alone, least-read, most-read}
 use borrow.Author.Needs.{needs}
 use Rattle.read_links.proofs.push_link.Statement.{statement}
@@ -36,7 +36,13 @@ enum-known-fields : tie.Need-enum-known-fields
 enum-known-fields c = search needs
 
 push-edges-requires : tie.Need-push-edges-requires
-push-edges-requires c κs = search needs
+push-edges-requires c κs =
+    let f = c .before .before in
+    let r = f .before .before in
+    let item = subst (Answered r) (f .fields .given .1) (r .read-fields .ensures) in
+    let a = start r .args in
+    let ready = start r .pre in
+    record { room = ready .room .room; ends = ready .room .ends; gap = gap-none (a .m) (now (a .s)) (a .at) (f .fields .given .0 .1 .0) (ready .begins) (item .same) }
 
 enum-known-k : tie.Need-enum-known-k
 enum-known-k c = search needs

@@ -23,8 +23,20 @@ digits-of-requires c κs = search needs
 add-result-2 : tie.Need-add-result-2
 add-result-2 c = search needs
 
+ticks-of-requires : tie.Need-ticks-of-requires
+ticks-of-requires c κs = search needs
+
+mul-result-2 : tie.Need-mul-result-2
+mul-result-2 c = search needs
+
+add-result-3 : tie.Need-add-result-3
+add-result-3 c = search needs
+
 returns : tie.Need-returns
-returns c d e = sequencing-unpacked d _ _ _ _ (c .before .before .before .pre) (omega arith) e (omega (arith, c .digits-of .ensures, c .before .wide2 .ensures, c .before .before .wide .ensures))
+returns c d e =
+    let digits = c .before in
+    sequencing-unpacked d _ _ _ _ _ (digits .before .before .before .pre)
+    (omega (arith, c .ticks-of .ensures)) e (omega (arith, c .ticks-of .ensures, digits .digits-of .ensures, digits .before .wide2 .ensures, digits .before .before .wide .ensures))
 
 pub sequencing-word-spec : {M : Type 1} → statement M
 sequencing-word-spec =
@@ -36,4 +48,7 @@ sequencing-word-spec =
     add-result
     digits-of-requires
     add-result-2
+    ticks-of-requires
+    mul-result-2
+    add-result-3
     returns)

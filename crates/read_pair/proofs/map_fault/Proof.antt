@@ -1,4 +1,4 @@
--- `read_pair::map_fault` meets its contract: the maps that lack bit 0 are the keys.
+-- `read_pair::map_fault` meets its contract: the maps with bit 4 that lack bits 0 and 3 are the keys.
 use Rattle.read_pair.proofs.Parts.{map-alone, map-not-alone}
 use Rattle.read_pair.proofs.map_fault.Statement.{statement}
 use Rattle.read_pair.proofs.map_fault.Tie as tie
