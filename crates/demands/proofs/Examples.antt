@@ -91,7 +91,7 @@ abbrev used : List ℕ
 used = 1 ∷ 2 ∷ 3 ∷ 5 ∷ 35 ∷ 37 ∷ 43 ∷ []
 
 record Computed : Type 0 where
-  size : length worked-sheets ≡ 63
+  size : length worked-sheets ≡ 64
   bytes : (k : ℕ) → List·Memᴰ k used → all (λ b. ltb b 256) (worked k) ≡ true
   reads : (k : ℕ) → List·Memᴰ k used → read (worked k) ≡ given (worked-records k)
   formed : (k : ℕ) → List·Memᴰ k used → (closes-circle (count-of (worked-records k)) (edges-of (worked-records k)) ≡ false) × (unreached (count-of (worked-records k)) (edges-of (worked-records k)) ≡ false)
@@ -202,7 +202,7 @@ is-sheet k h = record { bytes = are-bytes (worked k) (computed .bytes k h); read
 is-formed : (k : ℕ) → List·Memᴰ k used → WellFormed (worked k) (worked-records k)
 is-formed k h = record { sheet = is-sheet k h; no-circle = computed .formed k h .0; all-reached = computed .formed k h .1 }
 
-in-worked : (k : ℕ) → k < 63 → WorkedBytes (worked k)
+in-worked : (k : ℕ) → k < 64 → WorkedBytes (worked k)
 in-worked k h = in-table k (omega (arith, computed .size))
 
 -- The rival's sheet is an extension: by the computed test for sound.

@@ -1,6 +1,6 @@
 -- Request L1 moves nothing on sheets without a gap: what the parser before it answers, but for 4, the parser of now answers, and the edges weigh the same.
 use mathlib.Core.Path.{_≡_, refl, sym, ap₂, subst, _∙_}
-use mathlib.Core.Bool.{Bool, true, false, not, _&&_, _||_}
+use mathlib.Core.Bool.{Bool, true, false, cond, not, _&&_, _||_}
 use mathlib.Core.Logic.{_⊎_, inl, inr, _≢_}
 use mathlib.Core.List.{List, [], _∷_, _++_, map, flatMap, List·Memᴰ, List·Memᴰ·head, List·Memᴰ·tail, Memᴰ·of-map, map-append}
 use Prim.Native.Nat.{ℕ, zero, suc, _+_, _-_, _≤_, _<_}
@@ -221,6 +221,24 @@ module _ (os : List Operation) where
   link-few h (maximum i j u) w = omega arith
   link-few h (finish-maximum i j u) w = finish-few i j u (delay-at os i)
 
+-- ## Maps
+
+-- A test computed for each byte.
+abbrev as-allowed : ℕ → Bool
+as-allowed m = test-bit m 3 || cond (link-map m) (gapless-map m) (not (gapless-map m))
+
+each-allowed : all-below as-allowed 256 ≡ true
+unfolding all-below link-map gapless-map test-bit
+each-allowed = refl
+
+maps-same : (m : ℕ) → m < 256 → test-bit m 3 ≡ false → link-map m ≡ gapless-map m
+maps-same m b none = by (link-map m) (gapless-map m) (rw none at (all-below-each as-allowed 256 each-allowed m b))
+  where
+    by : (x y : Bool) → cond x y (not y) ≡ true → x ≡ y
+    by true y h = sym h
+    by false true h = h
+    by false false h = refl
+
 -- ## The statement
 
 module _ (s : List ℕ) (q : Records) (bytes : Bytes s) (before : gapless-read s ≡ given q) where
@@ -250,4 +268,4 @@ module _ (s : List ℕ) (q : Records) (bytes : Bytes s) (before : gapless-read s
   }
 
 pub as-before-all : PlansAsBefore
-as-before-all = record { sheets = as-before; refusals = λ s k other e. read-same s e (λ f. other (refused-same f)) }
+as-before-all = record { sheets = as-before; refusals = λ s k other e. read-same s e (λ f. other (refused-same f)); maps = maps-same }

@@ -18,7 +18,7 @@ use Prim.Native.Nat.{ℕ, suc, _+_, _*_, _^_, _≤_, _<_}
 use lib.ListN.{length, getD, take, drop, replicate}
 use Rattle.definitions.specs.Limits.{most-steps, most-duration, most-offset, most-gapless-offset, most-start, longest-sheet}
 use Rattle.definitions.specs.Basics.{largest, test-bit, given, refused}
-use Rattle.definitions.specs.Bytes.{Records, read}
+use Rattle.definitions.specs.Bytes.{Records, link-map, read}
 use Rattle.definitions.specs.Links.{Constraint, sequencing, finish-maximum, constraints, delay-at, Keeps, KeepsAll, Edge, Graph, members, Forward, Walk, Joined, After, UsableFrom, usable}
 use Rattle.definitions.specs.Rounds.{cell, reaches, after-reaches}
 use Rattle.definitions.specs.Anchors.{InAnchorSet, in-anchor-set, WellPosed, well-posed}
@@ -31,7 +31,7 @@ use Rattle.definitions.specs.Worked.{Worked, worked-sheets}
 use Rattle.definitions.specs.declared.Delay.the-variants.{Open, Fixed}
 use Rattle.theory.specs.Counts.{standing-bits}
 use Rattle.theory.specs.Graphs.{Carries, Schedule}
-use Rattle.demands.specs.Gapless.{gapless-read, gapless-edges-of}
+use Rattle.demands.specs.Gapless.{gapless-map, gapless-read, gapless-edges-of}
 
 -- ## The words
 
@@ -304,7 +304,8 @@ NothingNew = (s : List ℕ) (allow : Bool) (q : Records) → IsSheet s q → NoL
 -- ## Request L1
 
 -- "Every sheet without the bit plans as before". What was read before is read as the same records, with the edges that they had, and the offsets of an accepted one keep to document 01's limit: "Offsets never
--- exceed 4,128,705." What was refused is refused as before, unless it was a map. All else is worked out from the steps and the edges. Proof: plans-as-before.
+-- exceed 4,128,705." What was refused is refused as before, unless it was a map; and of the link maps those without bit 3 are allowed as before. All else is worked out from the steps and the edges. Proof:
+-- plans-as-before.
 pub record AsBefore (s : List ℕ) (q : Records) : Type 0 where
   pub reads : read s ≡ given q
   pub edges : edges-of q ≡ gapless-edges-of q
@@ -313,6 +314,7 @@ pub record AsBefore (s : List ℕ) (q : Records) : Type 0 where
 pub record PlansAsBefore : Type 0 where
   pub sheets : (s : List ℕ) (q : Records) → Bytes s → gapless-read s ≡ given q → AsBefore s q
   pub refusals : (s : List ℕ) (k : ℕ) → k ≢ 4 → gapless-read s ≡ refused k → read s ≡ refused k
+  pub maps : (m : ℕ) → m < 256 → test-bit m 3 ≡ false → link-map m ≡ gapless-map m
 
 -- ## Demand 2: the tests mean what document 01 says
 

@@ -16,7 +16,7 @@ use Rattle.definitions.specs.Bytes.{Parser, Taken, _>>=_, give, demand, byte, t
 use Rattle.definitions.specs.declared.Link.{Link}
 use Rattle.definitions.specs.declared.Previous.{Previous}
 use Rattle.definitions.specs.declared.Previous.the-variants.{Nothing, Pair}
-use Rattle.laws.proofs.Bools.{both-ways, bool-cases, same-or-not, and-split, or-split, not-passing}
+use Rattle.laws.proofs.Bools.{both-ways, bool-cases, same-or-not, and-split, not-passing}
 use Rattle.laws.proofs.Tests.{all-below-each}
 use Rattle.laws.proofs.Parsers.{when-given-twice, drop-byte, drop-end}
 use Rattle.read_fields.specs.Answers.{item-at, field-at, field-end}

@@ -59,7 +59,7 @@ pub record NonPositive (E : Graph) : Type 0 where
 abbrev pub Gains : Graph → ℕ → Type 0
 Gains E g = (e : Edge) → E e → e .gain ≤ g
 
--- No edge gains more that a walk from step 0, or from the end of an open step, begins with.
+-- No edge that a walk from step 0, or from the end of an open step, begins with gains more than g.
 abbrev pub FirstGains : Graph → ℕ → Type 0
 FirstGains E g = (e : Edge) → E e → (e .from ≡ 0) ⊎ (e .counted ≡ true) → e .gain ≤ g
 
