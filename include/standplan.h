@@ -25,9 +25,9 @@
 extern "C" {
 #endif
 
-#define STANDPLAN_VERSION "1.4.0"
+#define STANDPLAN_VERSION "1.5.0"
 #define STANDPLAN_VERSION_MAJOR 1
-#define STANDPLAN_VERSION_MINOR 4
+#define STANDPLAN_VERSION_MINOR 5
 #define STANDPLAN_VERSION_PATCH 0
 
 /* The most that there can be: steps and link records of a sheet, bytes of a sheet, numbers of a plan, ticks in a list of durations. */
@@ -46,7 +46,8 @@ extern "C" {
 /* A verdict of 256 or more is a refusal. */
 #define STANDPLAN_REFUSED UINT32_C(256)
 
-/* The refusals, by number; in the order in which they are judged they stand in docs/REFUSALS.md. */
+/* The refusals, by number; in the order in which they are judged they stand in docs/REFUSALS.md.
+ * STANDPLAN_UNREACHED is retired: no call returns it since version 1.5.0. It is here for programs that name it. */
 enum standplan_refusal {
     STANDPLAN_TRUNCATED = 1,
     STANDPLAN_STEP_COUNT = 2,
@@ -94,7 +95,7 @@ static inline const char *standplan_sentence(uint32_t verdict) {
     case STANDPLAN_BAD_ORDER: return "the pair does not rise";
     case STANDPLAN_TRAILING: return "bytes follow the last record";
     case STANDPLAN_CIRCLE: return "forward links close a circle";
-    case STANDPLAN_UNREACHED: return "a step has no chain of forward links from step 0";
+    case STANDPLAN_UNREACHED: return "retired: no sheet is refused so";
     case STANDPLAN_NEVER_KEPT: return "with all open durations 0, no start times keep every link";
     case STANDPLAN_NOT_ALWAYS_KEPT: return "for some list of durations no start times keep every link";
     case STANDPLAN_WAITS_NEEDED: return "waits are needed and the caller did not allow them";
@@ -110,19 +111,19 @@ static inline const char *standplan_sentence(uint32_t verdict) {
     }
 }
 
-/* Judges a sheet. allow_waits says whether waits are allowed. Refusals 1 to 12, 26 and 28. */
+/* Judges a sheet. allow_waits says whether waits are allowed. Refusals 1 to 8, 10 to 12, 26 and 28. */
 STANDPLAN_CHECKED uint32_t standplan_judge(const uint8_t *sheet, size_t sheet_len, bool allow_waits);
 
 /* Lists the waits of a sheet: step i waits for step a where bit a of maps[i] stands; *count is their number. All 64 maps are written.
- * On a refusal, 1 to 11, 26 or 28, maps and count stay as lent. Refusal 12 is never given: whoever asks for waits allows them. */
+ * On a refusal, 1 to 8, 10, 11, 26 or 28, maps and count stay as lent. Refusal 12 is never given: whoever asks for waits allows them. */
 STANDPLAN_CHECKED uint32_t standplan_waits(const uint8_t *sheet, size_t sheet_len, uint64_t maps[64], uint32_t *count);
 
 /* Plans a sheet of N steps: the first N * N numbers of the table become its plan, row by row, and the rest stays as lent.
- * On a refusal, 1 to 12, 26, 28 or 14 (fewer than N * N numbers are lent), all stay as lent. */
+ * On a refusal, 1 to 8, 10 to 12, 26, 28 or 14 (fewer than N * N numbers are lent), all stay as lent. */
 STANDPLAN_CHECKED uint32_t standplan_plan(const uint8_t *sheet, size_t sheet_len, bool allow_waits, uint32_t *table, size_t table_len);
 
 /* Works out the start times of a sheet of N steps for a list of durations: the first N numbers of out become the starts, and the rest stays as lent.
- * On a refusal, 1 to 12, 26, 28, 13 (a duration that the list may not have) or 14 (list or out is shorter than N), all stay as lent. */
+ * On a refusal, 1 to 8, 10 to 12, 26, 28, 13 (a duration that the list may not have) or 14 (list or out is shorter than N), all stay as lent. */
 STANDPLAN_CHECKED uint32_t standplan_starts(const uint8_t *sheet, size_t sheet_len, bool allow_waits, const uint32_t *list, size_t list_len, uint32_t *out, size_t out_len);
 
 /* The runner. Its state is held by the caller, in memory of fixed size.

@@ -43,6 +43,12 @@ def refusal(number: int) -> str:
     return f"refused {number}: {row[1]}" if row else f"refused {number}"
 
 
+def loose(sheet: Sheet) -> list[int]:
+    """The steps other than 0 that no after or at-least link leads into, rising: the planner hangs them from the start, by an after link from 0."""
+    entered = {j for (_, j), words in sheet.links.items() if AFTER in words or AT_LEAST in words}
+    return [v for v in range(1, len(sheet.steps)) if v not in entered]
+
+
 # ---------------------------------------------------------------- bytes
 
 class _Bytes:

@@ -25,7 +25,7 @@ from collections.abc import Iterable, Sequence
 from functools import cache
 from pathlib import Path
 
-__version__ = "1.4.0"
+__version__ = "1.5.0"
 __all__ = ["SOUND", "SOUND_WITH_WAITS", "UNDECIDED", "MAX_STEPS", "MAX_RECORDS", "MAX_SHEET", "MAX_TABLE", "MAX_DURATION", "STACK", "SENTENCES",
            "Refused", "NoLibrary", "Plan", "Run", "judge", "waits", "plan", "starts"]
 
@@ -43,7 +43,7 @@ SENTENCES = {
     6: "the pair does not rise",
     7: "bytes follow the last record",
     8: "forward links close a circle",
-    9: "a step has no chain of forward links from step 0",
+    9: "retired: no sheet is refused so",
     10: "with all open durations 0, no start times keep every link",
     11: "for some list of durations no start times keep every link",
     12: "waits are needed and the caller did not allow them",
@@ -138,12 +138,12 @@ def _steps(map_: int) -> list[int]:
 # ---------------------------------------------------------------- the planner
 
 def judge(sheet: bytes, allow: bool) -> int:
-    """Judges a sheet: SOUND or SOUND_WITH_WAITS. Refusals 1 to 12, 26 and 28."""
+    """Judges a sheet: SOUND or SOUND_WITH_WAITS. Refusals 1 to 8, 10 to 12, 26 and 28."""
     return _called("judge", *_lent(sheet), allow)
 
 
 def waits(sheet: bytes) -> list[tuple[int, int]]:
-    """The waits of a sheet: pairs (a, i), step i waits for the end of step a, by a, then by i. Refusals 1 to 11, 26 and 28."""
+    """The waits of a sheet: pairs (a, i), step i waits for the end of step a, by a, then by i. Refusals 1 to 8, 10, 11, 26 and 28."""
     maps, count = (ctypes.c_uint64 * 64)(), ctypes.c_uint32()
     _called("waits", *_lent(sheet), maps, ctypes.byref(count))
     return sorted((a, i) for i, map_ in enumerate(maps) for a in _steps(map_))
@@ -164,7 +164,7 @@ class Plan:
 
 
 def plan(sheet: bytes, allow: bool) -> Plan:
-    """Plans a sheet. Refusals 1 to 12, 26 and 28."""
+    """Plans a sheet. Refusals 1 to 8, 10 to 12, 26 and 28."""
     data, size = _lent(sheet)
     table = (ctypes.c_uint32 * MAX_TABLE)()
     verdict = _called("plan", data, size, allow, table, MAX_TABLE)
@@ -173,7 +173,7 @@ def plan(sheet: bytes, allow: bool) -> Plan:
 
 
 def starts(sheet: bytes, allow: bool, durations: Sequence[int]) -> list[int]:
-    """The start times of a sheet for a list of durations, one for each step, 0 for step 0 and for fixed steps. Refusals 1 to 14, 26 and 28."""
+    """The start times of a sheet for a list of durations, one for each step, 0 for step 0 and for fixed steps. Refusals 1 to 8, 10 to 14, 26 and 28."""
     data, size = _lent(sheet)
     given, out = _numbers(durations), (ctypes.c_uint32 * MAX_STEPS)()
     _called("starts", data, size, allow, given, len(given), out, MAX_STEPS)

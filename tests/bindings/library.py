@@ -16,6 +16,7 @@ import standplan  # noqa: E402
 HERE, BUILT = Path(__file__).parent, ROOT / "target/staticlib"
 HEADER = (ROOT / "include/standplan.h").read_text("ascii")
 CRATE = (ROOT / "bindings/rust/src/lib.rs").read_text("utf-8")
+RETIRED = "retired: no sheet is refused so"
 CALLS = {f"standplan_{call}" for call in ("judge", "waits", "plan", "starts", "begin", "tick", "finish")}
 
 
@@ -80,6 +81,7 @@ def refusals():
     check(standplan.SENTENCES, said, "the module's sentences")
     crate = re.findall(r'^    (\d+) (\w+) "(.*)"$', CRATE, re.MULTILINE)
     check({int(number): sentence for number, _, sentence in crate}, said, "the crate's sentences")
+    check([number for number, sentence in said.items() if sentence == RETIRED], [9], "the refusals that are retired")
     check({number: name.lower() for number, name, _ in crate}, {number: name.replace("_", "").lower() for name, number in numbers.items()}, "the crate's names")
     return len(said)
 

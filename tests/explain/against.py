@@ -1,5 +1,6 @@
-"""tools/explain on stored sheets of each verdict, with gaps and without, beside the reference planner (tests/reference): what is said is of the sheet's
-verdict; the records that clash are refused still, and not without any one of them; plans are those of ./standplan, and each wait has a limit."""
+"""tools/explain on stored sheets of each verdict, with gaps and without, with loose steps and without, beside the reference planner (tests/reference): what is
+said is of the sheet's verdict; the records that clash are refused still, and not without any one of them; a circle is one, with a step that hangs from the
+start where it leads through there; plans are those of ./standplan, and each wait has a limit."""
 import importlib.machinery
 import importlib.util
 import re
@@ -18,80 +19,102 @@ loader = importlib.machinery.SourceFileLoader("explain", str(ROOT / "tools/expla
 tool = importlib.util.module_from_spec(importlib.util.spec_from_loader("explain", loader))
 loader.exec_module(tool)
 
-EACH = 20
-NUMBERS = {8: {8}, 10: {10, 11}, 11: {10, 11}, 28: {28}}
+EACH = 14
+NUMBERS = {10: {10, 11}, 11: {10, 11}, 28: {28}}
+LINK = re.compile(r"  record \d+, byte \d+, link (\d+) (\d+) ")
+HANGS = re.compile(r"  step (\d+) hangs from the start: no after or at-least link leads into it")
 
 
-def number(sheet, complete):
-    """The reference planner's refusal, or 0; with an after link from 0 for each step that no forward link enters."""
-    links = dict(sheet.links)
-    for v in range(1, len(sheet.steps)):
-        if complete and not any(j == v and ("after" in words or "at-least" in words) for (_, j), words in sheet.links.items()):
-            links[0, v] = {**links.get((0, v), {}), "after": None}
-    verdict = planner.judge(sheets.to_bytes(replace(sheet, links=links)), True)
+def number(sheet):
+    """The reference planner's refusal, or 0."""
+    verdict = planner.judge(sheets.to_bytes(sheet), True)
     return verdict[1] if verdict[0] == "refused" else 0
 
 
+def entered(sheet):
+    """The steps that an after or an at-least link leads into."""
+    return {j for (_, j), words in sheet.links.items() if "after" in words or "at-least" in words}
+
+
+def named(said):
+    """The records that are named, and the steps that hang from the start."""
+    return [tuple(map(int, found.groups())) for found in map(LINK.match, said) if found], [int(found[1]) for found in map(HANGS.fullmatch, said) if found]
+
+
+def circle(data, said):
+    """Each step of the circle leads to the next, by a record that is named or because the next one hangs from the start, once at most."""
+    sheet, (records, hanging) = sheets.from_bytes(data), named(said)
+    around = [int(v) for v in re.findall(r"step (\d+)", said[1])]
+    links = list(zip(around, around[1:]))
+    assert around[0] == around[-1] and len(set(around)) == len(links), said
+    assert sorted(records + [(0, v) for v in hanging]) == sorted(links) and len(hanging) <= 1, said
+    assert all(sheet.links[pair].keys() & {"after", "at-least"} for pair in records) and entered(sheet).isdisjoint(hanging), said
+    part = replace(sheet, links={pair: sheet.links[pair] for pair in records})
+    assert number(part) == 8, said
+    return len(records), len(hanging)
+
+
 def few(data, refused, said):
-    """The records that are named, each whole."""
-    sheet = sheets.from_bytes(data)
-    named = [(int(i), int(j)) for i, j in re.findall(r"^  record \d+, byte \d+, link (\d+) (\d+) ", "\n".join(said), re.MULTILINE)]
-    assert named and len(set(named)) == len(named), said
-    part = replace(sheet, links={pair: sheet.links[pair] for pair in named})
-    complete = refused != 8
-    assert number(part, complete) in NUMBERS[refused], said
-    for pair in named:
+    """The records that are named, each whole; of 10 and 11, where they lead through the start, a step that hangs from it."""
+    sheet, (records, hanging) = sheets.from_bytes(data), named(said)
+    assert records and len(set(records)) == len(records), said
+    part = replace(sheet, links={pair: sheet.links[pair] for pair in records})
+    assert number(part) in NUMBERS[refused], said
+    for pair in records:
         rest = replace(part, links={other: words for other, words in part.links.items() if other != pair})
-        assert number(rest, complete) not in NUMBERS[refused], (pair, said)
-    if refused == 8:
-        around = re.findall(r"step (\d+)", said[1])
-        assert [(str(i), str(j)) for i, j in named] == list(zip(around, around[1:])) and around[0] == around[-1], said
-    elif said[-1].startswith("Added up"):
+        assert number(rest) not in NUMBERS[refused], (pair, said)
+    if hanging:
+        v, = hanging
+        limits = [pair for pair in records if pair[0] == 0 and sheet.links[pair].keys() & {"at-most", "at-most-from-finish"}]
+        assert refused != 28 and len(limits) == 1 and v not in entered(sheet) and any(i == v for i, _ in records), said
+    if said[-1].startswith("Added up"):
         needs, allows = re.match(r"Added up, (\d+) ticks? (?:is|are) needed where (\d+) (?:is|are) allowed", said[-1]).groups()
-        assert number(part, True) == 10 and int(needs) > int(allows), said
+        assert number(part) == 10 and int(needs) > int(allows), said
     elif refused != 28:
         # Each step that may last too long: the part is kept by no times where it lasts long.
         opens = [int(v) for v in re.findall(r"step (\d+)", said[-1])]
-        assert number(part, True) == 11 and opens and all(v and sheet.steps[v] == "open" for v in opens) and " open and " in said[-1], said
-    return len(named)
+        assert number(part) == 11 and opens and all(v and sheet.steps[v] == "open" for v in opens) and " open and " in said[-1], said
+    return len(records), len(hanging)
 
 
 def planned(data, said):
-    """The first column is the plan; the line behind a wait names a limit of the step that waits."""
+    """The first column is the plan; the line behind a wait names a limit of the step that waits; a line names the steps that hang from the start."""
     column = [line.split("   ")[0].rstrip() for line in said]
     assert "".join(f"{line}\n" for line in column if line) == planner.standplan_text(data), said
     for line, after in zip(said, said[1:]):
         if line.startswith("wait "):
             waits, limit = line.split()[2], re.match(r" +for record \d+, byte \d+, link (\d+) \d+ .*at-most", after)
             assert limit and limit[1] == waits, (line, after)
+    sheet = sheets.from_bytes(data)
+    hanging = [re.findall(r"step (\d+)", line) for line in said if "from the start" in line]
+    loose = [str(v) for v in range(1, len(sheet.steps)) if v not in entered(sheet)]
+    assert hanging == ([loose] if loose else []), said
+    return len(loose)
 
 
 if __name__ == "__main__":
-    seen, records = Counter(), Counter()
+    seen, counts = Counter(), Counter()
     for data, verdict in stored.sheets():
-        kind = verdict, stored.has_gap(data)
+        kind = verdict, stored.has_gap(data), stored.has_loose(data)
         if seen[kind] == EACH:
             continue
         seen[kind] += 1
         status, said = tool.explained(data, [], False)
         if verdict == "0":
             assert status == 0, said
-            planned(data, said)
+            counts["loose"] += planned(data, said)
             continue
         refused = int(verdict.removeprefix("refused "))
         assert status == 1 and said[0].startswith(f"refused {refused}: ") and len(said) > 1, (verdict, said)
-        if refused in NUMBERS:
-            records[refused] += few(data, refused, said)
+        if refused == 8 or refused in NUMBERS:
+            records, hanging = circle(data, said) if refused == 8 else few(data, refused, said)
+            counts.update(sheets=1, records=records, hanging=hanging)
         elif refused == 12:
             status, said = tool.explained(data, [], True)
             assert status == 0, said
-            planned(data, said)
-        elif refused == 9:
-            hanging = set(re.findall(r"step (\d+)", said[1]))
-            entered = {str(j) for (_, j), words in sheets.from_bytes(data).links.items() if "after" in words or "at-least" in words}
-            assert hanging and not hanging & entered, said
-    assert {verdict for verdict, _ in seen} == {"0", *(f"refused {k}" for k in (*range(1, 13), 26, 28))}, seen
-    clashing = sum(seen[f"refused {k}", gap] for k in NUMBERS for gap in (False, True))
-    with_gaps = sum(count for (_, gap), count in seen.items() if gap)
-    assert with_gaps, seen
-    print(f"{seen.total()} stored sheets explained, {with_gaps} of them with gaps; {records.total()} records clash in {clashing} of them")
+            counts["loose"] += planned(data, said)
+    assert {verdict for verdict, *_ in seen} == {"0", *(f"refused {k}" for k in (*range(1, 9), *range(10, 13), 26, 28))}, seen
+    with_gaps = sum(count for (_, gap, _), count in seen.items() if gap)
+    assert with_gaps and counts["loose"] and counts["hanging"], (seen, counts)
+    print(f"{seen.total()} stored sheets explained, {with_gaps} of them with gaps; {counts['records']} records clash in {counts['sheets']} of them, "
+          f"{counts['hanging']} of these by a step that hangs from the start; of plans {counts['loose']} such steps are named")

@@ -46,13 +46,44 @@ The circle: hand (2), then glass down (3), then exposure (4), then hand (2). Its
   line 11, link 4 2 at-least 0
     hand (2) starts at least 0 ticks after exposure (4) starts
 """),
-    # a circle, and beside it a step that leads to 0 and that nothing enters
+    # circles through the start: of a step that nothing leads into; of records alone; the shorter part of a chain, with an at-least link; beside a circle elsewhere
+    ([], "step 0 open\nstep 1 open\nlink 1 0 after\n", 1, """refused 8: forward links close a circle
+The circle: step 0, then step 1, then step 0. Its links:
+  step 1 hangs from the start: no after or at-least link leads into it
+  line 3, link 1 0 after
+    step 0 starts after step 1 ends, which is open
+"""),
+    ([], "step 0 open\nstep 1 fixed 0\nlink 0 1 after\nlink 1 0 after\n", 1, """refused 8: forward links close a circle
+The circle: step 0, then step 1, then step 0. Its links:
+  line 3, link 0 1 after
+    step 1 starts at tick 0 or later
+  line 4, link 1 0 after
+    step 0 starts after step 1 ends, which lasts 0 ticks
+"""),
+    ([], STEPS + LINKS.replace("link 0 2 after\n", "") + "link 3 4 after at-most 2\nlink 3 0 at-least 4\n", 1, """refused 8: forward links close a circle
+The circle: start (0), then hand (2), then glass down (3), then start (0). Its links:
+  hand (2) hangs from the start: no after or at-least link leads into it
+  line 8, link 2 3 after
+    glass down (3) starts after hand (2) ends, which is open
+  line 10, link 3 0 at-least 4
+    start (0) starts at least 4 ticks after glass down (3) starts
+"""),
     ([], "step 0 open\nstep 1 open\nstep 2 open\nstep 3 open\nlink 0 1 after\nlink 1 2 after\nlink 2 1 after\nlink 3 0 after\n", 1, """refused 8: forward links close a circle
-The circle: step 1, then step 2, then step 1. Its links:
-  line 6, link 1 2 after
-    step 2 starts after step 1 ends, which is open
-  line 7, link 2 1 after
-    step 1 starts after step 2 ends, which is open
+The circle: step 0, then step 3, then step 0. Its links:
+  step 3 hangs from the start: no after or at-least link leads into it
+  line 8, link 3 0 after
+    step 0 starts after step 3 ends, which is open
+"""),
+    # a circle that nothing else leads into, before it and behind it other steps; a limit leads nowhere
+    ([], "step 0 open\nstep 1 open\nstep 2 open\nstep 3 open\nstep 4 open\nlink 1 3 after\nlink 2 4 after at-least 3\nlink 3 2 after\nlink 4 3 at-least 1 at-most 2\n"
+     "link 0 3 at-most 3\n", 1, """refused 8: forward links close a circle
+The circle: step 2, then step 4, then step 3, then step 2. Its links:
+  line 7, link 2 4 after at-least 3
+    step 4 starts after step 2 ends, which is open
+  line 9, link 4 3 at-least 1 at-most 2
+    step 3 starts at least 1 tick after step 4 starts
+  line 8, link 3 2 after
+    step 2 starts after step 3 ends, which is open
 """),
     # a circle with gaps
     ([], STEPS + LINKS.replace("2 3 after", "2 3 after gap 6") + "link 3 4 after gap 0\nlink 4 2 after gap 1 at-most-from-finish 3\n", 1,
@@ -65,16 +96,80 @@ The circle: hand (2), then glass down (3), then exposure (4), then hand (2). Its
   line 11, link 4 2 after gap 1 at-most-from-finish 3
     hand (2) starts at least 1 tick after exposure (4) ends, which lasts 1 tick
 """),
-    # the step that nothing enters, or both; one that has a limit; one that leads back to 0
-    ([], STEPS + LINKS.replace("link 0 2 after\n", "") + "link 3 4 after at-most 2\n", 1, """refused 9: a step has no chain of forward links from step 0
-No after or at-least link leads to hand (2).
-Where nothing holds back this step: 'link 0 2 after'.
+    # steps that nothing leads into: one; two, of which limits are no way into; with a wait
+    ([], STEPS + LINKS.replace("link 0 2 after\n", "") + "link 3 4 after at-most 2\n", 0, """verdict 0     sound: it can be kept whatever time its open steps take
+waits 0       no step has to wait for more than the sheet says
+              hand (2) hangs from the start: no after or at-least link leads into it
+start 0 0 0   start (0) starts at tick 0
+start 1 0 0   lamps (1) starts at tick 0
+start 2 0 0   hand (2) starts at tick 0
+start 3 0 1   glass down (3) starts at tick 1,
+start 3 2 0     or when hand (2) ends, whichever is later
+start 4 0 3   exposure (4) starts at tick 3,
+start 4 2 2     or 2 ticks after hand (2) ends, whichever is later
 """),
-    ([], "step 0 open\nstep 1 open\nstep 2 open\nlink 0 2 at-most 5\nlink 2 1 at-most 3\n", 1, """refused 9: a step has no chain of forward links from step 0
-No after or at-least link leads to step 1 and step 2.
-Where nothing holds back these steps: 'link 0 1 after' and 'after' in line 4.
+    ([], "step 0 open\nstep 1 open\nstep 2 open\nlink 0 2 at-most 5\nlink 2 1 at-most 3\n", 0, """verdict 0     sound: it can be kept whatever time its open steps take
+waits 0       no step has to wait for more than the sheet says
+              step 1 and step 2 hang from the start: no after or at-least link leads into them
+start 0 0 0   step 0 starts at tick 0
+start 1 0 0   step 1 starts at tick 0
+start 2 0 0   step 2 starts at tick 0
 """),
-    ([], "step 0 open\nstep 1 open\nlink 1 0 after\n", 1, "refused 9: a step has no chain of forward links from step 0\nNo after or at-least link leads to step 1.\n"),
+    (["1=4"], "step 0 open\nstep 1 open # hand\nstep 2 fixed 2 # lens\nstep 3 fixed 1 # exposure\nlink 1 3 after\nlink 2 3 after at-most 2\n", 0,
+     """verdict 1     sound with waits: it can be kept whatever time its open steps take, if steps wait as listed
+waits 1
+wait 1 2      lens (2) waits for the end of hand (1)
+                for line 6, link 2 3 after at-most 2: exposure (3) starts at most 2 ticks after lens (2) starts
+              hand (1) and lens (2) hang from the start: no after or at-least link leads into them
+start 0 0 0   step 0 starts at tick 0
+start 1 0 0   hand (1) starts at tick 0
+start 2 1 0   lens (2) starts when hand (1) ends
+start 3 1 2   exposure (3) starts 2 ticks after hand (1) ends
+
+Where hand (1) lasts 4 ticks:
+  step 0 starts at tick 0
+  hand (1) starts at tick 0 and ends at 4
+  lens (2) starts at tick 4 and ends at 6
+  exposure (3) starts at tick 6 and ends at 7
+"""),
+    # such a step in what cannot be kept: behind a limit from the start, of a fixed step and of an open one; not where the circle goes another way
+    ([], STEPS + "link 0 4 at-most 4\nlink 1 3 at-least 3\nlink 3 4 after\n", 1, """refused 10: with all open durations 0, no start times keep every link
+""" + CLASH + """  line 6, link 0 4 at-most 4
+    exposure (4) starts at tick 4 or before
+  line 7, link 1 3 at-least 3
+    glass down (3) starts at least 3 ticks after lamps (1) starts
+  line 8, link 3 4 after
+    exposure (4) starts after glass down (3) ends, which lasts 2 ticks
+  lamps (1) hangs from the start: no after or at-least link leads into it
+Added up, 5 ticks are needed where 4 are allowed.
+"""),
+    ([], STEPS + "link 0 4 after at-most-from-finish 5\nlink 2 4 at-least 3\nlink 2 3 after gap 1\nlink 3 4 after\n", 1,
+     """refused 11: for some list of durations no start times keep every link
+""" + CLASH + """  line 6, link 0 4 after at-most-from-finish 5
+    exposure (4) starts at tick 5 or before
+  line 8, link 2 3 after gap 1
+    glass down (3) starts at least 1 tick after hand (2) ends, which is open
+  line 9, link 3 4 after
+    exposure (4) starts after glass down (3) ends, which lasts 2 ticks
+  hand (2) hangs from the start: no after or at-least link leads into it
+hand (2) is open and may last more than the 2 ticks that these limits leave.
+"""),
+    ([], STEPS + "link 1 3 after\nlink 2 4 at-most 9\nlink 2 3 after\nlink 3 4 after\n", 1, """refused 11: for some list of durations no start times keep every link
+""" + CLASH + """  line 8, link 2 3 after
+    glass down (3) starts after hand (2) ends, which is open
+  line 7, link 2 4 at-most 9
+    exposure (4) starts at most 9 ticks after hand (2) starts
+  line 9, link 3 4 after
+    exposure (4) starts after glass down (3) ends, which lasts 2 ticks
+hand (2) is open and may last more than the 7 ticks that these limits leave.
+"""),
+    ([], STEPS + "link 3 4 after at-most 1\n", 1, """refused 10: with all open durations 0, no start times keep every link
+This record alone cannot be kept:
+  line 6, link 3 4 after at-most 1
+    exposure (4) starts after glass down (3) ends, which lasts 2 ticks
+    exposure (4) starts at most 1 tick after glass down (3) starts
+Added up, 2 ticks are needed where 1 is allowed.
+"""),
     # records that clash, open durations 0: one record; a chain that leads through step 0; a limit from the finish
     ([], STEPS + LINKS + "link 3 4 after at-most 1\n", 1, """refused 10: with all open durations 0, no start times keep every link
 This record alone cannot be kept:
@@ -243,6 +338,21 @@ Waits that cannot all be put in:
   left hand (1) waits for the end of right hand (2)
     for line 7, link 1 3 after gap 6 at-most-from-finish 7: clamp (3) starts at most 7 ticks after left hand (1) ends
 """),
+    # the same, of hands that nothing leads into: the waits are between them
+    ([], "step 0 open\nstep 1 open # left hand\nstep 2 open # right hand\nstep 3 fixed 0 # clamp\nlink 1 3 after at-most-from-finish 0\n"
+     "link 2 3 after at-most-from-finish 0\n", 1, """refused 28: the waits close a circle of forward links, or leave no start times with all open durations 0
+""" + CLASH + """  line 5, link 1 3 after at-most-from-finish 0
+    clamp (3) starts after left hand (1) ends, which is open
+    clamp (3) starts at most 0 ticks after left hand (1) ends
+  line 6, link 2 3 after at-most-from-finish 0
+    clamp (3) starts after right hand (2) ends, which is open
+    clamp (3) starts at most 0 ticks after right hand (2) ends
+Waits that cannot all be put in:
+  right hand (2) waits for the end of left hand (1)
+    for line 6, link 2 3 after at-most-from-finish 0: clamp (3) starts at most 0 ticks after right hand (2) ends
+  left hand (1) waits for the end of right hand (2)
+    for line 5, link 1 3 after at-most-from-finish 0: clamp (3) starts at most 0 ticks after left hand (1) ends
+"""),
     # entries of a list
     (["0=1", "hand=16777216", "3=4294967296", "exposure=0"], STEPS + LINKS + "link 3 4 after at-most 2\n", 1,
      """refused 13: a duration is above 16,777,215, or is not 0 and belongs to step 0 or to a fixed step
@@ -354,13 +464,13 @@ if __name__ == "__main__":
     check(ran("--no-waits", "-", given=WAITS.encode()),
           (1, "refused 12: waits are needed and the caller did not allow them\nIt is sound with these waits:\n" + LINES, ""), "waits that are not allowed")
     check({int(wanted.split()[1].rstrip(":")) for _, wanted in BYTES} | {int(wanted.split()[1].rstrip(":")) for *_, wanted in TEXTS if wanted.startswith("refused")} | {12},
-          {*range(1, 14), 26, 28}, "refusals of the input")
+          {*range(1, 9), *range(10, 14), 26, 28}, "refusals of the input")
 
     stand = ROOT / "examples/stand.sheet"
     with tempfile.TemporaryDirectory() as name:
         path = Path(name) / "a sheet"
         path.write_text(STEPS + "link 0 1 after\n")
-        check(ran(path)[1].splitlines()[1], "No after or at-least link leads to hand (2), glass down (3) and exposure (4).", "a file")
+        check(ran(path)[1].splitlines()[2].strip(), "hand (2), glass down (3) and exposure (4) hang from the start: no after or at-least link leads into them", "a file")
         check(ran(path, "hands=3"), (2, "", f"{path}: 'hands=3': the sheet has no step hands\n"), "no such step")
         path.write_text("step 0 open\nstep 1 open # hand\nstep 2 open # hand\nstep 3 open # 1\n")
         check(ran(path, "hand=3"), (2, "", f"{path}: 'hand=3': more than one step has the name hand\n"), "two names")

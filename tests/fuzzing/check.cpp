@@ -109,6 +109,7 @@ template <class Number> void need_lent(Lent &lent, const Number *expected, const
 }
 
 void need_verdict(uint32_t got, uint32_t expected) {
+    need(got != 256 + 9, "refused 9, which is never given");
     if (got != expected) throw Failure{"verdict " + std::to_string(got) + ", expected " + std::to_string(expected)};
 }
 
@@ -167,7 +168,10 @@ void Examiner::sheet(const Bytes &bytes, Random &random) {
             judge, "judge", allowed, [&](Side &side) { return calls.judge(side.sheet.lent(), length, allow); }, nothing, [&] { return std::string("waits ") + (allow ? "allowed" : "not allowed"); });
     }
     if (allowed < 256) {
-        if (n == 64 && bytes[1] == 0 && bytes[2] == 2) met.largest++;
+        const bool largest = n == 64 && bytes[1] == 0 && bytes[2] == 2, loose = loose_steps(bytes) != 0;
+        met.largest += largest;
+        met.loose += loose;
+        met.large_loose += largest && loose;
         met.longest = std::max(met.longest, length);
     }
 

@@ -31,6 +31,8 @@ enum Call { judge, waits, plan, starts, begin, tick, finish, call_count };
 struct Met {
     std::array<std::array<uint64_t, 512>, call_count> verdicts{};
     uint64_t largest = 0;      // accepted sheets with N = 64 and R = 512
+    uint64_t loose = 0;        // accepted sheets with steps that follow nothing
+    uint64_t large_loose = 0;  // those that are both
     size_t longest = 0;        // bytes of an accepted sheet
     uint32_t heaviest = 0;     // the largest offset of a plan
     uint64_t proper_runs = 0;  // runs of an accepted sheet's plan

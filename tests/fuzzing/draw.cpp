@@ -50,7 +50,7 @@ struct Sheet {
 // What kind of sheet is aimed at; what comes out is for the planners to say.
 struct Aim {
     uint32_t steps;
-    uint32_t forward;    // forward links beside the one that each step hangs on
+    uint32_t forward;    // forward links beside the one that a step hangs on
     uint32_t limits;     // at-most links
     uint32_t heaviest;   // durations and at-leasts
     uint32_t gaps;       // of a hundred after links, those with a gap
@@ -62,9 +62,10 @@ struct Aim {
     uint32_t too_wide;   // of a hundred sheets, those in which one gap is wider than the drawn start times leave it
     uint32_t finish;     // of a hundred limits, those from the finish
     uint32_t circle;     // of a hundred sheets, those with a forward link against the order
-    uint32_t orphan;     // of a hundred sheets, those with a step that hangs on nothing
+    uint32_t into_start; // of a hundred sheets, those with a forward link into step 0
+    uint32_t loose;      // of a hundred steps, those that no forward link enters
     bool extremes;       // each duration, at-least and gap is the heaviest
-    bool chain;          // each step hangs on the one before it
+    bool chain;          // a step hangs on the one before it
     bool afters;         // each forward link is an after link
     bool full;           // each record has every field, the limits that are added as wide as can be
 };
@@ -86,7 +87,10 @@ Aim draw_aim(Random &random) {
     uint32_t n = aim.steps;
     aim.forward = random.chance(80) ? random.below(n + 1) : random.below(std::min<uint32_t>(n * n / 2, most_links) + 1);
     aim.limits = random.chance(70) ? random.from(1, n / 3 + 2) : random.chance(70) ? random.below(n + 1) : random.below(std::min<uint32_t>(n * n / 2, most_links) + 1);
-    if (n == 64 && random.chance(50)) aim.forward = aim.limits = most_links; // as many as there is room for
+    if (n == 64 && random.chance(50)) { // as many as there is room for
+        aim.forward = most_links;
+        aim.limits = 2 * most_links; // some fall on one pair
+    }
     aim.heaviest = any_of(random, {0, 2, 3, 9, 9, 100, 1000, heaviest_field});
     aim.gaps = any_of(random, {0, 0, 30, 70, 100});
     aim.widest = any_of(random, {0, 1, 6, aim.heaviest, aim.heaviest, heaviest_field});
@@ -97,7 +101,9 @@ Aim draw_aim(Random &random) {
     aim.too_wide = any_of(random, {0, 0, 0, 50});
     aim.finish = any_of(random, {0, 0, 30, 70, 100});
     aim.circle = any_of(random, {0, 0, 0, 0, 50});
-    aim.orphan = any_of(random, {0, 0, 0, 0, 0, 0, 50});
+    aim.into_start = any_of(random, {0, 0, 0, 0, 0, 0, 20});
+    aim.loose = any_of(random, {0, 0, 0, 10, 30, 60, 100});
+    if (aim.loose == 100) aim.finish = 0; // such a limit stands beside an after link
     aim.extremes = random.chance(8);
     aim.chain = random.chance(15);
     aim.afters = aim.full = false;
@@ -106,10 +112,12 @@ Aim draw_aim(Random &random) {
         aim.heaviest = aim.widest = heaviest_field;
         aim.gaps = any_of(random, {100, 100, 0});
         aim.open = any_of(random, {0, 5});
+        aim.loose = 0;
         aim.extremes = aim.chain = aim.afters = true;
     } else if (random.chance(1)) { // the longest sheets that there are
         aim.steps = most_steps;
         aim.forward = 2 * most_links; // some fall on one pair
+        aim.loose = any_of(random, {0, 10});
         aim.limits = aim.open = 0;
         aim.heaviest = aim.widest = random.below(10);
         aim.full = true;
@@ -170,16 +178,20 @@ Sheet draw_sheet(Random &random, const Aim &aim) {
             link.least = weight();
         }
     };
-    uint32_t orphan = random.chance(aim.orphan) && n > 1 ? random.from(1, n - 1) : 0;
+    uint64_t loose = 0;
+    for (uint32_t v = 1; v < n; v++)
+        if (random.chance(aim.loose)) loose |= uint64_t(1) << v;
+    auto is_loose = [&](uint8_t v) { return loose >> v & 1; };
     uint32_t near = aim.chain ? 1 : random.chance(20) ? random.from(2, 4) : n; // how far back along the order a step hangs
     for (uint32_t k = 1; k < n; k++)
-        if (k != orphan) link_forward(order[k - 1 - random.below(std::min(k, near))], order[k]);
+        if (!is_loose(order[k])) link_forward(order[k - 1 - random.below(std::min(k, near))], order[k]);
     for (uint32_t k = 0; k < aim.forward && n > 1; k++) {
         uint32_t to = random.from(1, n - 1);
-        if (to != orphan) link_forward(order[random.below(to)], order[to]);
+        if (!is_loose(order[to])) link_forward(order[random.below(to)], order[to]);
     }
 
     // Start times that keep them with all open durations 0, some later than they need to be; the start sets; and which steps each leads to.
+    // What no forward link enters comes after step 0.
     std::vector<uint32_t> time(n, 0), place(n);
     std::vector<uint64_t> set(n, 1), leads(n);
     std::array<std::vector<std::pair<uint8_t, const Link *>>, 64> into;
@@ -188,6 +200,10 @@ Sheet draw_sheet(Random &random, const Aim &aim) {
         into[pair.second].push_back({pair.first, &link});
         if (link.map & after && sheet.steps[pair.first].open) out_of_open.push_back(pair);
     }
+    Link put_in;
+    put_in.map = after;
+    for (uint8_t v = 1; v < n; v++)
+        if (is_loose(v)) into[v].push_back({uint8_t(0), &put_in});
     uint32_t late = random.below(60);
     for (uint32_t k = 0; k < n; k++) {
         uint8_t v = order[k];
@@ -220,8 +236,9 @@ Sheet draw_sheet(Random &random, const Aim &aim) {
                 j = limited_last;
                 i = into[j][random.below(uint32_t(into[j].size()))].first;
             }
+            if (!finish && loose && random.chance(20)) i = 0; // counted from the start, so that what is put in counts
             if (!room(i, j)) continue;
-            if (finish && place[i] > place[j]) continue; // the after link that has to stand beside it would close a circle
+            if (finish && (place[i] > place[j] || is_loose(j))) continue; // the after link that has to stand beside it would close a circle, or enter what nothing enters
             uint64_t allowed = set[i], needed_set = set[j];
             if (finish) {
                 needed_set |= set[i];
@@ -256,6 +273,7 @@ Sheet draw_sheet(Random &random, const Aim &aim) {
         uint32_t to = random.from(1, n - 2);
         link_forward(order[random.from(to + 1, n - 1)], order[to]);
     }
+    if (random.chance(aim.into_start) && n > 1) link_forward(uint8_t(random.from(1, n - 1)), 0);
     if (aim.full) fill(sheet);
     return sheet;
 }
@@ -279,8 +297,8 @@ void add_crossed_hands(Random &random, Sheet &sheet) {
         link.map |= from_finish;
         link.finish = uint16_t(limit);
     };
-    add_after(0, a);
-    add_after(0, b);
+    for (uint8_t hand : {a, b})
+        if (random.chance(50)) add_after(0, hand); // else it follows nothing
     Link &from_b = sheet.links[{b, on_the_way}];
     from_b.map = at_least;
     from_b.least = few();
@@ -363,7 +381,7 @@ Bytes draw_good_sheet(Random &random, bool short_run) {
     aim.open = any_of(random, {20, 40, 60});
     aim.contained = any_of(random, {100, 100, 80, 0});
     aim.waiting = any_of(random, {100, 90});
-    aim.too_tight = aim.too_wide = aim.circle = aim.orphan = 0;
+    aim.too_tight = aim.too_wide = aim.circle = aim.into_start = 0;
     aim.full = false;
     if (short_run) aim.extremes = false;
     return draw_sheet(random, aim).bytes();
@@ -378,6 +396,21 @@ uint64_t open_steps(const Bytes &sheet) {
         at += kind == 2 ? 3 : 1;
     }
     return map;
+}
+
+std::vector<size_t> records_of(const Bytes &sheet) {
+    size_t at = 3;
+    for (uint32_t v = 0; at < sheet.size() && v < sheet[0]; v++) at += sheet[at] == 2 ? 3 : 1;
+    std::vector<size_t> records;
+    for (; at < sheet.size(); at += 3 + 2 * size_t(__builtin_popcount(sheet[at] & field_bits))) records.push_back(at);
+    return records;
+}
+
+uint64_t loose_steps(const Bytes &sheet) {
+    uint64_t entered = 1;
+    for (size_t at : records_of(sheet))
+        if (sheet[at] & forward_bits) entered |= uint64_t(1) << sheet.at(at + 2);
+    return ~entered & ~uint64_t(0) >> (64 - sheet.at(0));
 }
 
 Numbers draw_list(Random &random, const Bytes &sheet) {

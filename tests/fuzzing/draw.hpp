@@ -35,6 +35,7 @@ using Numbers = std::vector<uint32_t>;
 constexpr size_t most_steps = 64, most_links = 512, longest_record = 11;
 constexpr size_t longest_sheet = 3 + 3 * most_steps - 2 + longest_record * most_links; // step 0 has no field
 constexpr size_t longest_input = longest_sheet + 1200;                                // sheets with bytes that follow
+constexpr uint8_t forward_bits = 3, field_bits = 30; // of a link map: after and at least; those with a field of two bytes
 constexpr size_t longest_table = most_steps * most_steps + 64;
 constexpr size_t longest_list = most_steps + 64;
 constexpr uint32_t heaviest_field = 65535;
@@ -48,6 +49,12 @@ Bytes draw_good_sheet(Random &random, bool short_run);
 
 // The map of the open steps of a sheet that is whole.
 uint64_t open_steps(const Bytes &sheet);
+
+// The map of the steps of a whole sheet that no forward link enters, without step 0.
+uint64_t loose_steps(const Bytes &sheet);
+
+// Where the link records of a sheet begin.
+std::vector<size_t> records_of(const Bytes &sheet);
 
 // A list of durations for the sheet, mostly a good one; all of it from anywhere where the sheet is not whole.
 Numbers draw_list(Random &random, const Bytes &sheet);

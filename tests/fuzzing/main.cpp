@@ -98,10 +98,10 @@ const struct {
     std::vector<uint32_t> refusals;
     bool verdict_1;
 } expected_of[call_count] = {
-    {"judge", {1, 2, 3, 4, 26, 5, 6, 7, 8, 9, 10, 11, 28, 12}, true},
-    {"waits", {1, 2, 3, 4, 26, 5, 6, 7, 8, 9, 10, 11, 28}, true},
-    {"plan", {1, 2, 3, 4, 26, 5, 6, 7, 8, 9, 10, 11, 28, 12, 14}, true},
-    {"starts", {1, 2, 3, 4, 26, 5, 6, 7, 8, 9, 10, 11, 28, 12, 13, 14}, true},
+    {"judge", {1, 2, 3, 4, 26, 5, 6, 7, 8, 10, 11, 28, 12}, true},
+    {"waits", {1, 2, 3, 4, 26, 5, 6, 7, 8, 10, 11, 28}, true},
+    {"plan", {1, 2, 3, 4, 26, 5, 6, 7, 8, 10, 11, 28, 12, 14}, true},
+    {"starts", {1, 2, 3, 4, 26, 5, 6, 7, 8, 10, 11, 28, 12, 13, 14}, true},
     {"begin", {16, 2, 14}, false},
     {"tick", {15, 14, 18}, false},
     {"finish", {15, 14, 17}, false},
@@ -127,9 +127,9 @@ bool report(const Met &met, bool all_sheets, bool all_runs) {
         }
         if (!line.empty()) std::cout << expected.name << ":" << line << "\n";
     }
-    std::cout << "accepted sheets with N = 64 and R = 512: " << met.largest << "; the longest: " << met.longest << " bytes; the largest offset: " << met.heaviest << "\n";
+    std::cout << "accepted sheets with N = 64 and R = 512: " << met.largest << ", with steps that follow nothing: " << met.loose << ", both: " << met.large_loose << "; the longest: " << met.longest << " bytes; the largest offset: " << met.heaviest << "\n";
     std::cout << "runs of a plan: " << met.proper_runs << ", to their end: " << met.ended_runs << ", starts compared: " << met.started << "; most calls in one run: " << met.fullest << "\n";
-    if (all_sheets && (met.largest == 0 || met.longest != longest_sheet || met.heaviest != largest_offset)) all = false;
+    if (all_sheets && (met.large_loose == 0 || met.longest != longest_sheet || met.heaviest != largest_offset)) all = false;
     if (all_runs && met.ended_runs == 0) all = false;
     return all;
 }

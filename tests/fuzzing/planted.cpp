@@ -17,32 +17,36 @@ template <class Change> Planted in_runs(const char *fault, const char *noticed, 
     return planted;
 }
 
-size_t fields(uint8_t bits) { return size_t(__builtin_popcount(bits)) * 2; }
-
-// Where the link records of a sheet begin.
-std::vector<size_t> records_of(const uint8_t *sheet, size_t length) {
-    size_t at = 3;
-    for (uint32_t v = 0; at < length && v < sheet[0]; v++) at += sheet[at] == 2 ? 3 : 1;
-    std::vector<size_t> records;
-    for (; at < length; at += 3 + fields(sheet[at] & 30)) records.push_back(at);
-    return records;
-}
-
-Bytes without_gaps(const uint8_t *sheet, size_t length) {
-    Bytes bytes(sheet, sheet + length);
-    for (size_t at : records_of(sheet, length))
-        if (bytes[at] & 8) {
-            const size_t gap = at + 3 + fields(bytes[at] & 6);
-            bytes[gap] = bytes[gap + 1] = 0;
+Bytes without_gaps(Bytes sheet) {
+    for (size_t at : records_of(sheet))
+        if (sheet[at] & 8) {
+            const size_t gap = at + 3 + 2 * size_t(__builtin_popcount(sheet[at] & 6));
+            sheet[gap] = sheet[gap + 1] = 0;
         }
-    return bytes;
+    return sheet;
 }
 
 // Whether a record has a gap and a limit from the finish, and is no after link.
-bool gap_and_limit_alone(const uint8_t *sheet, size_t length) {
-    for (size_t at : records_of(sheet, length))
+bool gap_and_limit_alone(const Bytes &sheet) {
+    for (size_t at : records_of(sheet))
         if ((sheet[at] & 0xf9) == 24) return true;
     return false;
+}
+
+// The sheet without the records of forward links into step 0.
+Bytes without_links_into_start(const Bytes &sheet) {
+    std::vector<size_t> records = records_of(sheet);
+    Bytes rest(sheet.begin(), sheet.begin() + long(records.empty() ? sheet.size() : records[0]));
+    uint32_t count = 0;
+    records.push_back(sheet.size());
+    for (size_t k = 0; k + 1 < records.size(); k++) {
+        if (sheet[records[k]] & forward_bits && sheet[records[k] + 2] == 0) continue;
+        rest.insert(rest.end(), sheet.begin() + long(records[k]), sheet.begin() + long(records[k + 1]));
+        count++;
+    }
+    rest[1] = uint8_t(count);
+    rest[2] = uint8_t(count >> 8);
+    return rest;
 }
 
 } // namespace
@@ -131,14 +135,38 @@ std::vector<Planted> planted_faults() {
         in_sheets("a plan without the gaps", "other numbers in the table", [](Calls &calls) {
             calls.plan = [](const uint8_t *sheet, size_t sheet_len, bool allow_waits, uint32_t *table, size_t table_len) {
                 uint32_t verdict = standplan_plan(sheet, sheet_len, allow_waits, table, table_len);
-                if (verdict < 256) verdict = standplan_plan(without_gaps(sheet, sheet_len).data(), sheet_len, allow_waits, table, table_len);
+                if (verdict < 256) verdict = standplan_plan(without_gaps({sheet, sheet + sheet_len}).data(), sheet_len, allow_waits, table, table_len);
                 return verdict;
             };
         }),
         in_sheets("26 before 4", "verdict 282, expected 260", [](Calls &calls) {
             calls.judge = [](const uint8_t *sheet, size_t sheet_len, bool allow_waits) {
                 uint32_t verdict = standplan_judge(sheet, sheet_len, allow_waits);
-                return verdict == 256 + 4 && gap_and_limit_alone(sheet, sheet_len) ? uint32_t(256 + 26) : verdict;
+                return verdict == 256 + 4 && gap_and_limit_alone({sheet, sheet + sheet_len}) ? uint32_t(256 + 26) : verdict;
+            };
+        }),
+        in_sheets("9 where a step follows nothing", "refused 9", [](Calls &calls) {
+            calls.judge = [](const uint8_t *sheet, size_t sheet_len, bool allow_waits) {
+                uint32_t verdict = standplan_judge(sheet, sheet_len, allow_waits);
+                return verdict < 256 && loose_steps({sheet, sheet + sheet_len}) ? uint32_t(256 + 9) : verdict;
+            };
+        }),
+        in_sheets("a link into step 0 overlooked", ", expected 264", [](Calls &calls) {
+            calls.judge = [](const uint8_t *sheet, size_t sheet_len, bool allow_waits) {
+                uint32_t verdict = standplan_judge(sheet, sheet_len, allow_waits);
+                if (verdict != 256 + 8) return verdict;
+                const Bytes rest = without_links_into_start({sheet, sheet + sheet_len});
+                return standplan_judge(rest.data(), rest.size(), allow_waits);
+            };
+        }),
+        in_sheets("a plan of the sheet as sent: nothing decides a step that follows nothing", "other numbers in the table: 4294967295 at", [](Calls &calls) {
+            calls.plan = [](const uint8_t *sheet, size_t sheet_len, bool allow_waits, uint32_t *table, size_t table_len) {
+                uint32_t verdict = standplan_plan(sheet, sheet_len, allow_waits, table, table_len);
+                if (verdict >= 256) return verdict;
+                const uint64_t loose = loose_steps({sheet, sheet + sheet_len});
+                for (size_t v = 1; v < sheet[0]; v++)
+                    if (loose >> v & 1 && table[v * sheet[0]] == 0) table[v * sheet[0]] = STANDPLAN_UNDECIDED;
+                return verdict;
             };
         }),
         in_sheets("writes one number before out", "wrote outside the out", [](Calls &calls) {

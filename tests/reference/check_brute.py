@@ -1,11 +1,12 @@
 """Brute-force self-check of planner.py on small random sheets.
 
-    python3 check_brute.py SECONDS [SEED] [finish | gap]
+    python3 check_brute.py SECONDS [SEED] [finish | gap | loose]
 
 Everything here is worked out a second time, straight from document 01's
 sentences, with no function of planner.py beyond those under test. With
 finish, the sheets have limits from the end of a step (request L11), with
-gap, gaps too (request L1).
+gap, gaps too (request L1), with loose, also steps that no forward link
+enters (request L3); of every sheet all is worked out as completed.
 """
 from __future__ import annotations
 
@@ -109,6 +110,31 @@ def random_parts(rng: random.Random, finish: bool) -> tuple[list, list[LinkT]]:
                       if kind == "after" and rng.random() < (share if i else 0.1)}
     return steps, [(kind, i, j, 0 if kind == "after" else rng.randint(0, top * rng.choice([1, 3, 5])))
                    for kind, i, j in sorted(pairs)]
+
+
+def left_loose(rng: random.Random, n: int, links: list[LinkT]) -> list[LinkT]:
+    """The links without those that lead forward into some of the steps, often just those after the start alone; at times
+    with a return or an at least into such a step, with a limit from step 0, or with a forward link into step 0."""
+    others = range(1, n)
+    if not others:
+        return links
+    after_start = [v for v in others if all(i == 0 for kind, i, j, _ in links if j == v and kind != "most")]
+    chosen = rng.choice([[1], [n - 1], list(others), *[[v for v in others if rng.random() < 0.5]] * 2, *[after_start] * 4])
+    out = [link for link in links if link[0] == "most" or link[2] not in chosen]
+    for v in chosen:
+        u = rng.choice([u for u in range(n) if u != v])
+        out += rng.choice([[]] * 8 + [[("least", u, v, rng.randint(0, 2))], [("most", v, u, rng.randint(0, 3))]])
+    if rng.random() < 0.25:
+        out.append(("most", 0, rng.choice(others), rng.randint(0, 4)))
+    if rng.random() < 0.06:
+        out.append((rng.choice(["after", "least"]), rng.choice(others), 0, 0))
+    return sorted({link[:3]: link for link in out}.values())
+
+
+def completed(steps: list, links: list[LinkT]) -> list[LinkT]:
+    """The links, and an after link from 0 to each other step that no after and no at least leads into."""
+    entered = {j for kind, _, j, _ in links if kind in ("after", "least")}
+    return links + [("after", 0, v, 0) for v in range(1, len(steps)) if v not in entered]
 
 
 def encode(steps: list, links: list[LinkT], bare: bool = True) -> bytes:
@@ -255,14 +281,14 @@ def closes_circle(steps: list, links: list[LinkT]) -> bool:
 
 
 def expected_refusal(steps: list, links: list[LinkT], many: list[list[int]]) -> int:
-    """0 or 8 to 11, by trying chains, walks and lists of durations."""
+    """0, 8, 10 or 11, by trying chains, walks and lists of durations; the links are completed."""
     n = len(steps)
     ahead = [m for m in moves(steps, links) if m[3] in ("after", "least")]
     if closes_circle(steps, links):
         return 8
+    assert all(target != 0 for _, target, _, _ in ahead)                   # every forward link into 0 is 8
     chained = {end for end, _ in walks(ahead, [m for m in ahead if m[0] == 0], n)} | {0}
-    if len(chained) < n:
-        return 9
+    assert len(chained) == n                                               # 9 never occurs
     if solve(steps, links, [0] * n) is None:
         return 10
     if any(solve(steps, links, one) is None for one in many):
@@ -496,26 +522,49 @@ def check_spelled_out(rng: random.Random, steps: list, links: list[LinkT], sheet
     return True
 
 
-def check(rng: random.Random, tally: Counter, finish: bool, gap: bool) -> None:
+def check_written_out(rng: random.Random, steps: list, whole: list[LinkT], sheet: bytes) -> bool:
+    """A sheet gives the same answers as that with the links from 0 written out, which are in `whole`. Says
+    whether that is a sheet within the limits."""
+    n = len(steps)
+    if len({(i, j) for _, i, j, _ in whole}) > 512:
+        return False
+    written = encode(steps, whole)
+    assert p.waits(written) == p.waits(sheet) and p.standplan_text(written) == p.standplan_text(sheet)
+    one = [rng.randint(0, 9) if v and steps[v] is None else 0 for v in range(n)]
+    for allow in (False, True):
+        assert p.judge(written, allow) == p.judge(sheet, allow)
+        assert p.plan(written, allow, [5] * (n * n)) == p.plan(sheet, allow, [5] * (n * n))
+        assert p.starts(written, allow, one, [5] * n) == p.starts(sheet, allow, one, [5] * n)
+    return True
+
+
+def check(rng: random.Random, tally: Counter, finish: bool, gap: bool, loose: bool) -> None:
     """One random sheet, all checks."""
     steps, links = random_parts(rng, finish)
     if gap:
         links = with_gaps(rng, links)
     n = len(steps)
+    if loose:
+        links = left_loose(rng, n, links)
     sheet = encode(steps, links, bare=not gap or rng.random() < 0.5)
     if gap:
         tally["gaps spelled out"] += check_spelled_out(rng, steps, links, sheet)
         tally["verdicts by the gaps"] += p.judge(generate.without_gaps(sheet), True) != p.judge(sheet, True)
+    as_sent, links = links, completed(steps, links)
+    if loose:
+        tally["loose steps"] += len(links) - len(as_sent)
+        tally["written out"] += check_written_out(rng, steps, links, sheet)
     many = lists(rng, steps)
     expected = expected_refusal(steps, links, many)
     if expected:
-        tally[f"refused {expected}"] += 1
+        due = generate.by_completing(steps, p.links_of(steps, p.read(sheet)[1][1]), expected)
+        tally[f"refused {expected}" + (", by the links from 0" if due else "")] += 1
         refused_so(sheet, expected)
         if expected == 10 and n <= 3:
             assert not solve_by_trying(steps, links, [0] * n, 12)
         return
 
-    # Waits, on the sheet as sent, and soundness before and after.
+    # Waits, on the sheet as sent and completed, and soundness before and after.
     every = moves(steps, links)
     sets = start_sets(steps, links)
     waits = sorted({(a, i) for a in range(1, n) if steps[a] is None
@@ -541,6 +590,8 @@ def check(rng: random.Random, tally: Counter, finish: bool, gap: bool) -> None:
     tally[("sound" if sound else "sound with waits") + (", from an open end" if ends else "")] += 1
     if len({i for _, i in waits}) > 1:
         tally["waits on several steps"] += 1
+    if any(("after", 0, v, 0) in links[len(as_sent):] for wait in waits for v in wait):
+        tally["waits of loose steps or for them"] += 1
 
     # Start sets and offsets with the waits in, by every walk of up to 2N links.
     every = moves(steps, whole)
@@ -578,35 +629,42 @@ def check(rng: random.Random, tally: Counter, finish: bool, gap: bool) -> None:
     tally["members kept"] += sum(x != p.UNDECIDED for x in table[:n * n])
 
 
-def waits_and_circle(steps: list, links: list[LinkT]) -> tuple[list[Pair], bool]:
-    """The waits of a sheet of any size, and whether they close a circle of forward links."""
-    def reach(allowed: list, a: int, first: list) -> set[int]:
-        found = {m[1] for m in first}
-        while True:
-            more = {m[1] for m in allowed if m[0] in found} - found
-            if not more:
-                return found
-            found |= more
+def reach(allowed: list, first: list) -> set[int]:
+    """Where walks end whose first link is in `first`, on a sheet of any size."""
+    found = {m[1] for m in first}
+    while True:
+        more = {m[1] for m in allowed if m[0] in found} - found
+        if not more:
+            return found
+        found |= more
 
+
+def large_waits(steps: list, links: list[LinkT]) -> list[Pair]:
+    """The waits of a sheet of any size."""
     every = moves(steps, links)
     found = []
     for a in range(1, len(steps)):
         if steps[a] is None:
             first = [m for m in every if m[0] == a and m[3] == "after"]
-            there = reach(from_end_of(a, every), a, first)
-            chained = reach([m for m in every if m[3] in ("after", "least")], a, first)
+            there = reach(from_end_of(a, every), first)
+            chained = reach([m for m in every if m[3] in ("after", "least")], first)
             found += sorted({(a, i) for kind, i, j, _ in links if kind in ("most", "end")
                              and j in there and i not in chained and i != a})
-    ahead = [m for m in every if m[3] in ("after", "least")] + [(a, i, 0, "after") for a, i in found]
-    return found, any(v in reach(ahead, v, [m for m in ahead if m[0] == v]) for v in range(len(steps)))
+    return found
 
 
-def check_large(rng: random.Random, tally: Counter, finish: bool, gap: bool) -> None:
-    """One sheet of any size from generate.py: 10, 11 and 28 by the solver, starts and table."""
-    sheet = generate.random_sheet(rng, finish, gap)
+def large_circle(steps: list, links: list[LinkT]) -> bool:
+    """Whether the forward links of a sheet of any size close a circle."""
+    ahead = [m for m in moves(steps, links) if m[3] in ("after", "least")]
+    return any(v in reach(ahead, [m for m in ahead if m[0] == v]) for v in range(len(steps)))
+
+
+def check_large(rng: random.Random, tally: Counter, finish: bool, gap: bool, loose: bool) -> None:
+    """One sheet of any size from generate.py: 8, 10, 11 and 28 by the solver, starts and table."""
+    sheet = generate.random_sheet(rng, finish, gap, loose)
     verdict = p.judge(sheet, True)
     tally[f"large {verdict[0]} {verdict[1]}"] += 1
-    if verdict[0] == "refused" and verdict[1] not in (10, 11, 28):
+    if p.read(sheet)[0] == "refused":
         return
     steps, records = p.read(sheet)[1]
     n = len(steps)
@@ -618,6 +676,12 @@ def check_large(rng: random.Random, tally: Counter, finish: bool, gap: bool) -> 
         links += [("end", r.i, r.j, r.from_end)] if r.from_end is not None else []
     if gap:
         tally["large, gaps spelled out"] += check_spelled_out(rng, steps, links, sheet)
+    links = completed(steps, links)
+    if loose:
+        tally["large, written out"] += check_written_out(rng, steps, links, sheet)
+    if large_circle(steps, links):
+        assert verdict == ("refused", 8)
+        return
     longest = [BIG if v and steps[v] is None else 0 for v in range(n)]
     possible = solve(steps, links, [0] * n) is not None
     # One step alone is the worst: a longer step makes room only from its own end.
@@ -626,9 +690,9 @@ def check_large(rng: random.Random, tally: Counter, finish: bool, gap: bool) -> 
     if not possible or not always:
         assert verdict == ("refused", 11 if possible else 10)
         return
-    waits, circle = waits_and_circle(steps, links)
+    waits = large_waits(steps, links)
     whole = links + [("after", a, i, 0) for a, i in waits]
-    if circle or solve(steps, whole, [0] * n) is None:
+    if large_circle(steps, whole) or solve(steps, whole, [0] * n) is None:
         assert verdict == ("refused", 28)
         return
     assert verdict == ("ok", 1 if waits else 0)
@@ -652,14 +716,15 @@ def main() -> None:
     """Check random sheets for so many seconds and print the tally."""
     end = time.time() + float(sys.argv[1])
     seed = int(sys.argv[2]) if len(sys.argv) > 2 else 1
-    gap = "gap" in sys.argv[3:]
+    loose = "loose" in sys.argv[3:]
+    gap = loose or "gap" in sys.argv[3:]
     finish = gap or "finish" in sys.argv[3:]
     tally: Counter = Counter()
     while time.time() < end:
         try:
-            check(random.Random(seed), tally, finish, gap)
+            check(random.Random(seed), tally, finish, gap, loose)
             if seed % 10 == 0:
-                check_large(random.Random(seed), tally, finish, gap)
+                check_large(random.Random(seed), tally, finish, gap, loose)
         except AssertionError:
             print("FAILED at seed", seed)
             raise

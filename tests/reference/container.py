@@ -1,14 +1,16 @@
 """The input of the program compare, and what it has to print, from the reference planner.
 
-    python3 container.py SEED COUNT STDIN STDOUT [--largest] [--finish | --gap] [--and-finish COUNT] [--and-gap COUNT]
+    python3 container.py SEED COUNT STDIN STDOUT [--largest] [--finish | --gap | --loose]
+                         [--and-finish COUNT] [--and-gap COUNT] [--and-loose COUNT]
 
 STDIN holds, for each sheet, two bytes of length and the sheet; two bytes, the length of the table lent for its plan;
 a byte, the number of lists; and for each list a byte (1: waits allowed), two bytes, the number of its entries, two bytes,
 the length of the list lent for the start times, and the entries, four bytes each. Numbers have the low byte first.
 With --largest, sheets of N = 64 and R = 512 and one of each fault of the limits stand in front of the random ones.
-With --finish, the sheets have limits from the end of a step (bit 4), with --gap, gaps too (bit 3). With --and-finish, COUNT
-sheets as with --finish, and the largest ones of this kind if --largest is given, follow behind those that the words before ask
-for, which stay as they are; with --and-gap, behind all of these, COUNT sheets as with --gap, and the largest ones likewise.
+With --finish, the sheets have limits from the end of a step (bit 4), with --gap, gaps too (bit 3), with --loose, also steps
+that no forward link enters. With --and-finish, COUNT sheets as with --finish, and the largest ones of this kind if --largest is
+given, follow behind those that the words before ask for, which stay as they are; with --and-gap, behind all of these, COUNT
+sheets as with --gap, and the largest ones likewise; with --and-loose the same as with --loose, last.
 """
 from __future__ import annotations
 
@@ -109,6 +111,12 @@ def record(rng: random.Random, sheet: bytes, gap: bool, verdicts: Counter) -> tu
     return data, lines
 
 
+def whole_sheet(draft: g.Draft) -> bytes:
+    """The bytes of a draft."""
+    steps, records = draft.pieces()
+    return bytes([draft.n]) + two(len(records)) + b"".join(steps) + b"".join(records)
+
+
 def largest_sheets(rng: random.Random) -> list[bytes]:
     """Sheets at the limits: N 64 and R 512 with and without waits, N 65, R 513, and bytes past the longest sheet."""
     sheets = []
@@ -123,8 +131,7 @@ def largest_sheets(rng: random.Random) -> list[bytes]:
             a, b = sorted(rng.sample(range(64), 2))
             draft.put(draft.order[a], draft.order[b], **draft.some_forward())
         draft.return_part(12 if waits else 0)
-        steps, records = draft.pieces()
-        sheets.append(bytes([64]) + two(512) + b"".join(steps) + b"".join(records))
+        sheets.append(whole_sheet(draft))
     whole = sheets[0]
     sheets.append(bytes([65]) + whole[1:])
     sheets.append(whole[:1] + two(513) + whole[3:])
@@ -149,8 +156,7 @@ def longest_sheet(rng: random.Random, gap: bool) -> bytes:
     for (i, j), fields in draft.fields.items():
         fields["at_most"] = start[j] - start[i] + draft.number()
         fields["from_end"] = start[j] - start[i] - (draft.steps[i] or 0) + draft.number()
-    steps, records = draft.pieces()
-    return bytes([64]) + two(512) + b"".join(steps) + b"".join(records)
+    return whole_sheet(draft)
 
 
 def around(sheet: bytes) -> list[bytes]:
@@ -178,10 +184,9 @@ def largest_finish_sheets(rng: random.Random) -> list[bytes]:
                 draft.put(0, rng.randrange(1, 64), after=1)
                 if all((0, v) in draft.fields for v in range(1, 64)):
                     break
-            steps, records = draft.pieces()
-            sheet = bytes([64]) + two(len(records)) + b"".join(steps) + b"".join(records)
+            sheet = whole_sheet(draft)
             verdict = p.judge(sheet, False)
-            if len(records) == 512 and verdict == wanted and "from the end of an open step" in g.finish_facts(sheet, verdict):
+            if len(draft.fields) == 512 and verdict == wanted and "from the end of an open step" in g.finish_facts(sheet, verdict):
                 sheets.append(sheet)
                 break
     return sheets
@@ -198,11 +203,65 @@ def largest_gap_sheets(rng: random.Random) -> list[bytes]:
     return around(longest_sheet(rng, gap=True)) + [heaviest_sheet()]
 
 
-def make(seed: int, count: int, largest: bool, finish: bool = False, gap: bool = False) -> tuple[bytes, str, Counter]:
+def loose_draft(rng: random.Random) -> g.Draft:
+    """A draft of 64 steps with 480 forward links, into 42 of them."""
+    draft = g.Draft(rng, smallest=64, finish=True, gap=True, loose=True)
+    entered = rng.sample(range(1, 64), 42)
+    while len(draft.fields) < 480:
+        a, b = sorted(rng.sample(range(64), 2))
+        if draft.order[b] in entered:
+            draft.put(draft.order[a], draft.order[b], **draft.some_forward())
+    return draft
+
+
+def fill_with_returns(draft: g.Draft) -> None:
+    """Further records up to 512: that 0 comes at most so long after a step changes nothing."""
+    for v in draft.rng.sample(range(1, 64), 63):
+        draft.put(v, 0, at_most=draft.number())
+
+
+def full_loose_sheet(rng: random.Random, wanted: p.Verdict) -> bytes:
+    """A sheet of N 64 and R 512 with loose steps and this verdict where waits are not allowed."""
+    while True:
+        draft = loose_draft(rng)
+        draft.return_part(0 if wanted == ("ok", 0) else 12)
+        fill_with_returns(draft)
+        sheet = whole_sheet(draft)
+        if len(draft.fields) == 512 and p.judge(sheet, False) == wanted:
+            return sheet
+
+
+def only_returns(rng: random.Random) -> bytes:
+    """A sheet of N 64 and R 512 without any forward link: every step hangs from the start."""
+    draft = g.Draft(rng, smallest=64)
+    pairs = rng.sample([(i, j) for i in range(64) for j in range(64) if i != j], 512)
+    draft.fields = {pair: {"at_most": draft.number()} for pair in pairs}
+    return whole_sheet(draft)
+
+
+def chain_of_all(back: bool) -> bytes:
+    """A chain of steps of 65,535, each with a gap of 65,535, from step 1 on, which is loose; with `back`, to 0 again: a circle."""
+    ends = list(range(2, 64)) + ([0] if back else [])
+    steps = b"\x01" + (b"\x02" + two(65535)) * 63
+    return bytes([64]) + two(len(ends)) + steps + b"".join(bytes([9, (v or 64) - 1, v]) + two(65535) for v in ends)
+
+
+def largest_loose_sheets(rng: random.Random) -> list[bytes]:
+    """Sheets at the limits, with loose steps: N 64 and R 512 without waits, with waits, with waits that leave no times, and
+    with returns alone; N 64 and R 0; and the longest chain whose first step is loose, open and closed."""
+    full = [full_loose_sheet(rng, wanted) for wanted in (("ok", 0), ("refused", 12), ("refused", 28))]
+    bare = bytes([64]) + two(0) + b"\x01" * 64
+    return full + [only_returns(rng), bare, chain_of_all(False), chain_of_all(True)]
+
+
+def make(seed: int, count: int, largest: bool, finish: bool = False, gap: bool = False,
+         loose: bool = False) -> tuple[bytes, str, Counter]:
     """The input, what has to be printed, and how often each verdict is given."""
     rng = random.Random(seed)
-    at_limits = largest_gap_sheets if gap else largest_finish_sheets if finish else largest_sheets
-    sheets = (at_limits(rng) if largest else []) + g.generate(seed, count, finish, gap)
+    gap = gap or loose
+    at_limits = (largest_loose_sheets if loose else largest_gap_sheets if gap else
+                 largest_finish_sheets if finish else largest_sheets)
+    sheets = (at_limits(rng) if largest else []) + g.generate(seed, count, finish, gap, loose)
     taken = LONGEST_SHEET + 1 if gap else 4802 if finish else 4095     # bytes; without gaps as the stored ones were taken
     verdicts: Counter = Counter()
     data, lines = [], []
@@ -224,13 +283,15 @@ def main() -> None:
     words.add_argument("--largest", action="store_true")
     words.add_argument("--finish", action="store_true")
     words.add_argument("--gap", action="store_true")
+    words.add_argument("--loose", action="store_true")
     words.add_argument("--and-finish", type=int, default=0, metavar="COUNT")
     words.add_argument("--and-gap", type=int, default=0, metavar="COUNT")
+    words.add_argument("--and-loose", type=int, default=0, metavar="COUNT")
     asked = words.parse_args()
-    stdin, stdout, given = make(asked.seed, asked.count, asked.largest, asked.finish, asked.gap)
-    for count, gap in ((asked.and_finish, False), (asked.and_gap, True)):
+    stdin, stdout, given = make(asked.seed, asked.count, asked.largest, asked.finish, asked.gap, asked.loose)
+    for count, gap, loose in ((asked.and_finish, False, False), (asked.and_gap, True, False), (asked.and_loose, True, True)):
         if count:
-            more, lines, verdicts = make(asked.seed, count, asked.largest, True, gap)
+            more, lines, verdicts = make(asked.seed, count, asked.largest, True, gap, loose)
             stdin, stdout, given = stdin + more, stdout + lines, given + verdicts
     with open(asked.stdin, "wb") as file:
         file.write(stdin)

@@ -1,4 +1,4 @@
-"""The marked and unmarked examples of document 01 as tests, its order of refusals, and worked sheets of requests L1 and L11."""
+"""The marked and unmarked examples of document 01 as tests, its order of refusals, and worked sheets of requests L1, L3 and L11."""
 from __future__ import annotations
 
 import container
@@ -156,10 +156,6 @@ def test_order() -> None:
     assert p.read(bytes(two + [2, 0, 1])) == ("refused", 6)      # 6 before its fields
     assert p.read(bytes(two + [2, 1, 0])) == ("refused", 6)      # equal pairs do not rise
     assert p.read(bytes([2, 0, 0, 1, 0]))[0] == "ok"
-    assert p.judge(bytes([2, 0, 0, 1, 0]), True) == ("refused", 9)
-    # 8 before 9: a circle apart from step 0.
-    circle = {(1, 2): A, (2, 1): A}
-    assert p.judge(encode([None, 0, 0], circle), True) == ("refused", 8)
     # 10 before 11: both hold.
     assert p.judge(encode([None, None, 0], {(0, 1): A | {"at_least": 3, "at_most": 2},
                                             (1, 2): A | {"at_most": 9}}), True) == ("refused", 10)
@@ -393,6 +389,102 @@ def test_gap_limits() -> None:
     assert len(longest) == container.LONGEST_SHEET and p.judge(longest, False) == ("ok", 0)
     chain = encode([None] + [65535] * 63, {(v, v + 1): gap(65535) for v in range(63)})
     assert start_lines(chain, 63) == {0: 8_191_875}
+
+
+# Request L3. The stand sheet without "after start": half of its steps follow nothing.
+LOOSE_STAND = bytes.fromhex("05 03 00 01 02 03 00 01 02 02 00 02 01 00 01 01 04 01 02 03 05 03 04 02 00")
+# Document 01's two hands, likewise.
+LOOSE_HANDS = encode([None, None, None, 0, 0], {(1, 3): A, (2, 4): A, (3, 4): {"at_most": 5}})
+# No step has links.
+LOOSE_ALL = encode([None, None, 7, None], {})
+# The only forward link out of step 1 goes back to 0.
+LOOSE_CIRCLE = encode([None, None], {(1, 0): A})
+
+
+def loose(sheet: bytes) -> list[int]:
+    """The steps of a sheet that an after link from 0 is put in for."""
+    steps, records = p.read(sheet)[1]
+    return p.loose_steps(len(steps), p.links_of(steps, records))
+
+
+def test_loose_accepted() -> None:
+    """Steps that follow nothing hang from the start: half of them, then all."""
+    assert loose(LOOSE_STAND) == [1, 2] and p.standplan_text(LOOSE_STAND) == STAND_TEXT
+    assert p.starts(LOOSE_STAND, False, [0, 0, 10, 0, 0], [1] * 7) == (("ok", 0), [0, 0, 0, 10, 12, 1, 1])
+    assert p.plan(LOOSE_STAND, False, [0] * 25) == p.plan(STAND, False, [0] * 25)
+    for bare in (LOOSE_ALL, encode([None, *[None, 7] * 31, None], {})):
+        n = bare[0]
+        assert loose(bare) == list(range(1, n)) and p.judge(bare, False) == ("ok", 0)
+        assert all(start_lines(bare, v) == {0: 0} for v in range(n))
+    # Links put in are no records: 512 of these, none a forward link, and 63 more links.
+    pairs = [(i, j) for i in range(64) for j in range(64) if i != j][:512]
+    full = encode([None] * 64, {pair: {"at_most": 1} for pair in pairs})
+    assert len(loose(full)) == 63 and p.judge(full, False) == ("ok", 0) and start_lines(full, 63) == {0: 0}
+
+
+def test_loose_entered() -> None:
+    """A return does not enter a step, an at least does."""
+    # 2 not before tick 9 and at most 5 after 1: 1 hangs from 0, and the return makes it later.
+    for least, start in ((9, 4), (5, 0), (3, 0)):
+        sheet = encode([None, 0, 0], {(0, 2): {"at_least": least}, (1, 2): {"at_most": 5}})
+        assert loose(sheet) == [1] and start_lines(sheet, 1) == {0: start}
+    # At most 3 on (1, 0): a return from 0 that weighs -3; at most 3 on (0, 1): a return to 0.
+    for pair in ((1, 0), (0, 1)):
+        sheet = encode([None, 0], {pair: {"at_most": 3}})
+        assert loose(sheet) == [1] and start_lines(sheet, 1) == {0: 0}
+    # 2 is entered by an at least alone, also one of 0; 1 is not.
+    for least in (0, 4):
+        sheet = encode([None, None, 0], {(1, 2): {"at_least": least}})
+        assert loose(sheet) == [1] and start_lines(sheet, 2) == {0: least}
+    assert loose(encode([None, None, 0], {(1, 2): gap(2)})) == [1]
+
+
+def test_loose_impossible() -> None:
+    """10 and 11 by the link put in: without it the step could come before 0."""
+    for limit, verdict in ((3, ("ok", 0)), (2, ("refused", 10))):
+        sheet = encode([None, 3, 0], {(0, 2): {"at_most": limit}, (1, 2): A})
+        assert p.judge(sheet, True) == verdict
+    assert refused_everywhere(encode([None, 0, 0], {(0, 2): A | {"from_end": 5}, (1, 2): {"at_least": 6}}), 10)
+    assert refused_everywhere(encode([None, None, 0], {(0, 2): {"at_most": 9}, (1, 2): A}), 11)
+    # Limits from the loose step itself are as ever.
+    assert refused_everywhere(encode([None, None, 0], {(1, 2): A | {"at_most": 9}}), 11)
+    assert start_lines(encode([None, None, 0], {(1, 2): A | {"from_end": 9}}), 2) == {1: 0}
+
+
+def test_loose_waits() -> None:
+    """Waits of loose steps and for them, and 28; the link from 0 is put in before them."""
+    assert loose(LOOSE_HANDS) == [1, 2] and p.standplan_text(LOOSE_HANDS) == p.standplan_text(TWO_HANDS)
+    assert p.judge(LOOSE_HANDS, False) == ("refused", 12)
+    hand_waits = encode([None, None, None, 0], {(1, 3): A | {"from_end": 4}, (2, 3): A})
+    assert loose(hand_waits) == [1, 2] and p.standplan_text(hand_waits) == p.standplan_text(HAND_WAITS)
+    # 1 waits for 2, yet starts at 3 at the earliest: 3 comes at 7.
+    later = encode([None, None, None, 0], {(0, 3): {"at_least": 7}, (1, 3): A | {"from_end": 4}, (2, 3): A})
+    assert start_lines(later, 1) == {0: 3, 2: 0} and start_lines(later, 2) == {0: 0}
+    assert refused_everywhere(encode([None, None, None, 0], {(1, 3): A | {"from_end": 4}, (2, 3): A | {"from_end": 4}}), 28)
+    for least, verdict in ((5, ("ok", 1)), (6, ("refused", 28))):
+        assert p.judge(encode([None, None, 0, 0, 0], {(1, 3): A | {"from_end": 5}, (1, 4): A, (2, 3): {"at_least": least},
+                                                      (2, 4): {"at_most": 7}}), True) == verdict
+
+
+def test_loose_circles() -> None:
+    """A forward link into 0 is 8, a circle apart from 0 too; no sheet is 9."""
+    assert refused_everywhere(LOOSE_CIRCLE, 8)
+    for back in (A, {"at_least": 0}, gap(3)):
+        assert refused_everywhere(encode([None, None], {(1, 0): back}), 8)
+        assert refused_everywhere(encode([None, 0, 0], {(0, 2): A, (1, 0): back}), 8)
+        assert refused_everywhere(encode([None, 0, 0], {(1, 2): A, (2, 0): back}), 8)
+        assert refused_everywhere(encode([None, 0], {(0, 1): A, (1, 0): back}), 8)
+    assert refused_everywhere(encode([None, 0, 0], {(1, 2): A, (2, 1): A}), 8)
+    # Before 10: the circle weighs 5, and 1 is limited to tick 0.
+    assert refused_everywhere(encode([None, 0], {(0, 1): {"at_most": 0}, (1, 0): {"at_least": 5}}), 8)
+    # A return to 0 and one from it close no circle.
+    assert p.judge(encode([None, 0], {(0, 1): {"at_most": 0}, (1, 0): {"at_most": 0}}), False) == ("ok", 0)
+
+
+def test_loose_bytes() -> None:
+    """The bytes are judged as sent: the link put in stands for no bit 0."""
+    assert p.judge(bytes([2, 1, 0, 1, 0, 0x10, 0, 1, 4, 0]), True) == ("refused", 26)
+    assert p.judge(bytes([2, 1, 0, 1, 0, 0x08, 0, 1, 4, 0]), True) == ("refused", 4)
 
 
 if __name__ == "__main__":

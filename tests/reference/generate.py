@@ -1,11 +1,12 @@
 """Random sheets of all sizes and verdicts.
 
-    python3 generate.py SEED COUNT FILE [--finish | --gap] [--stats]
+    python3 generate.py SEED COUNT FILE [--finish | --gap | --loose] [--stats]
 
 FILE holds, for each sheet, two bytes of length, low byte first, then its bytes.
 With --finish, sheets have limits from the end of a step (bit 4, request L11);
-with --gap, they have gaps too (bit 3, request L1). Without these words, and with
---finish, a seed draws the same sheets as before there were any of the other kinds.
+with --gap, they have gaps too (bit 3, request L1); with --loose, they also leave out
+the forward links into some steps (request L3). Without these words, and with each of
+them, a seed draws the same sheets as before there were any of the kinds that came later.
 The planner is used only to aim (which pairs to link, how tight a limit is).
 """
 from __future__ import annotations
@@ -17,12 +18,14 @@ from dataclasses import replace
 
 import planner as p
 
-# What a sheet aims at: 0 sound, 12 waits, -1 anything, otherwise that refusal.
+# What a sheet aims at: 0 sound, 12 waits, -1 anything, 9 a loose step (that was a refusal before L3), otherwise that refusal.
 AIMS = [0, 0, 0, 12, 12, 12, 12, 1, 2, 3, 4, 5, 6, 7, 8, 9, 10, 10, 11, 11, -1, -1]
 # The same for sheets with bit 4; 28: the waits close a circle, -28: they leave no times without one.
 FINISH_AIMS = [0] * 6 + [12] * 6 + [28] * 2 + [-28] * 3 + [1, 4, 4, 5, 6, 7, 8, 9, 10, 10, 10, 11, 11, 11, 26, 26, -1, -1]
 # The same for sheets with bits 3 and 4.
 GAP_AIMS = FINISH_AIMS + [-28] * 3 + [1, 4, 4, 10, 10]
+# The same for sheets with loose steps as well; the bytes are judged as before, so few aim at their faults.
+LOOSE_AIMS = [0] * 6 + [12] * 6 + [28] * 2 + [-28] * 2 + [8] * 3 + [10] * 6 + [11] * 5 + [4, 26, -1, -1]
 
 
 def heaviest_walks(n: int, links: list[p.Link]) -> list[list[int | None]]:
@@ -55,10 +58,11 @@ def heaviest_walks(n: int, links: list[p.Link]) -> list[list[int | None]]:
 class Draft:
     """A sheet being made: steps, and fields by pair (a subset of after, at_least, at_most, gap, from_end)."""
 
-    def __init__(self, rng: random.Random, smallest: int, finish: bool = False, gap: bool = False) -> None:
+    def __init__(self, rng: random.Random, smallest: int, finish: bool = False, gap: bool = False, loose: bool = False) -> None:
         self.rng = rng
         self.finish = finish                       # with limits from the end of a step
         self.gap = gap                             # with gaps
+        self.loose = loose                         # with loose steps
         self.n = rng.choice([rng.randint(1, 5), rng.randint(2, 8), rng.randint(4, 12),
                              rng.randint(4, 12), rng.randint(9, 24), rng.randint(25, 64),
                              rng.choice([60, 61, 62, 63, 64, 64])])
@@ -101,7 +105,11 @@ class Draft:
                 for (i, j), f in sorted(self.fields.items())]
 
     def links(self) -> list[p.Link]:
-        """The links as walks follow them."""
+        """The links as walks follow them, completed if there are to be loose steps."""
+        return p.completed(self.n, self.plain_links()) if self.loose else self.plain_links()
+
+    def plain_links(self) -> list[p.Link]:
+        """The links of the records alone."""
         return p.links_of(self.steps, self.records())
 
     def forward_part(self, aim: int) -> None:
@@ -154,7 +162,7 @@ class Draft:
             wanted = 512
         known = list(self.fields)
         for _ in range(100 + 3 * wanted if aim == 12 else 3 * wanted):
-            i, j = self.rng.choice(known) if self.rng.random() < 0.4 else \
+            i, j = self.rng.choice(known) if known and self.rng.random() < 0.4 else \
                 self.rng.sample(range(self.n), 2)
             name, own = "at_most", 0
             least = max(0, start[j] - start[i])
@@ -298,6 +306,81 @@ class Draft:
                     if limit is not None and self.rng.random() < 0.5:
                         self.fields[i, j] = {"at_most": limit}
 
+    def loosen(self) -> None:
+        """Leave out the forward links into some steps: the first one, the last, any one, half of them or all.
+
+        At times such a step is then entered by a return alone, or by an at least alone.
+        """
+        others = self.order[1:]
+        if not others:
+            return
+        chosen = self.rng.choice([[1], [self.n - 1], [self.rng.choice(others)], others,
+                                  *[[v for v in others if self.rng.random() < 0.5]] * 4])
+        for v in chosen:
+            for i, j in list(self.fields):
+                if j == v:
+                    del self.fields[i, j]
+            u = self.order[self.rng.randrange(self.order.index(v))]
+            enter = self.rng.random()
+            if enter < 0.15:
+                self.put(u, v, at_least=self.number())
+            elif enter < 0.3:                      # a return from 0: v may come so long before it
+                self.put(v, 0, at_most=self.number())
+
+    def unsaid(self) -> None:
+        """Leave out after links from 0 that completing puts in again: those without more to them, nothing else entering."""
+        entered = Counter(link.target for link in p.forward(self.links()))
+        for v in range(1, self.n):
+            fields = self.fields.get((0, v), {})
+            if entered[v] == 1 and "after" in fields and not {"gap", "from_end"} & set(fields) and self.rng.random() < 0.8:
+                del fields["after"]
+                if not fields:
+                    del self.fields[0, v]
+
+    def back_to_start(self) -> None:
+        """Aim at 8: a forward link into 0, at times the only one out of its step and that one loose."""
+        if self.n > 1:
+            v = self.rng.choice([1, self.rng.choice(self.order[1:])])
+            if self.rng.random() < 0.5:
+                self.fields = {pair: fields for pair, fields in self.fields.items() if v not in pair}
+            self.put(v, 0, **self.some_forward())
+
+    def limit_from_start(self, j: int, limit: int) -> None:
+        """A limit from step 0 on j, at times from its end, which is the same."""
+        limit = min(max(limit, 0), 65535)
+        if self.rng.random() < 0.3:
+            self.put(0, j, after=1, from_end=limit)
+        else:
+            self.put(0, j, at_most=limit)
+
+    def hang_tight(self) -> None:
+        """Aim at 10: what follows a loose step is limited so that this one had to come before 0 (at times it just need not)."""
+        plain = self.plain_links()
+        known = p.heaviest_from(self.n, plain, {0: 0}) or [None] * self.n
+        pairs = []
+        for v in p.loose_steps(self.n, plain):
+            best = p.heaviest_from(self.n, plain, {v: 0}) or []
+            pairs += [(j, weight) for j, weight in enumerate(best) if j and weight is not None
+                      and max(0, known[j] or 0) < weight <= 65536]
+        if pairs:
+            j, weight = self.rng.choice(pairs)
+            self.limit_from_start(j, weight - self.rng.choice([0, 1, 1, weight - max(0, known[j] or 0)]))
+        else:
+            self.too_tight()
+
+    def hang_long(self) -> None:
+        """Aim at 11: what follows the end of a loose open step is limited from step 0."""
+        plain = self.plain_links()
+        loose, known = p.loose_steps(self.n, plain), p.reached(plain, {0})
+        behind = {a: p.reached(plain, p.after_targets(plain, a)) for a in p.open_steps(self.steps)}
+        before = {0}.union(*(behind[a] for a in behind if a in known))
+        ends = sorted(set().union(*(behind[a] for a in behind if a in loose)) - before)
+        if ends:
+            j = self.rng.choice(ends)
+            self.limit_from_start(j, self.base()[j] + self.rng.randint(0, self.top))
+        else:
+            self.stretch()
+
     def too_tight(self) -> None:
         """Aim at 10: an at most just below the heaviest walk (at times just at it)."""
         best = heaviest_walks(self.n, self.links())
@@ -419,29 +502,40 @@ def cut_in_gap(rng: random.Random, records: list[bytes]) -> list[bytes]:
     return records[:at] + [records[at][:before + rng.choice([0, 1])]]
 
 
-def random_sheet(rng: random.Random, finish: bool = False, gap: bool = False) -> bytes:
-    """One random sheet in bytes; one with gaps has limits from the end of a step too."""
+def random_sheet(rng: random.Random, finish: bool = False, gap: bool = False, loose: bool = False) -> bytes:
+    """One random sheet in bytes; one with gaps has limits from the end of a step too, one with loose steps both."""
+    gap = gap or loose
     finish = finish or gap
-    aim = rng.choice(GAP_AIMS if gap else FINISH_AIMS if finish else AIMS)
-    sheet = aimed_sheet(rng, aim, finish, gap)
-    for _ in range(3 if finish and aim == 12 else 0):      # waits are often 28 here: try again
-        if p.judge(sheet, False) == ("refused", 12):
+    aim = rng.choice(LOOSE_AIMS if loose else GAP_AIMS if gap else FINISH_AIMS if finish else AIMS)
+    sheet = aimed_sheet(rng, aim, finish, gap, loose)
+    for _ in range(3 if finish and aim == 12 or loose and aim in (10, 11) else 0):
+        if met(sheet, aim):
             break
-        sheet = aimed_sheet(rng, aim, finish, gap)
+        sheet = aimed_sheet(rng, aim, finish, gap, loose)  # waits are often 28 here, links from 0 seldom decide: try again
     return sheet
 
 
-def aimed_sheet(rng: random.Random, aim: int, finish: bool, gap: bool) -> bytes:
+def met(sheet: bytes, aim: int) -> bool:
+    """Whether a sheet that aims at 12, 10 or 11 is refused so, by the links from 0 if it is 10 or 11."""
+    verdict = p.judge(sheet, False)
+    return verdict == ("refused", aim) and (aim == 12 or "by the links from 0" in loose_facts(sheet, verdict))
+
+
+def aimed_sheet(rng: random.Random, aim: int, finish: bool, gap: bool, loose: bool) -> bytes:
     """One random sheet in bytes that aims at this."""
-    draft = Draft(rng, smallest=4 if aim in (12, 28, -28) else 1, finish=finish, gap=gap)
+    draft = Draft(rng, smallest=4 if aim in (12, 28, -28) else 1, finish=finish, gap=gap, loose=loose)
     if aim == -1:
         draft.anything()
-    elif gap and aim in (10, -28) and rng.random() < 0.5:
+    elif gap and aim in (10, -28) and rng.random() < (0.2 if loose else 0.5):
         draft.forward_part(12)
+        if loose:
+            draft.loosen()
         draft.return_part(12)
         draft.tight_gap(with_waits=aim == -28)
     else:
         draft.forward_part(aim)
+        if loose:
+            draft.loosen()
         if aim == 12 or rng.random() < (0.3 if aim in (28, -28) else 0.9):
             draft.return_part(aim if aim in (0, 12) else 0 if aim in (28, -28) else rng.choice([0, 12, -1, -1]))
         if aim in (28, -28) or (finish and aim in (10, 11) and rng.random() < 0.2):
@@ -449,7 +543,12 @@ def aimed_sheet(rng: random.Random, aim: int, finish: bool, gap: bool) -> bytes:
         # A later fault under an earlier one, at times.
         later = [k for k in (8, 9, 10, 11) if k > aim and 0 < aim < 11 and rng.random() < 0.15]
         for k in ([aim] if aim in (8, 9, 10, 11) else []) + later:
-            {8: draft.circle, 9: draft.cut_off, 10: draft.too_tight, 11: draft.stretch}[k]()
+            faulty = {8: draft.circle, 9: draft.cut_off, 10: draft.too_tight, 11: draft.stretch}
+            if loose and rng.random() < 0.7:
+                faulty |= {8: draft.back_to_start, 10: draft.hang_tight, 11: draft.hang_long}
+            faulty[k]()
+    if loose:
+        draft.unsaid()
     steps, records = draft.pieces()
     n, r = draft.n, len(records)
     faults = [aim] if 2 <= aim <= 6 or aim == 26 else []
@@ -472,10 +571,10 @@ def aimed_sheet(rng: random.Random, aim: int, finish: bool, gap: bool) -> bytes:
     return data
 
 
-def generate(seed: int, count: int, finish: bool = False, gap: bool = False) -> list[bytes]:
-    """`count` random sheets for a seed, with limits from the end of a step, with gaps too, or as before these."""
+def generate(seed: int, count: int, finish: bool = False, gap: bool = False, loose: bool = False) -> list[bytes]:
+    """`count` random sheets for a seed, with limits from the end of a step, gaps too, loose steps too, or as before these."""
     rng = random.Random(seed)
-    return [random_sheet(rng, finish, gap) for _ in range(count)]
+    return [random_sheet(rng, finish, gap, loose) for _ in range(count)]
 
 
 def container(sheets: list[bytes]) -> bytes:
@@ -529,9 +628,45 @@ def finish_facts(sheet: bytes, verdict: p.Verdict) -> set[str]:
         if record.from_end is not None:
             facts |= {f"from the end of {step_kind(steps, record.i)}", f"map {map_of(record):x}h"}
     if verdict == ("refused", 28):
-        links = p.links_of(steps, records)
+        links = p.completed(len(steps), p.links_of(steps, records))
         ahead = p.forward(links) + [p.Link(a, i, 0, "after") for a, i in p.waits_of(steps, links)]
         facts.add("by a circle" if p.circle(len(steps), ahead) else "without a circle")
+    return facts
+
+
+def by_completing(steps: list[p.Step], links: list[p.Link], refusal: int) -> bool:
+    """Whether a refusal 8, 10 or 11 is due to completing: with these links alone it would not be given."""
+    n = len(steps)
+    if refusal == 8:
+        return not p.circle(n, p.forward(links))
+    if refusal == 10:
+        return not p.no_times(n, links)
+    return refusal == 11 and not p.outgrown(steps, links)
+
+
+def loose_facts(sheet: bytes, verdict: p.Verdict) -> set[str]:
+    """What is to be counted of a sheet that is read, about steps that no forward link enters."""
+    steps, records = p.read(sheet)[1]
+    n = len(steps)
+    links = p.links_of(steps, records)
+    loose = p.loose_steps(n, links)
+    facts = {f"{step_kind(steps, v)} loose" for v in loose}
+    facts |= {f"the {place} step loose" for place, v in (("first", 1), ("last", n - 1)) if v in loose}
+    if loose:
+        facts.add("all loose" if len(loose) == n - 1 else "half or more loose" if 2 * len(loose) >= n - 1 else "some loose")
+    if any(link.target in loose for link in links):
+        facts.add("a loose step that a return enters")
+    after = {link.target for link in links if link.kind == "after"}
+    if any(link.target not in after for link in p.forward(links)):
+        facts.add("a step that an at least alone enters")
+    if any(link.target == 0 for link in p.forward(links)):
+        facts.add("a forward link into 0")
+    if verdict[0] == "refused" and by_completing(steps, links, verdict[1]):
+        facts.add("by the links from 0")
+    if verdict in (("refused", 12), ("refused", 28)):
+        waits = p.waits_of(steps, p.completed(n, links))
+        facts |= {"a wait for a loose step" for a, _ in waits if a in loose}
+        facts |= {"a wait of a loose step" for _, i in waits if i in loose}
     return facts
 
 
@@ -549,7 +684,7 @@ def statistics(sheets: list[bytes]) -> str:
                   f"R {'0-16' if r < 17 else '17-128' if r < 129 else '129-511' if r < 512 else '512'}",
                   "waits" if verdict[1] == 12 else "sound"] += 1
         if p.read(sheet)[0] == "ok":
-            facts = finish_facts(sheet, verdict) | gap_facts(sheet, verdict)
+            facts = finish_facts(sheet, verdict) | gap_facts(sheet, verdict) | loose_facts(sheet, verdict)
             told.update(f"{verdict[0]} {verdict[1]}, {about}" for about in facts)
     lines = [f"{kind} {k}: {verdicts[kind, k]}" for kind, k in sorted(verdicts)]
     lines += [f"{about}: {told[about]}" for about in sorted(told)]
@@ -558,7 +693,7 @@ def statistics(sheets: list[bytes]) -> str:
 
 
 if __name__ == "__main__":
-    made = generate(int(sys.argv[1]), int(sys.argv[2]), "--finish" in sys.argv[4:], "--gap" in sys.argv[4:])
+    made = generate(int(sys.argv[1]), int(sys.argv[2]), *(f"--{word}" in sys.argv[4:] for word in ("finish", "gap", "loose")))
     with open(sys.argv[3], "wb") as file:
         file.write(container(made))
     if "--stats" in sys.argv[4:]:

@@ -1,4 +1,4 @@
-"""Reference stand planner, written from document 01 (01-scope.md) and requests L1 and L11 of document 02 alone.
+"""Reference stand planner, written from document 01 (01-scope.md) and requests L1, L3 and L11 of document 02 alone.
 
 Verdicts are ("ok", x) or ("refused", k).  Lent lists are never changed in
 place: each call returns them as they are afterwards.
@@ -147,6 +147,17 @@ def forward(links: list[Link]) -> list[Link]:
     return [link for link in links if link.kind in ("after", "at least")]
 
 
+def loose_steps(n: int, links: list[Link]) -> list[int]:
+    """The steps other than 0 that no forward link enters."""
+    entered = {link.target for link in forward(links)}
+    return [v for v in range(1, n) if v not in entered]
+
+
+def completed(n: int, links: list[Link]) -> list[Link]:
+    """L3: the links with an after link from 0 to each loose step; all that follows is taken on these."""
+    return links + [Link(0, v, 0, "after") for v in loose_steps(n, links)]
+
+
 def from_the_end(links: list[Link], a: int) -> list[Link]:
     """The links that a walk counting from the end of a may take: no return to a that is from its end.
 
@@ -192,7 +203,7 @@ def start_sets(steps: list[Step], links: list[Link]) -> list[set[int]]:
 
 
 def waits_of(steps: list[Step], links: list[Link]) -> list[tuple[int, int]]:
-    """The waits (a, i), by a, then by i, judged on the sheet as sent."""
+    """The waits (a, i), by a, then by i, judged on the sheet as sent (completed, no waits in)."""
     sets = start_sets(steps, links)
     found = set()
     for a in open_steps(steps):
@@ -245,7 +256,7 @@ def deciding_sets(offsets: list[dict[int, int]]) -> list[dict[int, int]]:
 
 @dataclass(frozen=True)
 class Accepted:
-    """An accepted sheet: its steps, its waits, and its links with the waits in."""
+    """An accepted sheet: its steps, its waits, and its links, completed and with the waits in."""
 
     steps: list[Step]
     waits: list[tuple[int, int]]
@@ -267,19 +278,21 @@ def no_times(n: int, links: list[Link]) -> bool:
     return heaviest_from(n, links, dict.fromkeys(range(n), 0)) is None
 
 
+def outgrown(steps: list[Step], links: list[Link]) -> bool:
+    """Whether some open step can last too long: a walk that counts from its end comes back to it."""
+    return any(a in reached(from_the_end(links, a), after_targets(links, a)) for a in open_steps(steps))
+
+
 def accept(sheet: bytes, allow_waits: bool) -> Accepted:
-    """The accepted sheet; raises refusals 1 to 12, 26 and 28."""
+    """The accepted sheet; raises refusals 1 to 8, 10 to 12, 26 and 28."""
     steps, records = _read(sheet)
     n = len(steps)
-    links = links_of(steps, records)
-    ahead = forward(links)
-    if circle(n, ahead):
+    links = completed(n, links_of(steps, records))
+    if circle(n, forward(links)):
         raise Refusal(8)
-    if len(reached(ahead, {0})) < n:
-        raise Refusal(9)
     if no_times(n, links):
         raise Refusal(10)
-    if any(a in reached(from_the_end(links, a), after_targets(links, a)) for a in open_steps(steps)):
+    if outgrown(steps, links):
         raise Refusal(11)
     waits = waits_of(steps, links)
     whole = links + [Link(a, i, 0, "after") for a, i in waits]
@@ -291,7 +304,7 @@ def accept(sheet: bytes, allow_waits: bool) -> Accepted:
 
 
 def judge(sheet: bytes, allow_waits: bool) -> Verdict:
-    """Judge a sheet: ("ok", 0) sound, ("ok", 1) sound with waits, or ("refused", 1 to 12, 26 or 28)."""
+    """Judge a sheet: ("ok", 0) sound, ("ok", 1) sound with waits, or ("refused", 1 to 8, 10 to 12, 26 or 28)."""
     try:
         return accept(sheet, allow_waits).verdict
     except Refusal as refusal:

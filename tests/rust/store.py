@@ -15,6 +15,7 @@ import planner as p  # noqa: E402
 
 EACH = 4                       # sheets for each verdict
 EACH_FINISH = 2                # the same with limits from the end of a step
+EACH_LOOSE = 1                 # the same with steps that no forward link enters
 
 
 def words(numbers):
@@ -57,6 +58,19 @@ def chosen_finish():
     return sheets
 
 
+def chosen_loose():
+    """Sheets with steps that no forward link enters: the worked ones, then random ones, a few for each verdict."""
+    sheets = [examples.LOOSE_STAND, examples.LOOSE_HANDS, examples.LOOSE_ALL, examples.LOOSE_CIRCLE]
+    counts = {}
+    for sheet in generate.generate(2026, 300, loose=True):
+        verdict = p.judge(sheet, False)
+        small = sheet and sheet[0] <= 12 and len(sheet) < 400
+        if counts.get(verdict, 0) < EACH_LOOSE and small and p.read(sheet)[0] == "ok" and examples.loose(sheet):
+            counts[verdict] = counts.get(verdict, 0) + 1
+            sheets.append(sheet)
+    return sheets
+
+
 def durations(rng, sheet, size):
     """A random list: 0 for fixed steps; at times one number is wrong."""
     read = p.read(sheet)
@@ -75,7 +89,7 @@ def words_of(verdict):
 def answers():
     """The lines of data/answers.txt."""
     rng = random.Random(1)
-    for sheet in chosen() + chosen_finish():
+    for sheet in chosen() + chosen_finish() + chosen_loose():
         # A refused sheet is lent little: no size makes a difference.
         n = (sheet[0] if p.judge(sheet, True)[0] == "ok" else 3) if sheet else 0
         yield f"sheet {sheet.hex()}"
@@ -163,7 +177,7 @@ def sheet_runs(rng, sheets):
 
 def runs():
     """The lines of data/runs.txt: the paper's run, runs of accepted sheets, then runs from any state on any table, then
-    runs of accepted sheets with limits from the end of a step."""
+    runs of accepted sheets with limits from the end of a step and with loose ones."""
     yield from paper_run()
     rng = random.Random(2)
     yield from sheet_runs(rng, chosen())
@@ -174,7 +188,7 @@ def runs():
                         rng.getrandbits(64) | 1, rng.getrandbits(64),
                         tuple(rng.getrandbits(32) for _ in range(64)), tuple(rng.choice([0, 3, rng.getrandbits(32)]) for _ in range(64)))
         yield from calls(rng, state, n, state.open, table, 12)
-    yield from sheet_runs(rng, chosen_finish())
+    yield from sheet_runs(rng, chosen_finish() + chosen_loose())
 
 
 def main():

@@ -8,7 +8,7 @@ namespace planner {
 
 struct BellmanFord {
     struct Link { uint8_t from, to; int8_t late; int32_t weight; };    // late: the anchor whose own walks do not take it, or -1
-    struct List { int count; Link link[most_records * 3 + most_steps * most_steps]; };
+    struct List { int count; Link link[most_forward + most_returns + most_steps * most_steps]; };
     static constexpr int32_t unreached = INT32_MIN;
 
     static int stride(const Graph &g) { return g.anchors; }

@@ -1,8 +1,8 @@
 """Compares the second planner with the reference planner: python3 check.py LIBRARY SEED COUNT [KIND]
 
-COUNT sheets of the kind, finish (limits from the finish) or gap (gaps after the finish), and the largest ones of it; without a kind, COUNT sheets with neither
-and COUNT of the kind finish. Of each: judging with and without waits, listing waits, planning, and starts for one to three lists, verdicts and every lent
-number. The first difference ends the run with status 1."""
+COUNT sheets of the kind, finish (limits from the finish), gap (gaps after the finish) or loose (steps that follow nothing), and the largest ones of it;
+without a kind, COUNT sheets with neither limit from the finish nor gap and COUNT of the kind finish. Of each: judging with and without waits, listing waits,
+planning, and starts for one to three lists, verdicts and every lent number. The first difference ends the run with status 1."""
 import ctypes as c
 import pathlib
 import random
@@ -81,6 +81,8 @@ def check(rng: random.Random, sheet: bytes, seen: Counter) -> None:
 
 def draw(rng: random.Random, kind: str, seed: int, count: int) -> list[bytes]:
     """The largest sheets of a kind, and so many others."""
+    if kind == "loose":
+        return container.largest_loose_sheets(rng) + generate.generate(seed, count, loose=True)
     if kind == "gap":
         return container.largest_gap_sheets(rng) + generate.generate(seed, count, gap=True)
     if kind == "finish":
@@ -89,12 +91,12 @@ def draw(rng: random.Random, kind: str, seed: int, count: int) -> list[bytes]:
 
 
 def main() -> None:
-    """Check the kind that is asked for, or the other two, and say how often each verdict was given."""
+    """Check the kind that is asked for, or the first two, and say how often each verdict was given."""
     seed, count = int(sys.argv[2]), int(sys.argv[3])
-    said = {"": "", "finish": " with limits from the finish", "gap": " with gaps"}
+    said = {"": "", "finish": " with limits from the finish", "gap": " with gaps", "loose": " with steps that follow nothing"}
     kinds = sys.argv[4:] or ["", "finish"]
     if not set(kinds) <= set(said):
-        sys.exit("a kind is finish or gap")
+        sys.exit("a kind is finish, gap or loose")
     for kind in kinds:
         rng, seen = random.Random(seed), Counter()
         sheets = draw(rng, kind, seed, count)

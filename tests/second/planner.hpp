@@ -1,4 +1,4 @@
-// A planner from document 01 and requests L1 and L11, generic in how heaviest walks are found.
+// A planner from document 01 and requests L1, L3 and L11, generic in how heaviest walks are found.
 //
 // A Kernel has three functions over a Graph (below):
 //   static int stride(const Graph &g)    the cells of a row, at least g.anchors and at most 64;
@@ -22,6 +22,8 @@ using std::uint8_t;
 using std::int32_t;
 
 constexpr int most_steps = 64, most_records = 512;
+constexpr int most_loose = most_steps - 1;                       // steps that follow nothing
+constexpr int most_forward = most_loose + most_records, most_returns = 2 * most_records;
 constexpr uint32_t longest = 16777215u, refused = 256;
 
 inline uint64_t bit(int k) { return uint64_t(1) << k; }
@@ -40,14 +42,14 @@ struct Graph {
     bool gaps;                              // some record has a gap
     uint64_t open;                          // open steps, without 0
     uint16_t first[most_steps + 1];         // forward links out of v: first[v] to first[v + 1]
-    Forward forward[most_records];
-    Return back[2 * most_records];
+    Forward forward[most_forward];          // those that are put in stand before those of the records
+    Return back[most_returns];
     uint16_t duration[most_steps];
     uint8_t incoming[most_steps];           // forward links into v
     uint8_t order[most_steps];              // steps in forward order
     uint8_t anchor[most_steps];             // the number of an open step
     uint8_t step[most_steps];               // the step of an anchor
-    uint64_t set[most_steps];               // start set: anchors, as sent and then with the waits in
+    uint64_t set[most_steps];               // start set: anchors, first without and then with the waits
     uint64_t need[most_steps];              // waits into a step: anchors
     uint64_t out[most_steps];               // waits out of an anchor: steps
     bool waits;
@@ -99,8 +101,8 @@ inline int read(Graph &g, const uint8_t *p, size_t length) {
     }
     g.open &= ~uint64_t(1);
     g.late = g.gaps = false;
-    int links = 0, returns = 0, source = 0, last = -1;
-    g.first[0] = 0;
+    int links = most_loose, returns = 0, source = 0, last = -1;
+    g.first[0] = links;
     for (int r = 0; r < records; r++) {
         if (end - p < longest_record && cut(p, end, n, last)) return 1;
         const int map = *p, size = record_bytes[map];
@@ -146,17 +148,27 @@ inline int read(Graph &g, const uint8_t *p, size_t length) {
     return p == end ? 0 : 7;
 }
 
-// Forward order, numbers of anchors and start sets as sent: refusals 8 and 9.
-inline int sort(Graph &g) {
-    const int n = g.steps;
+// Puts in an after link from step 0 into each other step that no forward link enters.
+inline void complete(Graph &g) {
+    int first = g.first[0];
+    for (int v = g.steps - 1; v > 0; v--) {
+        if (g.incoming[v]) continue;
+        g.forward[--first] = Forward{uint8_t(v), 1, 0, 0};
+        g.incoming[v] = 1;
+    }
+    g.first[0] = first;
+}
+
+// Forward order, numbers of anchors and start sets without waits; false where forward links close a circle. The order can begin with step 0 alone, and
+// does not begin where a link enters it.
+inline bool sort(Graph &g) {
     uint8_t left[most_steps];
-    int ready = 0, ends = 0;
-    for (int v = 0; v < n; v++) {
+    for (int v = 0; v < g.steps; v++) {
         left[v] = g.incoming[v];
         g.set[v] = 1;
-        if (left[v] == 0) g.order[ready++] = v;
     }
-    const bool from_start = ready == 1 && g.order[0] == 0;
+    int ready = left[0] == 0, ends = 0;
+    g.order[0] = 0;
     g.anchors = 1;
     g.step[0] = 0;
     g.anchor[0] = 0;
@@ -176,8 +188,7 @@ inline int sort(Graph &g) {
             if (--left[f.to] == 0) g.order[ready++] = f.to;
         }
     }
-    if (ready < n) return 8;
-    return from_start ? 0 : 9;
+    return ready == g.steps;
 }
 
 // What walks from the end of each anchor reach, into g.set, and the waits that this calls for. Says whether such a walk comes back to its anchor: 11.
@@ -250,7 +261,8 @@ inline bool sort_waits(Graph &g) {
 // Refusals up to 11, and the waits. Circles are looked for only if wanted: without late returns no circle uses a wait, so that the offsets tell 10 too.
 template <class Kernel> int prepare(Graph &g, const uint8_t *sheet, size_t length, bool offsets_follow) {
     if (int k = read(g, sheet, length)) return k;
-    if (int k = sort(g)) return k;
+    complete(g);
+    if (!sort(g)) return 8;
     const bool back = reach(g);
     if ((back || g.late || !offsets_follow) && Kernel::circle(g)) return 10;
     return back ? 11 : 0;

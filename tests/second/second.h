@@ -1,4 +1,4 @@
-/* The second planner: the four planner calls of include/standplan.h under other names, written apart, from document 01, requests L1 and L11 and docs/.
+/* The second planner: the four planner calls of include/standplan.h under other names, written apart, from document 01, requests L1, L3 and L11 and docs/.
  * Arguments, verdicts and what happens to lent memory are as there. */
 #ifndef SECOND_H
 #define SECOND_H

@@ -1,5 +1,6 @@
 """The documents for newcomers: each command of docs/GUIDE.md prints what stands under it, the tables of docs/FORMAT.md hold the bytes and the text of the
-examples, each stored plan is its sheet's, and files, theorems and contracts that docs/ names are there."""
+examples, the smallest sheets of docs/REFUSALS.md are refused as it says, each stored plan is its sheet's, and files, theorems and contracts that docs/ names
+are there."""
 import re
 import subprocess
 import sys
@@ -33,13 +34,29 @@ def format_tables():
     """The tables with bytes, text and meaning, one for each example that is named in front of it."""
     text = (ROOT / "docs/FORMAT.md").read_text("utf-8")
     found = re.findall(r"^`([0-9a-f ]+)` \(examples/(\w+)\.sheet.*?\n\n\| bytes \| as text \| meaning \|\n\|---\|---\|---\|\n((?:\|.*\n)+)", text, re.MULTILINE)
-    assert [name for _, name, _ in found] == ["stand", "exposure", "lip"], found
+    assert [name for _, name, _ in found] == ["stand", "exposure", "lip", "loose"], found
     for line, name, rows in found:
         cells = [[cell.strip(" `") for cell in row.split("|")[1:3]] for row in rows.splitlines()]
         data = (ROOT / f"examples/{name}.sheet").read_bytes()
         assert bytes.fromhex(line) == data, f"docs/FORMAT.md: the bytes of {name}"
         pieces = [[part.hex(" "), written] for part, written in sheets.pieces(sheets.from_bytes(data))]
         assert cells == pieces, f"docs/FORMAT.md: the table of {name}: {cells}, not {pieces}"
+
+
+def smallest():
+    """By tools/explain: those that cannot be read, in bytes; the others in bytes and as text, and the one of the retired number, which is accepted."""
+    text = (ROOT / "docs/REFUSALS.md").read_text("utf-8")
+    found = [(number, data, "") for number, data in re.findall(r"^\| `refused (\d+)` \| (?:none|`([0-9a-f ]+)`) \|", text, re.MULTILINE)]
+    found += re.findall(r"^\*\*(?:`refused (\d+)`|9 is retired\.)\*\*,? `([0-9a-f ]+)`.*?^```text\n(.*?)^```$", text, re.MULTILINE | re.DOTALL)
+    for number, data, lines in found:
+        given = [bytes.fromhex(data)]
+        if lines:
+            given.append(lines.encode())
+            assert sheets.to_bytes(sheets.from_text(given[1])) == given[0], f"docs/REFUSALS.md: {data}"
+        for sheet in given:
+            said = subprocess.run([ROOT / "tools/explain", *(["--no-waits"] if number == "12" else []), "-"], input=sheet, stdout=subprocess.PIPE).stdout.decode()
+            assert said.startswith(f"refused {number}: " if number else "verdict 0 "), f"docs/REFUSALS.md: {data}: {said}"
+    assert [number for number, *_ in found] == ["1", "2", "3", "4", "26", "5", "6", "7", "8", "", "10", "11", "28", "12"], found
 
 
 def plans():
@@ -75,6 +92,7 @@ def names():
 if __name__ == "__main__":
     ran = commands()
     format_tables()
+    smallest()
     plans()
     found = names()
     print(f"{ran} commands of the guide print what it says; {found} names in the documents are there")

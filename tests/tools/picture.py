@@ -86,7 +86,7 @@ def whole(what, wide, high, texts):
 
 def linked(what, sheet, starts, ends, svg):
     """With links each forward link is a path from the tick that it counts from to the earliest that it allows, black exactly if it leaves no tick to spare;
-    a gap has a label, bold then; and so for limits."""
+    a gap has a label, bold then; and so for limits. Steps that nothing leads into have a label, and a dashed path from the start."""
     wide, high, texts, _, _ = drawn(svg)
     whole(what, wide, high, texts)
     x, root = placed(texts), tree.fromstring(svg)
@@ -94,8 +94,10 @@ def linked(what, sheet, starts, ends, svg):
     for e in root.iterfind(".//{*}path"):
         if e.get("fill") == "none" and e.get("shape-rendering"):
             since, earliest = re.match(r"M([\d.]+) [\d.]+(?:v[-\d.]+H([\d.]+))?", e.get("d")).groups()
+            check(e.get("stroke-dasharray"), "4 3" if e.get("stroke") == tool.GREY else None, f"{what}: dashes")
             paths.append((e.get("stroke"), float(since), float(earliest or since)))
-    wanted, gaps = [], []
+    loose = set(range(1, len(starts))) - {j for (_, j), words in sheet.links.items() if tool.AFTER in words or tool.AT_LEAST in words}
+    wanted, gaps = [(tool.GREY, x(0), x(0))] * len(loose), []
     for (i, j), words in sorted(sheet.links.items()):
         for word, since in ((tool.AFTER, ends[i]), (tool.AT_LEAST, starts[i])):
             if word in words:
@@ -103,7 +105,9 @@ def linked(what, sheet, starts, ends, svg):
                 wanted.append((tool.INK if earliest == starts[j] else tool.SPARE, x(since), x(earliest)))
         if words.get(tool.AFTER) is not None:
             gaps.append((f"gap {words[tool.AFTER]} after {i} ends", "bold" if ends[i] + words[tool.AFTER] == starts[j] else "normal"))
-    for colour in (tool.INK, tool.SPARE):
+    check(sum(text == "hangs from the start" for *_, text in texts), len(loose), f"{what}: labels of steps that nothing leads into")
+    check(sum(text == tool.ADDED for *_, text in texts), bool(loose), f"{what}: their legend")
+    for colour in (tool.INK, tool.SPARE, tool.GREY):
         same_places([places for stroke, *places in paths if stroke == colour], [places for stroke, *places in wanted if stroke == colour], f"{what}: links")
     check(len(paths), len(wanted), f"{what}: links")
     check(sorted((e.text, e.get("font-weight")) for e in root.iterfind(".//{*}text") if e.text.startswith("gap ")), sorted(gaps), f"{what}: gaps")
@@ -183,6 +187,35 @@ link 2 3 after gap 0 at-most 2
     check([line for line in lines if "gap" in line], [f'  {i} -> {j} [label="gap {gap}"];' for i, j, gap in ((0, 1, 4), (1, 2, 6), (1, 3, 5), (2, 3, 0))], "gaps of a graph")
 
 
+def loose():
+    """Steps that nothing leads into, with start times worked out by hand: two at tick 0, one later, behind a wait; and their graph."""
+    sheet = sheets.from_text(b"""step 0 open
+step 1 fixed 3 # lamps
+step 2 open # hand
+step 3 fixed 2 # lens
+step 4 fixed 1 # exposure
+link 0 1 at-most 90
+link 1 4 after
+link 2 4 after
+link 3 4 after at-most 2
+""")
+    durations, waits, starts, ends = [0, 0, 10, 0, 0], [[], [], [], [2], []], [0, 0, 0, 10, 12], [0, 3, 10, 12, 13]
+    plain, svg = (tool.picture("a title", sheet, durations, waits, starts, links) for links in (False, True))
+    assert "hangs" not in plain and tool.ADDED not in plain, "without links"
+    linked("loose steps", sheet, starts, ends, svg)
+    check(svg.count(f'stroke="{tool.GREY}" stroke-width="1" stroke-dasharray="4 3" shape-rendering'), 3, "dashed paths")
+    lines = tool.graph("a title", sheet, waits).splitlines()
+    check([line for line in lines if re.match(r"  0 -> ", line)],
+          [f'  0 -> 1 [label="at most 90", color="{tool.LIMIT}", fontcolor="{tool.LIMIT}", style=dashed, constraint=false];', *(f"  0 -> {v} [style=dashed];" for v in (1, 2, 3))],
+          "a graph's lines from the start")
+    assert f"purple: wait, grey dashes: {tool.ADDED}" in lines[1], lines[1]
+    # Where each step is entered nothing is dashed; the start alone hangs from nothing.
+    for text in (b"step 0 open\n", b"step 0 open\nstep 1 open\nlink 0 1 at-least 0\n"):
+        sheet = sheets.from_text(text)
+        n = len(sheet.steps)
+        assert "dash" not in tool.graph("a title", sheet, [[]] * n) + tool.picture("a title", sheet, [0] * n, [[]] * n, [0] * n, True), text
+
+
 def ran(*words, given=b""):
     done = subprocess.run([TOOL, *words], capture_output=True, cwd="/", input=given)
     return done.returncode, done.stdout, done.stderr.decode()
@@ -197,8 +230,8 @@ def command():
         path = Path(place) / "a <sheet>"
         path.write_text("step 0 open # <&>\nstep 1 open\nlink 0 1 after\n")
         assert "0 <&>" in [text for *_, text in drawn(ran(path)[1])[2]]
-        path.write_text("step 0 open\nstep 1 open\n")
-        check(ran(path), (1, b"", f"{path}: refused 9: a step has no chain of forward links from step 0\n"), "a sheet that is refused")
+        path.write_text("step 0 open\nstep 1 open\nlink 1 0 after\n")
+        check(ran(path), (1, b"", f"{path}: refused 8: forward links close a circle\n"), "a sheet that is refused")
         path.write_text("step 0 open\nstep 1 opens\n")
         check(ran(path), (1, b"", f"{path}: line 2: a step is 'open' or 'fixed' and its ticks\n"), "a text that is no sheet")
         path.write_bytes(b"A")
@@ -252,16 +285,16 @@ def graphs():
     """Each step, link and wait of a graph, by its own lines, and whether dot takes it, if dot is there. A sheet that is refused is drawn without waits."""
     dot, count = shutil.which("dot"), 0
     odd = b'step 0 open # a "quoted" \\ name\nstep 1 open # \\N\nlink 0 1 after\n'
-    refused = b"step 0 open\nstep 1 fixed 1\nstep 2 fixed 1\nlink 1 2 after\nlink 2 1 after at-least 3\n"
-    wanted = [("refused 8: forward links close a circle", 1, refused), ("sound", 0, odd)]
-    wanted += [("sound", 0, of_64_steps())] + [("sound with waits" if name == "hands" else "sound", 0, (ROOT / f"examples/{name}.text").read_bytes()) for name in ("stand", "hands", "exposure", "lip")]
+    refused = [b"step 0 open\nstep 1 fixed 1\nstep 2 fixed 1\nlink 1 2 after\nlink 2 1 after at-least 3\n", b"step 0 open\nstep 1 open\nlink 1 0 after\n"]
+    wanted = [*(("refused 8: forward links close a circle", 1, data) for data in refused), ("sound", 0, odd)]
+    wanted += [("sound", 0, of_64_steps())] + [("sound with waits" if name == "hands" else "sound", 0, (ROOT / f"examples/{name}.text").read_bytes()) for name in ("stand", "hands", "exposure", "lip", "loose")]
     for verdict, status, data in wanted:
         found, printed, said = ran("--graph", "-", given=data)
         check((found, said), (status, f"standard input: {verdict}\n" if status else ""), verdict)
         sheet, text = sheets.from_either(data), printed.decode()
         assert f"standard input: {verdict}\\n" in text, text
         lines = text.splitlines()
-        links = sum(len(words) for words in sheet.links.values())
+        links = sum(len(words) for words in sheet.links.values()) + len(sheets.loose(sheet))
         waits = 0 if status else sum(map(len, tool.waits_of(sheets.to_bytes(sheet), len(sheet.steps))[1]))
         check(sum(bool(re.match(r"  \d+ \[label=", line)) for line in lines), len(sheet.steps), "steps of a graph")
         check(sum(bool(re.match(r"  \d+ -> \d+", line)) for line in lines), links + waits, "links of a graph")
@@ -294,6 +327,7 @@ def largest():
 
 if __name__ == "__main__":
     gaps()
+    loose()
     seen, refused = pictures()
     command()
     largest()

@@ -158,6 +158,17 @@ def longest():
     check(len(data), int(re.search(r"#define STANDPLAN_MAX_SHEET (\d+)", (ROOT / "include/standplan.h").read_text("ascii"))[1]), "its bytes, by the header")
 
 
+def loose():
+    """The steps that nothing leads into: after and at-least links do, also from such a step and in a circle; limits do not."""
+    for links, wanted in (("", [1, 2, 3]), ("link 0 2 after\n", [1, 3]), ("link 1 2 at-least 0\n", [1, 3]), ("link 0 1 at-most 4\nlink 2 3 at-most 5\n", [1, 2, 3]),
+                          ("link 1 2 after gap 3 at-most-from-finish 5\nlink 2 1 after\n", [3]), ("link 1 0 after\nlink 0 3 at-least 2 at-most 3\n", [1, 2])):
+        sheet = sheets.from_text(f"step 0 open\nstep 1 open\nstep 2 fixed 3\nstep 3 open\n{links}".encode())
+        check(sheets.loose(sheet), wanted, links)
+        check(sheets.loose(sheets.from_bytes(sheets.to_bytes(sheet))), wanted, links)
+    check(sheets.loose(sheets.from_bytes((ROOT / "examples/loose.sheet").read_bytes())), [1, 2, 3], "examples/loose.sheet")
+    check(sheets.loose(sheets.from_text(b"step 0 open\n")), [], "the start alone")
+
+
 def command():
     """The command itself, from another directory."""
     tool = ROOT / "tools/sheet"
@@ -185,5 +196,6 @@ if __name__ == "__main__":
     refusals_and_limits()
     link_maps()
     longest()
+    loose()
     command()
     print(f"{there} stored sheets go to text and back, {gaps} of them with gaps, {not_there} are refused as stored; {len(TEXTS)} texts and {len(BYTES)} inputs refused in their place")

@@ -4,7 +4,7 @@ from pathlib import Path
 
 ROOT = Path(__file__).resolve().parents[2]
 sys.path.insert(0, str(ROOT / "tools"))
-from sheets import AFTER, NoSheet, from_bytes  # noqa: E402
+from sheets import AFTER, NoSheet, from_bytes, loose  # noqa: E402
 
 
 def compared():
@@ -50,6 +50,14 @@ def has_gap(data):
     """Whether this is a sheet, and one of its after links has a gap."""
     try:
         return any(words.get(AFTER) is not None for words in from_bytes(data).links.values())
+    except NoSheet:
+        return False
+
+
+def has_loose(data):
+    """Whether this is a sheet, and nothing leads into one of its steps."""
+    try:
+        return loose(from_bytes(data)) != []
     except NoSheet:
         return False
 

@@ -137,7 +137,7 @@ macro_rules! refusals {
         }
 
         impl Refusal {
-            /// All refusals, by number.
+            /// All refusals, by number, with 9, which is retired.
             pub const ALL: &'static [Refusal] = &[$(Refusal::$name),*];
 
             /// Its sentence.
@@ -159,7 +159,7 @@ refusals! {
     6 BadOrder "the pair does not rise"
     7 Trailing "bytes follow the last record"
     8 Circle "forward links close a circle"
-    9 Unreached "a step has no chain of forward links from step 0"
+    9 Unreached "retired: no sheet is refused so"
     10 NeverKept "with all open durations 0, no start times keep every link"
     11 NotAlwaysKept "for some list of durations no start times keep every link"
     12 WaitsNeeded "waits are needed and the caller did not allow them"
@@ -241,12 +241,12 @@ fn steps(sheet: &[u8]) -> usize {
     sheet.first().map_or(0, |&n| usize::from(n).min(MAX_STEPS))
 }
 
-/// Judges a sheet. `allow` says whether waits are allowed. Refusals 1 to 12, 26 and 28.
+/// Judges a sheet. `allow` says whether waits are allowed. Refusals 1 to 8, 10 to 12, 26 and 28.
 pub fn judge(sheet: &[u8], allow: bool) -> Result<Verdict, Refusal> {
     Verdict::from_code(unsafe { raw::standplan_judge(sheet.as_ptr(), sheet.len(), allow) })
 }
 
-/// Lists the waits of a sheet. Refusals 1 to 11, 26 and 28: whoever asks for waits allows them.
+/// Lists the waits of a sheet. Refusals 1 to 8, 10, 11, 26 and 28: whoever asks for waits allows them.
 pub fn waits(sheet: &[u8]) -> Result<Waits, Refusal> {
     let (mut maps, mut count) = ([0; 64], 0);
     let verdict = waits_into(sheet, &mut maps, &mut count)?;
@@ -258,7 +258,7 @@ pub fn waits_into(sheet: &[u8], maps: &mut [u64; 64], count: &mut u32) -> Result
     Verdict::from_code(unsafe { raw::standplan_waits(sheet.as_ptr(), sheet.len(), maps, count) })
 }
 
-/// Plans a sheet. Refusals 1 to 12, 26 and 28.
+/// Plans a sheet. Refusals 1 to 8, 10 to 12, 26 and 28.
 pub fn plan(sheet: &[u8], allow: bool) -> Result<Plan, Refusal> {
     let n = steps(sheet);
     let mut table = vec![UNDECIDED; n * n];
@@ -273,7 +273,7 @@ pub fn plan_into(sheet: &[u8], allow: bool, table: &mut [u32]) -> Result<Verdict
     })
 }
 
-/// Works out the start times of a sheet for a list of durations. Refusals 1 to 14, 26 and 28.
+/// Works out the start times of a sheet for a list of durations. Refusals 1 to 8, 10 to 14, 26 and 28.
 pub fn starts(sheet: &[u8], allow: bool, list: &[u32]) -> Result<Vec<u32>, Refusal> {
     let mut out = vec![0; steps(sheet)];
     let _ = starts_into(sheet, allow, list, &mut out)?;

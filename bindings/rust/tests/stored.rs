@@ -101,8 +101,8 @@ fn stored_answers() {
         }
     }
     assert!(lines > 300);
-    // Both verdicts and refusals 1 to 14, 26 and 28 are among them.
-    assert_eq!(seen.len(), 18, "{seen:?}");
+    // Both verdicts and refusals 1 to 8, 10 to 14, 26 and 28 are among them.
+    assert_eq!(seen.len(), 17, "{seen:?}");
 }
 
 #[test]
@@ -112,7 +112,16 @@ fn nothing_lent() {
     assert_eq!(plan_into(&[1, 0, 0, 1], false, &mut []), Err(Refusal::TooShort));
     assert_eq!(starts_into(&[1, 0, 0, 1], false, &[], &mut []), Err(Refusal::TooShort));
     assert_eq!(starts(&[1, 0, 0, 1], false, &[]), Err(Refusal::TooShort));
-    assert_eq!(Refusal::Unreached.to_string(), "refused 9: a step has no chain of forward links from step 0");
+    assert_eq!(Refusal::Circle.to_string(), "refused 8: forward links close a circle");
+    assert_eq!(Refusal::from_number(9).map(Refusal::sentence), Some("retired: no sheet is refused so"));
+}
+
+/// A step that nothing leads into hangs from the start; a link from it to the start closes a circle.
+#[test]
+fn loose_steps() {
+    assert_eq!(judge(&[2, 0, 0, 1, 1], false), Ok(Verdict::Sound));
+    assert_eq!(starts(&[2, 0, 0, 1, 1], false, &[0, 7]), Ok(vec![0, 0]));
+    assert_eq!(judge(&[2, 1, 0, 1, 1, 1, 1, 0], true), Err(Refusal::Circle));
 }
 
 /// The longest sheet: 64 steps, 512 records, every field there. Step v + 1 to v + 9 follow v, as far as there are records, and may take as long as they like.

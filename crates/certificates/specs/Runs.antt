@@ -11,7 +11,7 @@ use lib.ListN.{getD, take, length, replicate}
 use Rattle.definitions.specs.Limits.{last-tick}
 use Rattle.definitions.specs.Basics.{all-below, test-bit, given, refused}
 use Rattle.definitions.specs.Bytes.{Records}
-use Rattle.definitions.specs.Links.{Constraint, sequencing, minimum, maximum, finish-maximum, constraints, delay-at, duration}
+use Rattle.definitions.specs.Links.{Constraint, sequencing, minimum, maximum, finish-maximum, links-of, delay-at, duration}
 use Rattle.definitions.specs.Waits.{WaitPair}
 use Rattle.definitions.specs.Plan.{plan-table, undecided}
 use Rattle.definitions.specs.Answers.{count-of, serialized-of, planned}
@@ -202,7 +202,7 @@ Holds q st (finish-maximum i j u) = FinishHolds st i j u (delay-at (q .steps) i)
 
 -- At every state of every run of every accepted sheet, every link and every wait holds. Nothing is asked of the durations: a hand may take any time at all. Proof: certificate.
 pub record Certified (q : Records) (st : State) : Type 0 where
-  pub links : (c : Constraint) → List·Memᴰ c (constraints (q .pairs)) → Holds q st c
+  pub links : (c : Constraint) → List·Memᴰ c (links-of q) → Holds q st c
   pub waits : (p : WaitPair) → List·Memᴰ p (sheet-waits q) → Holds q st (wait-link p)
 
 abbrev pub Certificate : Type 0

@@ -24,7 +24,6 @@ pub fn refusal_number(k: Refusal) -> u32
         Refusal::BadOrder => 6,
         Refusal::Trailing => 7,
         Refusal::ForwardCycle => 8,
-        Refusal::Unreachable => 9,
         Refusal::Infeasible => 10,
         Refusal::Inconsistent => 11,
         Refusal::WaitsNeeded => 12,

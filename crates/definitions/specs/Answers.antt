@@ -7,18 +7,14 @@ use lib.ListN.{length, drop, replicate}
 use Rattle.definitions.specs.Limits.{most-steps}
 use Rattle.definitions.specs.Basics.{any, any-below, Outcome, given, refused, refuse-if, when-given}
 use Rattle.definitions.specs.Bytes.{Records, read}
-use Rattle.definitions.specs.Links.{Edge, constraints, edges, forwards, usable}
+use Rattle.definitions.specs.Links.{Edge, links-of, edges, forwards, usable}
 use Rattle.definitions.specs.Rounds.{rounds, stable, source-row, reaches, after-reaches}
 use Rattle.definitions.specs.Waits.{wait-maps, wait-count, needs-waits, serialized}
 use Rattle.definitions.specs.Plan.{start-times, plan-table, row-part, delays-wrong, delays}
 
--- 8: forward links close a circle.
+-- 8: forward links close a circle. 9 never occurs any more (request L3): where they close none, every step of a completed sheet has a forward chain from step 0.
 unfoldable pub closes-circle : ℕ → List Edge → Bool
 closes-circle n es = any (λ e. reaches n (forwards es) (e .to) (e .from)) (forwards es)
-
--- 9: a step has no forward chain from step 0.
-unfoldable pub unreached : ℕ → List Edge → Bool
-unreached n es = any-below (λ v. not (reaches n (forwards es) 0 v)) n
 
 -- 10: with all open durations 0, no start times keep every link. The rounds from step 0 then never come to rest.
 unfoldable pub infeasible : ℕ → List Edge → Bool
@@ -32,23 +28,22 @@ inconsistent n es = any-below (λ a. after-reaches n (usable es a) a a) n
 unfoldable pub unserializable : ℕ → List Edge → Bool
 unserializable n es = closes-circle n (serialized n es) || infeasible n (serialized n es)
 
--- 8 to 11, 28, 12: verdict 0 is sound, 1 sound with waits.
+-- 8, 10, 11, 28, 12: verdict 0 is sound, 1 sound with waits.
 unfoldable pub judge-edges : ℕ → List Edge → Bool → Outcome ℕ
 judge-edges n es allow =
     refuse-if (closes-circle n es) 8
-    (refuse-if (unreached n es) 9
     (refuse-if (infeasible n es) 10
     (refuse-if (inconsistent n es) 11
     (refuse-if (unserializable n es) 28
     (refuse-if (needs-waits n es && not allow) 12
-    (given (cond (needs-waits n es) 1 0)))))))
+    (given (cond (needs-waits n es) 1 0))))))
 
--- A sheet's step count and edges, as sent and with its waits in.
+-- A sheet's step count and edges, completed and then with its waits in.
 abbrev pub count-of : Records → ℕ
 count-of q = length (q .steps)
 
 unfoldable pub edges-of : Records → List Edge
-edges-of q = edges (q .steps) (constraints (q .pairs))
+edges-of q = edges (q .steps) (links-of q)
 
 unfoldable pub serialized-of : Records → List Edge
 serialized-of q = serialized (count-of q) (edges-of q)

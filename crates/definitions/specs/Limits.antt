@@ -18,12 +18,15 @@ most-ticks = 65535
 abbrev pub most-duration : ℕ
 most-duration = 16777215
 
--- A link record holds at most four links, and each is one edge.
+-- A link record holds at most four links, and each is one edge; and at most one link is added for each step other than 0 (request L3).
 abbrev pub links-of-record : ℕ
 links-of-record = 4
 
+abbrev pub most-added : ℕ
+most-added = most-steps - 1
+
 abbrev pub most-edges : ℕ
-most-edges = links-of-record * most-records
+most-edges = links-of-record * most-records + most-added
 
 -- What one edge gains: a fixed duration and the gap after it, or the ticks of an at-least link.
 abbrev pub most-gain : ℕ

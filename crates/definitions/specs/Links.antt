@@ -5,9 +5,9 @@ use mathlib.Core.Logic.{_≢_}
 use mathlib.Core.List.{List, [], _∷_, _++_, List·Memᴰ, map, flatMap}
 use Prim.Native.Nat.{ℕ, zero, suc, _+_, _≤_}
 use lib.Dec.{eqb}
-use lib.ListN.{getD}
-use Rattle.definitions.specs.Basics.{without}
-use Rattle.definitions.specs.Bytes.{blank-operation}
+use lib.ListN.{length, getD}
+use Rattle.definitions.specs.Basics.{any, without, select-below}
+use Rattle.definitions.specs.Bytes.{Records, blank-operation}
 use Rattle.definitions.specs.declared.Delay.{Delay}
 use Rattle.definitions.specs.declared.Delay.the-variants.{Open, Fixed}
 use Rattle.definitions.specs.declared.Operation.{Operation}
@@ -50,6 +50,30 @@ link-constraints l = sequencing-of (l .from) (l .to) (l .sequencing) (gap-of (l 
 
 unfoldable pub constraints : List Link → List Constraint
 constraints ls = flatMap link-constraints ls
+
+-- Request L3. A forward link, after or at least, leads into v; a return does not.
+unfoldable pub leads-into : ℕ → Constraint → Bool
+leads-into v (sequencing i j g) = eqb j v
+leads-into v (minimum i j m) = eqb j v
+leads-into v (maximum i j u) = false
+leads-into v (finish-maximum i j u) = false
+
+-- "A step other than 0 with no forward link into it has an after link from 0".
+unfoldable pub follows-nothing : List Constraint → ℕ → Bool
+follows-nothing cs v = not (eqb v 0) && not (any (leads-into v) cs)
+
+abbrev pub source-link : ℕ → Constraint
+source-link v = sequencing 0 v 0
+
+unfoldable pub loose-steps : ℕ → List Constraint → List ℕ
+loose-steps n cs = select-below (follows-nothing cs) n
+
+unfoldable pub completed : ℕ → List Constraint → List Constraint
+completed n cs = cs ++ map source-link (loose-steps n cs)
+
+-- The links of a sheet: those of its records, so completed. All that is said of a sheet below is said of these.
+unfoldable pub links-of : Records → List Constraint
+links-of q = completed (length (q .steps)) (constraints (q .pairs))
 
 -- The duration of a step, under delays d of the open steps without a largest one. The duration of step 0 counts as 0.
 unfoldable pub delay-at : List Operation → ℕ → Delay

@@ -2,7 +2,7 @@
 use Prim.Native.Nat.{ℕ}
 use Rattle.definitions.specs.Basics.{Outcome, given, refused}
 use Rattle.definitions.specs.declared.Refusal.{Refusal}
-use Rattle.definitions.specs.declared.Refusal.the-variants.{Truncated, OperationCount, LinkCount, BadMap, BadEndpoint, BadOrder, Trailing, ForwardCycle, Unreachable, Infeasible}
+use Rattle.definitions.specs.declared.Refusal.the-variants.{Truncated, OperationCount, LinkCount, BadMap, BadEndpoint, BadOrder, Trailing, ForwardCycle, Infeasible}
 use Rattle.definitions.specs.declared.Refusal.the-variants.{Inconsistent, WaitsNeeded, BadDelays, TooShort, NotBegun, AlreadyBegun, CannotFinish, ClockEnd, Unsequenced, Unserializable}
 use Rattle.definitions.specs.declared.Verdict.{Verdict}
 use Rattle.definitions.specs.declared.Reading.{Reading}
@@ -11,7 +11,7 @@ use Rattle.definitions.specs.declared.Verdict.the-variants as Verdicts
 use Rattle.definitions.specs.declared.Status.the-variants as Statuses
 use Rattle.definitions.specs.declared.Reading.the-variants as Readings
 
--- The refusals of "From the input" and "From the state", and those of request L11.
+-- The refusals of "From the input" and "From the state", but for 9, which is never given since request L3; and those of request L11.
 abbrev pub number : Refusal → ℕ
 number Truncated = 1
 number OperationCount = 2
@@ -21,7 +21,6 @@ number BadEndpoint = 5
 number BadOrder = 6
 number Trailing = 7
 number ForwardCycle = 8
-number Unreachable = 9
 number Infeasible = 10
 number Inconsistent = 11
 number WaitsNeeded = 12

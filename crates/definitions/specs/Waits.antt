@@ -11,7 +11,7 @@ use Rattle.definitions.specs.Links.{Edge, Graph, After, UsableFrom, usab
 use Rattle.definitions.specs.Rounds.{after-reaches}
 use Rattle.definitions.specs.Anchors.{InAnchorSet, in-anchor-set}
 
--- i waits for a: some at-most link stands on (i, j), a walk that begins with an after link out of open a ≠ 0 reaches j, and a is not in the start set of i on the sheet as sent. The link may count
+-- i waits for a: some at-most link stands on (i, j), a walk that begins with an after link out of open a ≠ 0 reaches j, and a is not in the start set of i on the sheet as sent, which is the completed one without waits. The link may count
 -- from the finish of i: it then calls for no wait of i for itself.
 pub record Wait (E : Graph) (a i : ℕ) : Type 0 where
   pub edge : Edge

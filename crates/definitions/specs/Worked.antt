@@ -1,19 +1,19 @@
--- "Marked and unmarked sheets": the sheets marked ★ in document 01, and sheets of ours for readings that those do not tell apart and for requests L11 and L1. One table, proved against the definitions in one go.
+-- "Marked and unmarked sheets": the sheets marked ★ in document 01, and sheets of ours for readings that those do not tell apart and for requests L11, L1 and L3. One table, proved against the definitions in one go.
 use mathlib.Core.Path.{_≡_, refl}
 use mathlib.Core.Bool.{Bool, true, false}
 use mathlib.Core.Logic.{_⊎_, inl, inr}
 use mathlib.Core.List.{List, [], _∷_, map, flatMap, List·Memᴰ, List·Memᴰ·not-nil, List·Memᴰ·cases-cons, head-eq-of-cons-eq, tail-eq-of-cons-eq}
 use Prim.Native.Nat.{ℕ}
-use lib.ListN.{replicate}
+use lib.ListN.{length, replicate}
 use Rattle.definitions.specs.Limits.{most-steps}
 use Rattle.definitions.specs.Basics.{any, all, without, any-below, all-below, tabulate, select-below, largest, test-bit, bits-below, Outcome, given, refused, refuse-if, when-given}
-use Rattle.definitions.specs.Bytes.{demand, byte, two-bytes, ticks-if, operation-map, delay-from, operation, link-map, sequenced, endpoints, rises, bound-from, link, records, operations, pair-of, links, at-end, sheet, read}
-use Rattle.definitions.specs.Links.{sequencing-of, minimum-of, maximum-of, finish-maximum-of, gap-of, link-constraints, constraints, delay-at, sequencing-edge, finish-edge, edge-of, edges, forwards, late-into, usable}
+use Rattle.definitions.specs.Bytes.{Records, demand, byte, two-bytes, ticks-if, operation-map, delay-from, operation, link-map, sequenced, endpoints, rises, bound-from, link, records, operations, pair-of, links, at-end, sheet, read}
+use Rattle.definitions.specs.Links.{sequencing-of, minimum-of, maximum-of, finish-maximum-of, gap-of, link-constraints, constraints, leads-into, follows-nothing, loose-steps, completed, links-of, delay-at, sequencing-edge, finish-edge, edge-of, edges, forwards, late-into, usable}
 use Rattle.definitions.specs.Rounds.{extend, raise, round, rounds, stable, source-row, seed, seeds, after-row, bares, reaches, after-reaches}
 use Rattle.definitions.specs.Anchors.{in-anchor-set}
 use Rattle.definitions.specs.Waits.{WaitPair, waits-for, waits-of, wait-list, wait-count, needs-waits, serialized, wait-pair}
 use Rattle.definitions.specs.Plan.{first-row, offset-row, offset, start-from, start-turns, start-times, overrides, decides, plan-entry, plan-row, plan-rows, plan-table, delay-limit, delay-wrong, delays-wrong}
-use Rattle.definitions.specs.Answers.{closes-circle, unreached, infeasible, inconsistent, unserializable, judge-edges, edges-of, serialized-of, judge-records, Written, written, too-short, starts-verdict, starts-read, starts-answer, plan-verdict, plan-read, planned, bad-count}
+use Rattle.definitions.specs.Answers.{closes-circle, infeasible, inconsistent, unserializable, judge-edges, edges-of, serialized-of, judge-records, Written, written, too-short, starts-verdict, starts-read, starts-answer, plan-verdict, plan-read, planned, bad-count}
 use Rattle.definitions.specs.Dispatcher.{entry, names, due, ready, starting, start-ticks, Progress, sweep, begun, not-running, fresh, with-source, begin, ticked, tick, cannot-finish, ended, finish, state-after, called}
 use Rattle.definitions.specs.declared.Call.{Call}
 use Rattle.definitions.specs.declared.Call.the-variants.{Begin, Tick, Finish}
@@ -30,7 +30,7 @@ unfolding demand byte two-bytes ticks-if operation-map delay-from operation link
 every-reading = tt
 
 unfoldable every-links : Unit {0}
-unfolding sequencing-of minimum-of maximum-of finish-maximum-of gap-of link-constraints constraints delay-at sequencing-edge finish-edge edge-of edges forwards late-into usable extend raise round rounds stable source-row seed seeds after-row bares reaches after-reaches
+unfolding sequencing-of minimum-of maximum-of finish-maximum-of gap-of link-constraints constraints leads-into follows-nothing loose-steps completed links-of delay-at sequencing-edge finish-edge edge-of edges forwards late-into usable extend raise round rounds stable source-row seed seeds after-row bares reaches after-reaches
 every-links = tt
 
 unfoldable every-plan : Unit {0}
@@ -38,7 +38,7 @@ unfolding in-anchor-set waits-for waits-of wait-list wait-count needs-waits seri
 every-plan = tt
 
 unfoldable every-answers : Unit {0}
-unfolding closes-circle unreached infeasible inconsistent unserializable judge-edges edges-of serialized-of judge-records written too-short starts-verdict starts-read starts-answer plan-verdict plan-read planned bad-count
+unfolding closes-circle infeasible inconsistent unserializable judge-edges edges-of serialized-of judge-records written too-short starts-verdict starts-read starts-answer plan-verdict plan-read planned bad-count
 every-answers = tt
 
 unfoldable every-text : Unit {0}
@@ -179,7 +179,31 @@ gap-of-fixed = 0x03 ∷ 0x02 ∷ 0x00 ∷ 0x01 ∷ 0x02 ∷ 0x03 ∷ 0x00 ∷ 0x
 abbrev pub gap-and-wait : List ℕ
 gap-and-wait = 0x05 ∷ 0x05 ∷ 0x00 ∷ 0x01 ∷ 0x01 ∷ 0x01 ∷ 0x00 ∷ 0x00 ∷ 0x01 ∷ 0x00 ∷ 0x01 ∷ 0x01 ∷ 0x00 ∷ 0x02 ∷ 0x09 ∷ 0x01 ∷ 0x03 ∷ 0x06 ∷ 0x00 ∷ 0x01 ∷ 0x02 ∷ 0x04 ∷ 0x04 ∷ 0x03 ∷ 0x04 ∷ 0x05 ∷ 0x00 ∷ []
 
--- The marked sheets, in document 01's order; then ours: a chain of returns, and the first fault met in sheets that have more than one, or that are cut; then those of request L11, and of L1.
+-- Request L3. The stand sheet without its links from step 0: the lamps and the hand follow nothing.
+abbrev pub half-loose : List ℕ
+half-loose = 0x05 ∷ 0x03 ∷ 0x00 ∷ 0x01 ∷ 0x02 ∷ 0x03 ∷ 0x00 ∷ 0x01 ∷ 0x02 ∷ 0x02 ∷ 0x00 ∷ 0x02 ∷ 0x01 ∷ 0x00 ∷ 0x01 ∷ 0x01 ∷ 0x04 ∷ 0x01 ∷ 0x02 ∷ 0x03 ∷ 0x05 ∷ 0x03 ∷ 0x04 ∷ 0x02 ∷ 0x00 ∷ []
+
+-- Open 1 and 2 of 5 ticks, and no link at all.
+abbrev pub all-loose : List ℕ
+all-loose = 0x03 ∷ 0x00 ∷ 0x00 ∷ 0x01 ∷ 0x01 ∷ 0x02 ∷ 0x05 ∷ 0x00 ∷ []
+
+-- 0 after 1, and nothing leads into 1: a circle through step 0.
+abbrev pub back-to-source : List ℕ
+back-to-source = 0x02 ∷ 0x01 ∷ 0x00 ∷ 0x01 ∷ 0x00 ∷ 0x01 ∷ 0x01 ∷ 0x00 ∷ []
+
+-- At least 10 on (0, 2), at most 5 on (1, 2): a return alone leads into 1.
+abbrev pub return-alone : List ℕ
+return-alone = 0x03 ∷ 0x02 ∷ 0x00 ∷ 0x01 ∷ 0x00 ∷ 0x00 ∷ 0x02 ∷ 0x00 ∷ 0x02 ∷ 0x0a ∷ 0x00 ∷ 0x04 ∷ 0x01 ∷ 0x02 ∷ 0x05 ∷ 0x00 ∷ []
+
+-- Open 1; 2 of 3 ticks after 1, at most 5 from the finish of 1: a late return alone leads into 1.
+abbrev pub late-return-alone : List ℕ
+late-return-alone = 0x03 ∷ 0x01 ∷ 0x00 ∷ 0x01 ∷ 0x01 ∷ 0x02 ∷ 0x03 ∷ 0x00 ∷ 0x11 ∷ 0x01 ∷ 0x02 ∷ 0x05 ∷ 0x00 ∷ []
+
+-- At least 3 on (1, 2), which leads into 2; nothing leads into 1, which is open.
+abbrev pub minimum-alone : List ℕ
+minimum-alone = 0x03 ∷ 0x01 ∷ 0x00 ∷ 0x01 ∷ 0x01 ∷ 0x00 ∷ 0x02 ∷ 0x01 ∷ 0x02 ∷ 0x03 ∷ 0x00 ∷ []
+
+-- The marked sheets, in document 01's order; then ours: a chain of returns, and the first fault met in sheets that have more than one, or that are cut; then those of request L11, of L1 and of L3.
 unfoldable pub worked-sheets : List Worked
 worked-sheets =
     record { bytes = smallest; question = listing true; expected = accepted 0 [] (line 0 0 0 ∷ []) } ∷
@@ -211,7 +235,7 @@ worked-sheets =
     faulty (0x02 ∷ 0x02 ∷ 0x00 ∷ 0x01 ∷ 0x00 ∷ 0x01 ∷ 0x00 ∷ 0x01 ∷ 0x01 ∷ 0x01 ∷ 0x01 ∷ []) 5 ∷
     faulty (0x02 ∷ 0x01 ∷ 0x00 ∷ 0x01 ∷ 0x00 ∷ 0x02 ∷ 0x00 ∷ 0x01 ∷ 0x01 ∷ []) 1 ∷
     faulty (0x01 ∷ 0x00 ∷ 0x00 ∷ 0x01 ∷ 0x00 ∷ []) 7 ∷
-    faulty (0x02 ∷ 0x01 ∷ 0x00 ∷ 0x01 ∷ 0x00 ∷ 0x01 ∷ 0x01 ∷ 0x00 ∷ []) 9 ∷
+    faulty back-to-source 8 ∷
     faulty (0x03 ∷ 0x02 ∷ 0x00 ∷ 0x01 ∷ 0x00 ∷ 0x00 ∷ 0x02 ∷ 0x01 ∷ 0x02 ∷ 0x00 ∷ 0x00 ∷ 0x02 ∷ 0x02 ∷ 0x01 ∷ 0x00 ∷ 0x00 ∷ []) 8 ∷
     record { bytes = exposure; question = listing false; expected = accepted 0 [] (line 0 0 0 ∷ line 1 0 0 ∷ line 2 1 0 ∷ []) } ∷
     record { bytes = exposure; question = times-for (0 ∷ 9 ∷ 0 ∷ []); expected = started (0 ∷ 0 ∷ 9 ∷ []) } ∷
@@ -246,7 +270,21 @@ worked-sheets =
     faulty (0x02 ∷ 0x01 ∷ 0x00 ∷ 0x01 ∷ 0x00 ∷ 0x1e ∷ []) 4 ∷
     faulty (0x02 ∷ 0x01 ∷ 0x00 ∷ 0x01 ∷ 0x00 ∷ 0x21 ∷ []) 4 ∷
     faulty (0x02 ∷ 0x01 ∷ 0x00 ∷ 0x01 ∷ 0x00 ∷ 0x09 ∷ 0x00 ∷ 0x01 ∷ 0x07 ∷ []) 1 ∷
+    record { bytes = half-loose; question = listing true; expected = accepted 0 [] (line 0 0 0 ∷ line 1 0 0 ∷ line 2 0 0 ∷ line 3 0 1 ∷ line 3 2 0 ∷ line 4 0 3 ∷ line 4 2 2 ∷ []) } ∷
+    record { bytes = all-loose; question = listing false; expected = accepted 0 [] (line 0 0 0 ∷ line 1 0 0 ∷ line 2 0 0 ∷ []) } ∷
+    record { bytes = return-alone; question = listing false; expected = accepted 0 [] (line 0 0 0 ∷ line 1 0 5 ∷ line 2 0 10 ∷ []) } ∷
+    record { bytes = late-return-alone; question = listing false; expected = accepted 0 [] (line 0 0 0 ∷ line 1 0 0 ∷ line 2 1 0 ∷ []) } ∷
+    record { bytes = minimum-alone; question = listing false; expected = accepted 0 [] (line 0 0 0 ∷ line 1 0 0 ∷ line 2 0 3 ∷ []) } ∷
     []
+
+-- Request L3: the steps of these sheets that follow nothing.
+unfoldable pub loose-of : Outcome Records → List ℕ
+loose-of (given q) = loose-steps (length (q .steps)) (constraints (q .pairs))
+loose-of (refused k) = []
+
+pub loose-worked : map (λ s. loose-of (read s)) (stand 2 ∷ half-loose ∷ all-loose ∷ back-to-source ∷ return-alone ∷ late-return-alone ∷ minimum-alone ∷ []) ≡ [] ∷ (1 ∷ 2 ∷ []) ∷ (1 ∷ 2 ∷ []) ∷ (1 ∷ []) ∷ (1 ∷ []) ∷ (1 ∷ []) ∷ (1 ∷ []) ∷ []
+unfolding every-definition loose-of
+loose-worked = refl
 
 -- The computed test: the definitions answer every sheet of the table as expected.
 pub all-answered : map answered worked-sheets ≡ map (λ w. w .expected) worked-sheets

@@ -3,7 +3,9 @@
 // The limits that the code needs as constants; specs/Limits.antt has each with its reason.
 pub const MOST_RECORDS: usize = 512;
 
-pub const MOST_EDGES: usize = 4 * MOST_RECORDS;
+pub const MOST_ADDED: usize = 63;
+
+pub const MOST_EDGES: usize = 4 * MOST_RECORDS + MOST_ADDED;
 
 pub const MOST_DURATION: u32 = 16777215;
 
@@ -51,7 +53,7 @@ pub enum Previous {
 
 // ---- What the calls answer.
 
-// The refusals 1 to 18, in their order; then those of later requests, 26 and 28.
+// The refusals 1 to 18, in their order, but for 9, which is never given since request L3; then those of later requests, 26 and 28.
 pub enum Refusal {
     Truncated,
     OperationCount,
@@ -61,7 +63,6 @@ pub enum Refusal {
     BadOrder,
     Trailing,
     ForwardCycle,
-    Unreachable,
     Infeasible,
     Inconsistent,
     WaitsNeeded,

@@ -1,7 +1,7 @@
 -- The theorems: one for each statement of specs/Demands.antt, in its order.
 use mathlib.Core.Path.{refl}
 use Rattle.demands.specs.Demands.{EdgesMeant, ListsMeant, ImpossibleExactly, ReadExactly, WellFormedExactly, JudgedExactly, EachCallRefuses, StartsReturned, CallsExactly, StartsKept, NobodyEarlier, NobodyEarlierWithWaits, OursAmongRivals, NobodyEarlierWithoutForesight}
-use Rattle.demands.specs.Demands.{OursWithoutForesight, Refused28Exactly, NothingNew, PlansAsBefore, TestsMeant, WaitsListed, WaitsSound, OffsetsRight, StartRule, DecidingSets, PlanTable, LinesListed, FrontDecides, HypothesesMet}
+use Rattle.demands.specs.Demands.{OursWithoutForesight, Refused28Exactly, NothingNew, PlansAsBefore, AddedLinksFree, IntoSourceCircle, EnteredAsBefore, TestsMeant, WaitsListed, WaitsSound, OffsetsRight, StartRule, DecidingSets, PlanTable, LinesListed, FrontDecides, HypothesesMet}
 use Rattle.demands.proofs.Reading.{fits-of}
 use Rattle.demands.proofs.FirstBytes.{front-for}
 use Rattle.demands.proofs.Meaning.{meant-for}
@@ -16,6 +16,7 @@ use Rattle.demands.proofs.Foresight.{earliest-of-strategies, nothing-ne
 use Rattle.demands.proofs.OurStarts.{kept-for, ours-among, earliest, earliest-of-rivals}
 use Rattle.demands.proofs.Planning.{waits-for-sheet, offset-for, start-rule-for, deciding-for, plan-for}
 use Rattle.demands.proofs.Gapless.{as-before-all}
+use Rattle.demands.proofs.Completion.{added-free, as-entered, into-source}
 use Rattle.demands.proofs.Examples.{examples}
 
 -- ## The words
@@ -98,6 +99,20 @@ nothing-new = nothing-new-for
 -- The parser before answers 4, or as the parser of now does, part by part; and a gap of 0 adds nothing to a link's weight.
 pub plans-as-before : PlansAsBefore
 plans-as-before = as-before-all
+
+-- ## Request L3
+
+-- Step 0 starts and ends at tick 0, and no start is before that.
+pub added-links-free : AddedLinksFree
+added-links-free = added-free
+
+-- A chain leads from step 0 to where the link comes from.
+pub into-source-circle : IntoSourceCircle
+into-source-circle = into-source
+
+-- No step passes the test for the link that is added; and where forward edges lead into every step and close no circle, each has a chain from step 0.
+pub entered-as-before : EnteredAsBefore
+entered-as-before = as-entered
 
 -- ## Demand 2
 

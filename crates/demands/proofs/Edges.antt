@@ -2,14 +2,16 @@
 use mathlib.Core.Path.{_≡_, refl, sym, ap, subst, _∙_}
 use mathlib.Core.Bool.{Bool, true, false, not, false≢true}
 use mathlib.Core.Logic.{_⊎_, inl, inr, _≢_, _↔_}
-use mathlib.Core.List.{List, _++_, List·Memᴰ, List·Memᴰ·not-nil, List·Memᴰ·append-cases, List·Memᴰ·eq-of-singleton, Memᴰ·map, Memᴰ·of-map}
+use mathlib.Core.List.{List, _++_, List·Memᴰ, List·Memᴰ·not-nil, List·Memᴰ·append-cases, List·Memᴰ·eq-of-singleton, Memᴰ·append-left, Memᴰ·append-right, Memᴰ·map, Memᴰ·of-map, map}
 use Prim.Native.Nat.{ℕ, zero, suc, _+_, _≤_, _<_}
 use native.Mathlib.Omega.{arith}
 use lib.Dec.{eqb}
-use borrow.Author.Tests.{eq-eqb, ne-eqb}
+use borrow.Author.Tests.{eq-eqb, eqb-true, ne-eqb}
 use Rattle.definitions.specs.Limits.{most-ticks, most-gain, most-first-gain, most-loss}
+use Rattle.definitions.specs.Basics.{any, select-below}
 use Rattle.definitions.specs.Bytes.{Records}
 use Rattle.definitions.specs.Links.{Constraint, sequencing, minimum, maximum, finish-maximum, sequencing-of, minimum-of, maximum-of, finish-maximum-of, gap-of, link-constraints, constraints, delay-at}
+use Rattle.definitions.specs.Links.{leads-into, follows-nothing, source-link, loose-steps, completed, links-of}
 use Rattle.definitions.specs.Links.{duration-with, duration, Keeps, KeepsAll, Edge, sequencing-edge, finish-edge, edge-of, edges, members, _⊑_}
 use Rattle.definitions.specs.Rival.{Further, Extension, Lasts}
 use Rattle.definitions.specs.Answers.{count-of, edges-of}
@@ -19,9 +21,9 @@ use Rattle.definitions.specs.declared.Operation.{Operation}
 use Rattle.definitions.specs.declared.Bound.{Bound}
 use Rattle.definitions.specs.declared.Bound.the-variants.{Absent, Ticks}
 use Rattle.definitions.specs.declared.Link.{Link}
-use Rattle.laws.proofs.Bools.{both-ways, same-or-not}
-use Rattle.laws.proofs.Tests.{flatMap-only}
-use Rattle.theory.specs.Graphs.{KeepsEdge, Schedule, Shape, FirstGains, Gains, Losses, Timely}
+use Rattle.laws.proofs.Bools.{and-join, bool-cases, both-ways, same-or-not}
+use Rattle.laws.proofs.Tests.{any-has, flatMap-only, select-below-has, select-below-only}
+use Rattle.theory.specs.Graphs.{KeepsEdge, Schedule, Shape, Entered, Entry, FirstGains, Gains, Losses, Timely}
 use Rattle.demands.specs.Demands.{NoLateLinks}
 use Rattle.demands.proofs.Reading.{Fits, LinkFits}
 
@@ -268,28 +270,66 @@ record-is n l c f m = go (List·Memᴰ·append-cases (three l) m)
     go (inl i) = second (List·Memᴰ·append-cases (two l) i)
     go (inr i) = finish-is n most-ticks (l .from) (l .to) (l .latest) c (f .from-below) (f .to-below) (f .latest-few) i
 
+-- A forward link into v is a forward edge into v.
+leads-forward : (os : List Operation) (v : ℕ) (c : Constraint) → leads-into v c ≡ true → (edge-of os c .back ≡ false) × (edge-of os c .to ≡ v)
+unfolding leads-into edge-of sequencing-edge
+leads-forward os v (sequencing i j g) h = go (delay-at os i)
+  where
+    go : (d : Delay) → (sequencing-edge d i j g .back ≡ false) × (sequencing-edge d i j g .to ≡ v)
+    go (Fixed x) = (refl, eqb-true j v h)
+    go Open = (refl, eqb-true j v h)
+leads-forward os v (minimum i j m) h = (refl, eqb-true j v h)
+leads-forward os v (maximum i j u) h = false-true h
+leads-forward os v (finish-maximum i j u) h = false-true h
+
 -- The edges of a sheet that has been read.
 module _ {q : Records} (fits : Fits q) where
-  pub sheet-link : (c : Constraint) → List·Memᴰ c (constraints (q .pairs)) → LinkIs (count-of q) most-ticks c
+  record-link : (c : Constraint) → List·Memᴰ c (constraints (q .pairs)) → LinkIs (count-of q) most-ticks c
   unfolding constraints
-  sheet-link c m = let r = flatMap-only link-constraints (q .pairs) m in record-is (count-of q) (r .0) c (fits .links (r .0) (r .1)) (r .2)
+  record-link c m = let r = flatMap-only link-constraints (q .pairs) m in record-is (count-of q) (r .0) c (fits .links (r .0) (r .1)) (r .2)
 
-  pub sheet-ends : (c : Constraint) → List·Memᴰ c (constraints (q .pairs)) → Ends (count-of q) c
+  -- A link of the records, or one that was added: from step 0 to a step, with no gap.
+  pub sheet-link : (c : Constraint) → List·Memᴰ c (links-of q) → LinkIs (count-of q) most-ticks c
+  unfolding links-of completed loose-steps
+  sheet-link c m = go (List·Memᴰ·append-cases (constraints (q .pairs)) m)
+    where
+      go : List·Memᴰ c (constraints (q .pairs)) ⊎ List·Memᴰ c (map source-link (select-below (follows-nothing (constraints (q .pairs))) (count-of q))) → LinkIs (count-of q) most-ticks c
+      go (inl i) = record-link c i
+      go (inr i) =
+          let r = Memᴰ·of-map source-link (select-below (follows-nothing (constraints (q .pairs))) (count-of q)) i in
+          let below = select-below-only (follows-nothing (constraints (q .pairs))) (count-of q) (r .1) .0 in
+          subst (LinkIs (count-of q) most-ticks) (r .2) (record { ends = (fits .some, below); within = omega arith })
+
+  -- A forward edge leads into every step other than 0: that of a record's link, or of the one that was added.
+  pub sheet-entered : Entered (count-of q) (members (edges-of q))
+  unfolding edges-of links-of completed loose-steps follows-nothing leads-into
+  sheet-entered v b z = go (bool-cases (any (leads-into v) (constraints (q .pairs))))
+    where
+      entry : (c : Constraint) → List·Memᴰ c (links-of q) → leads-into v c ≡ true → Entry (members (edges (q .steps) (links-of q))) v
+      entry c m h = let r = leads-forward (q .steps) v c h in record { edge = edge-of (q .steps) c; mem = link-edge (q .steps) (links-of q) c m; forward = r .0; enters = r .1 }
+
+      go : (any (leads-into v) (constraints (q .pairs)) ≡ true) ⊎ (any (leads-into v) (constraints (q .pairs)) ≡ false) → Entry (members (edges (q .steps) (links-of q))) v
+      go (inl h) = let r = any-has (leads-into v) (constraints (q .pairs)) h in entry (r .0) (Memᴰ·append-left _ (r .1)) (r .2)
+      go (inr h) =
+          let loose : follows-nothing (constraints (q .pairs)) v ≡ true = and-join (ap not (ne-eqb v 0 z)) (ap not h) in
+          entry (source-link v) (Memᴰ·append-right (constraints (q .pairs)) (Memᴰ·map source-link (select-below-has (follows-nothing (constraints (q .pairs))) (count-of q) b loose))) (eq-eqb v v refl)
+
+  pub sheet-ends : (c : Constraint) → List·Memᴰ c (links-of q) → Ends (count-of q) c
   sheet-ends c m = sheet-link c m .ends
 
   pub sheet-fits : (e : Edge) → members (edges-of q) e → EdgeFits (q .steps) (count-of q) e
   unfolding edges-of
-  sheet-fits = all-fit (q .steps) (count-of q) (constraints (q .pairs)) sheet-ends
+  sheet-fits = all-fit (q .steps) (count-of q) (links-of q) sheet-ends
 
   pub sheet-shape : Shape (count-of q) (members (edges-of q))
   unfolding edges-of
-  sheet-shape = edges-shape (q .steps) (count-of q) (constraints (q .pairs)) sheet-ends
+  sheet-shape = edges-shape (q .steps) (count-of q) (links-of q) sheet-ends
 
   -- The numbers of a sheet are of two bytes: a gain is one or two of them, and so is a loss.
   sheet-weighs : (e : Edge) → members (edges-of q) e → Weighs most-ticks e
   unfolding edges-of
   sheet-weighs e m =
-      let r = edge-link (q .steps) (constraints (q .pairs)) e m in
+      let r = edge-link (q .steps) (links-of q) e m in
       subst (Weighs most-ticks) (r .2) (edge-weighs (q .steps) most-ticks (fits .source) (fits .ticks) (r .0) (sheet-link (r .0) (r .1) .within))
 
   pub sheet-gains : Gains (members (edges-of q)) most-gain
@@ -305,11 +345,11 @@ module _ {q : Records} (fits : Fits q) where
   pub sheet-timely : NoLateLinks q → Timely (members (edges-of q))
   unfolding edges-of
   sheet-timely none e m =
-      let r = edge-link (q .steps) (constraints (q .pairs)) e m in
-      subst (λ (x : Edge). x .late ≡ false) (r .2) (link-timely (q .steps) (r .0) (λ i j u h. none i j u (subst (λ (c : Constraint). List·Memᴰ c (constraints (q .pairs))) h (r .1))))
+      let r = edge-link (q .steps) (links-of q) e m in
+      subst (λ (x : Edge). x .late ≡ false) (r .2) (link-timely (q .steps) (r .0) (λ i j u h. none i j u (subst (λ (c : Constraint). List·Memᴰ c (links-of q)) h (r .1))))
 
   -- A rival's sheet: its graph has the sheet's edges, and the shape of a sheet's.
-  module _ {fs : List Constraint} (extension : Extension (q .steps) (constraints (q .pairs)) fs) where
+  module _ {fs : List Constraint} (extension : Extension (q .steps) (links-of q) fs) where
     further-ends : (c : Constraint) → Further (count-of q) c → Ends (count-of q) c
     further-ends (sequencing i j g) h = h
     further-ends (minimum i j m) h = h
@@ -319,7 +359,7 @@ module _ {q : Records} (fits : Fits q) where
     rival-ends : (c : Constraint) → List·Memᴰ c fs → Ends (count-of q) c
     rival-ends c m = go (extension .only c m)
       where
-        go : List·Memᴰ c (constraints (q .pairs)) ⊎ Further (count-of q) c → Ends (count-of q) c
+        go : List·Memᴰ c (links-of q) ⊎ Further (count-of q) c → Ends (count-of q) c
         go (inl i) = sheet-ends c i
         go (inr h) = further-ends c h
 
@@ -334,12 +374,12 @@ module _ {q : Records} (fits : Fits q) where
         let r = edge-link (q .steps) fs e m in
         subst (λ (x : Edge). x .late ≡ false) (r .2) (link-timely (q .steps) (r .0) (by (r .0) (extension .only (r .0) (r .1))))
       where
-        by : (c : Constraint) → List·Memᴰ c (constraints (q .pairs)) ⊎ Further (count-of q) c → (i j u : ℕ) → c ≡ finish-maximum i j u → ¬ Lasts (q .steps) i
-        by c (inl k) i j u h = none i j u (subst (λ (c : Constraint). List·Memᴰ c (constraints (q .pairs))) h k)
+        by : (c : Constraint) → List·Memᴰ c (links-of q) ⊎ Further (count-of q) c → (i j u : ℕ) → c ≡ finish-maximum i j u → ¬ Lasts (q .steps) i
+        by c (inl k) i j u h = none i j u (subst (λ (c : Constraint). List·Memᴰ c (links-of q)) h k)
         by c (inr f) i j u h = further-late c f i j u h
 
     pub rival-above : members (edges-of q) ⊑ members (edges (q .steps) fs)
     unfolding edges-of
     rival-above e m =
-        let r = edge-link (q .steps) (constraints (q .pairs)) e m in
+        let r = edge-link (q .steps) (links-of q) e m in
         subst (members (edges (q .steps) fs)) (r .2) (link-edge (q .steps) fs (r .0) (extension .keeps-all (r .0) (r .1)))

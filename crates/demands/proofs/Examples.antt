@@ -10,10 +10,10 @@ use lib.ListN.{length, getD}
 use borrow.Author.Tests.{ltb-true, leb-true}
 use Rattle.definitions.specs.Basics.{all, Outcome, given, refused}
 use Rattle.definitions.specs.Bytes.{links, Records, sheet, read}
-use Rattle.definitions.specs.Links.{Constraint, sequencing, minimum, maximum, finish-maximum, constraints, delay-at, duration-with, duration, Keeps, edges}
+use Rattle.definitions.specs.Links.{Constraint, sequencing, minimum, maximum, finish-maximum, links-of, delay-at, duration-with, duration, Keeps, edges}
 use Rattle.definitions.specs.Anchors.{well-posed}
 use Rattle.definitions.specs.Rival.{Further, DelayAssignment}
-use Rattle.definitions.specs.Answers.{closes-circle, unreached, infeasible, inconsistent, count-of, edges-of, serialized-of, judged}
+use Rattle.definitions.specs.Answers.{closes-circle, infeasible, inconsistent, count-of, edges-of, serialized-of, judged}
 use Rattle.definitions.specs.Worked.{Worked, every-definition, listing, lists, worked-sheets}
 use Rattle.definitions.specs.declared.Delay.the-variants.{Open}
 use Rattle.definitions.specs.declared.Operation.{Operation}
@@ -67,7 +67,7 @@ abbrev further : List Constraint
 further = sequencing 2 3 2 ∷ minimum 0 3 7 ∷ []
 
 abbrev rival-links : List Constraint
-rival-links = constraints (hands .pairs) ++ further
+rival-links = links-of hands ++ further
 
 abbrev hands-take : ℕ → ℕ
 hands-take a = getD (0 ∷ 3 ∷ 4 ∷ []) a 0
@@ -91,10 +91,10 @@ abbrev used : List ℕ
 used = 1 ∷ 2 ∷ 3 ∷ 5 ∷ 35 ∷ 37 ∷ 43 ∷ []
 
 record Computed : Type 0 where
-  size : length worked-sheets ≡ 64
+  size : length worked-sheets ≡ 69
   bytes : (k : ℕ) → List·Memᴰ k used → all (λ b. ltb b 256) (worked k) ≡ true
   reads : (k : ℕ) → List·Memᴰ k used → read (worked k) ≡ given (worked-records k)
-  formed : (k : ℕ) → List·Memᴰ k used → (closes-circle (count-of (worked-records k)) (edges-of (worked-records k)) ≡ false) × (unreached (count-of (worked-records k)) (edges-of (worked-records k)) ≡ false)
+  formed : (k : ℕ) → List·Memᴰ k used → closes-circle (count-of (worked-records k)) (edges-of (worked-records k)) ≡ false
   sound : judged (worked 1) false ≡ given 0
   with-waits : judged (worked 3) true ≡ given 1
   infeasible : judged (worked 2) true ≡ refused 10
@@ -105,7 +105,7 @@ record Computed : Type 0 where
   five : count-of hands ≡ 5
   held-back : judged (worked 43) false ≡ given 0
   hand-open : delay-at (back .steps) 1 ≡ Open
-  foresight-keeps : all (keeps-test (back .steps) hand-takes foresight-times) (constraints (back .pairs)) ≡ true
+  foresight-keeps : all (keeps-test (back .steps) hand-takes foresight-times) (links-of back) ≡ true
   our-first : our-start back hand-takes 1 ≡ 6
   three : count-of back ≡ 3
   circle : judged (worked 35) false ≡ refused 28
@@ -154,7 +154,7 @@ computed = record {
   size = refl;
   bytes = each-used (λ k. all (λ b. ltb b 256) (worked k) ≡ true) refl refl refl refl refl refl refl;
   reads = each-used (λ k. read (worked k) ≡ given (worked-records k)) refl refl refl refl refl refl refl;
-  formed = each-used (λ k. (closes-circle (count-of (worked-records k)) (edges-of (worked-records k)) ≡ false) × (unreached (count-of (worked-records k)) (edges-of (worked-records k)) ≡ false)) (refl, refl) (refl, refl) (refl, refl) (refl, refl) (refl, refl) (refl, refl) (refl, refl);
+  formed = each-used (λ k. closes-circle (count-of (worked-records k)) (edges-of (worked-records k)) ≡ false) refl refl refl refl refl refl refl;
   sound = refl;
   with-waits = refl;
   infeasible = refl;
@@ -200,9 +200,9 @@ is-sheet : (k : ℕ) → List·Memᴰ k used → IsSheet (worked k) (worked-reco
 is-sheet k h = record { bytes = are-bytes (worked k) (computed .bytes k h); reads = computed .reads k h }
 
 is-formed : (k : ℕ) → List·Memᴰ k used → WellFormed (worked k) (worked-records k)
-is-formed k h = record { sheet = is-sheet k h; no-circle = computed .formed k h .0; all-reached = computed .formed k h .1 }
+is-formed k h = record { sheet = is-sheet k h; no-circle = computed .formed k h }
 
-in-worked : (k : ℕ) → k < 64 → WorkedBytes (worked k)
+in-worked : (k : ℕ) → k < 69 → WorkedBytes (worked k)
 in-worked k h = in-table k (omega (arith, computed .size))
 
 -- The rival's sheet is an extension: by the computed test for sound.
@@ -217,7 +217,7 @@ further-each c m = go (List·Memᴰ·cases-cons m)
     go (inl e) = subst (Further (count-of hands)) (sym e) (omega (arith, computed .five), omega (arith, computed .five))
     go (inr m) = last (List·Memᴰ·cases-cons m)
 
-rival-only : (c : Constraint) → List·Memᴰ c (constraints (hands .pairs)) ⊎ List·Memᴰ c further → List·Memᴰ c (constraints (hands .pairs)) ⊎ Further (count-of hands) c
+rival-only : (c : Constraint) → List·Memᴰ c (links-of hands) ⊎ List·Memᴰ c further → List·Memᴰ c (links-of hands) ⊎ Further (count-of hands) c
 rival-only c (inl m) = inl m
 rival-only c (inr m) = inr (further-each c m)
 
@@ -228,9 +228,9 @@ further-ends (maximum i j u) h = absurd h
 further-ends (finish-maximum i j u) h = absurd h
 
 rival-ends : (c : Constraint) → List·Memᴰ c rival-links → Ends (count-of hands) c
-rival-ends c m = go (rival-only c (List·Memᴰ·append-cases (constraints (hands .pairs)) m))
+rival-ends c m = go (rival-only c (List·Memᴰ·append-cases (links-of hands) m))
   where
-    go : List·Memᴰ c (constraints (hands .pairs)) ⊎ Further (count-of hands) c → Ends (count-of hands) c
+    go : List·Memᴰ c (links-of hands) ⊎ Further (count-of hands) c → Ends (count-of hands) c
     go (inl i) = sheet-ends (fits-of (is-sheet 3 is-3)) c i
     go (inr f) = further-ends c f
 
@@ -239,7 +239,7 @@ rival-met = record {
   links = rival-links;
   extension = record {
     keeps-all = λ c m. Memᴰ·append-left further m;
-    only = λ c m. rival-only c (List·Memᴰ·append-cases (constraints (hands .pairs)) m);
+    only = λ c m. rival-only c (List·Memᴰ·append-cases (links-of hands) m);
     well-posed = well-posed-iff (edges-shape (hands .steps) (count-of hands) rival-links rival-ends) .0 (computed .rival-sound);
   };
   durations = hands-take;
@@ -262,7 +262,7 @@ foresight-met = record {
   durations = hand-takes;
   assigned = hand-assigned;
   times = foresight-times;
-  kept = record { starts = refl; keeps = λ c m. keeps-tested (back .steps) hand-takes foresight-times c (all-each (keeps-test (back .steps) hand-takes foresight-times) (constraints (back .pairs)) (computed .foresight-keeps) c m) };
+  kept = record { starts = refl; keeps = λ c m. keeps-tested (back .steps) hand-takes foresight-times c (all-each (keeps-test (back .steps) hand-takes foresight-times) (links-of back) (computed .foresight-keeps) c m) };
   step = 1;
   exists = omega (arith, computed .three);
   earlier = omega (arith, computed .our-first);

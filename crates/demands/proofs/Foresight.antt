@@ -8,7 +8,7 @@ use native.Mathlib.Omega.{arith}
 use Rattle.definitions.specs.Basics.{refused}
 use Rattle.definitions.specs.Anchors.{InAnchorSet}
 use Rattle.definitions.specs.Bytes.{Records}
-use Rattle.definitions.specs.Links.{Edge, Graph, LateInto, members, constraints, delay-at, duration-with, duration}
+use Rattle.definitions.specs.Links.{Edge, Graph, LateInto, members, links-of, delay-at, duration-with, duration}
 use Rattle.definitions.specs.Rival.{Lasts, DelayAssignment, FinishedBy, DynamicStrategy}
 use Rattle.definitions.specs.Waits.{Wait, serialized}
 use Rattle.definitions.specs.Answers.{infeasible, inconsistent, unserializable, judged, count-of, edges-of, serialized-of}
@@ -82,23 +82,23 @@ module _ {q : Records} (fits : Fits q) where
         by (inl o) (inl f) = omega (arith, lasting (q .steps) d v o, lasting (q .steps) d′ v o, h (inl (omega (arith, f, lasting (q .steps) d v o))))
         by (inl o) (inr f) = omega (arith, lasting (q .steps) d v o, lasting (q .steps) d′ v o, h (inr (omega (arith, f, lasting (q .steps) d′ v o))))
 
-  on-edges : {ρ : (ℕ → ℕ) → ℕ → ℕ} → DynamicStrategy (q .steps) (constraints (q .pairs)) ρ → Strategy (count-of q) (Lasts (q .steps)) (members (edges-of q)) ρ
+  on-edges : {ρ : (ℕ → ℕ) → ℕ → ℕ} → DynamicStrategy (q .steps) (links-of q) ρ → Strategy (count-of q) (Lasts (q .steps)) (members (edges-of q)) ρ
   on-edges {ρ} R =
       record { keeps = λ d L. keeps-sheet q d (ρ d) .0 (R .keeps d L); blind = λ d d′ L L′ t h. R .blind d d′ L L′ t (λ v b. same-durations ρ d d′ L L′ t v (h v b)) }
 
-  on-links : {ρ : (ℕ → ℕ) → ℕ → ℕ} → Strategy (count-of q) (Lasts (q .steps)) (members (edges-of q)) ρ → DynamicStrategy (q .steps) (constraints (q .pairs)) ρ
+  on-links : {ρ : (ℕ → ℕ) → ℕ → ℕ} → Strategy (count-of q) (Lasts (q .steps)) (members (edges-of q)) ρ → DynamicStrategy (q .steps) (links-of q) ρ
   on-links {ρ} R =
       record { keeps = λ d L. keeps-sheet q d (ρ d) .1 (R .keeps d L); blind = λ d d′ L L′ t h. R .blind d d′ L L′ t (λ v b. same-delays ρ d d′ L L′ t v (h v b)) }
 
-  ours-by : Well (count-of q) (members (edges-of q)) → Serializable (members (serialized (count-of q) (edges-of q))) → DynamicStrategy (q .steps) (constraints (q .pairs)) (our-start q)
+  ours-by : Well (count-of q) (members (edges-of q)) → Serializable (members (serialized (count-of q) (edges-of q))) → DynamicStrategy (q .steps) (links-of q) (our-start q)
   unfolding serialized-of
   ours-by well serial = on-links (plan-strategy well serial unbounded)
 
 module _ {s : List ℕ} {allow : Bool} {q : Records} {v : ℕ} (accepted : Accepted s allow q v) where
-  pub ours-dynamic : DynamicStrategy (q .steps) (constraints (q .pairs)) (our-start q)
+  pub ours-dynamic : DynamicStrategy (q .steps) (links-of q) (our-start q)
   ours-dynamic = ours-by (accepted-fits accepted) (accepted-well accepted) (accepted-serial accepted)
 
-  pub earliest-of-strategies : (ρ : (ℕ → ℕ) → ℕ → ℕ) → DynamicStrategy (q .steps) (constraints (q .pairs)) ρ → (d : ℕ → ℕ) → DelayAssignment (q .steps) d → (i : ℕ) → i < count-of q → our-start q d i ≤ ρ d i
+  pub earliest-of-strategies : (ρ : (ℕ → ℕ) → ℕ → ℕ) → DynamicStrategy (q .steps) (links-of q) ρ → (d : ℕ → ℕ) → DelayAssignment (q .steps) d → (i : ℕ) → i < count-of q → our-start q d i ≤ ρ d i
   unfolding serialized-of
   earliest-of-strategies ρ R d L i b =
       plan-least-strategy (accepted-well accepted) (accepted-serial accepted) (unbounded (accepted-fits accepted)) (on-edges (accepted-fits accepted) R) i b d L
@@ -159,13 +159,13 @@ module _ (s : List ℕ) (allow : Bool) (q : Records) (sheet : IsSheet s q) (none
 
   never : judged s allow ≢ refused 28
   never h =
-      let formed = refused-formed s allow q sheet (λ e. omega arith) (λ e. omega arith) h in
+      let formed = refused-formed s allow q sheet (λ e. omega arith) h in
       let r = judged-28 formed allow .0 h in
       both-ways (r .2) (formed-serial formed .1 (plan-timely timely (formed-well formed (r .0) (r .1)) (formed-acyclic formed)))
 
   pub nothing-new-for : NothingNewFor s allow q
   nothing-new-for = record {
-    as-sent = λ a. usable-timely (edges-of q) a timely;
+    unwaited = λ a. usable-timely (edges-of q) a timely;
     with-waits = λ a. usable-timely (serialized-of q) a timely-serialized;
     sound = plain-sound;
     waits = λ a i. let l = listed-for (fits-of sheet) .listed a i in (λ m. plain-waits a i .0 (l .0 m), λ w. l .1 (plain-waits a i .1 w));

@@ -13,9 +13,9 @@ use Rattle.laws.proofs.Bools.{not-passing}
 use Rattle.theory.specs.Graphs.{ForwardAcyclic, Rooted, Serializable, Shape, Well}
 use Rattle.demands.specs.Demands.{Accepted, WellFormed}
 use Rattle.demands.proofs.Reading.{Fits, fits-of}
-use Rattle.demands.proofs.Edges.{sheet-shape}
+use Rattle.demands.proofs.Edges.{sheet-entered, sheet-shape}
 use Rattle.demands.proofs.Judging.{Passes, judge-10, judge-11, judge-28, judge-given, judged-edges}
-use Rattle.demands.proofs.Sheets.{not-8, not-9, not-10-11, passes-well, serializable-iff}
+use Rattle.demands.proofs.Sheets.{acyclic-rooted, not-8, not-10-11, passes-well, serializable-iff}
 
 -- A statement about judging edges, read as one about judging the sheet's bytes.
 on-bytes : {o p : Outcome ℕ} {k : ℕ} {P : Type 0} → o ≡ p → (p ≡ refused k) ↔ P → (o ≡ refused k) ↔ P
@@ -30,7 +30,7 @@ module _ {s : List ℕ} {q : Records} (formed : WellFormed s q) where
   formed-shape = sheet-shape formed-fits
 
   pub formed-rooted : Rooted (count-of q) (members (edges-of q))
-  formed-rooted = not-9 (formed-fits .some) formed-shape (formed .all-reached)
+  formed-rooted = acyclic-rooted (formed-fits .some) formed-shape (sheet-entered formed-fits) (formed .no-circle)
 
   pub formed-acyclic : ForwardAcyclic (members (edges-of q))
   formed-acyclic = not-8 (formed-fits .some) formed-shape (formed .no-circle)
@@ -46,13 +46,13 @@ module _ {s : List ℕ} {q : Records} (formed : WellFormed s q) where
     as-judged = judged-edges s (formed .sheet .reads) allow
 
     pub judged-10 : (judged s allow ≡ refused 10) ↔ (infeasible (count-of q) (edges-of q) ≡ true)
-    judged-10 = on-bytes as-judged (judge-10 (count-of q) (edges-of q) allow (formed .no-circle) (formed .all-reached))
+    judged-10 = on-bytes as-judged (judge-10 (count-of q) (edges-of q) allow (formed .no-circle))
 
     pub judged-11 : (judged s allow ≡ refused 11) ↔ ((infeasible (count-of q) (edges-of q) ≡ false) × (inconsistent (count-of q) (edges-of q) ≡ true))
-    judged-11 = on-bytes as-judged (judge-11 (count-of q) (edges-of q) allow (formed .no-circle) (formed .all-reached))
+    judged-11 = on-bytes as-judged (judge-11 (count-of q) (edges-of q) allow (formed .no-circle))
 
     pub judged-28 : (judged s allow ≡ refused 28) ↔ ((infeasible (count-of q) (edges-of q) ≡ false) × (inconsistent (count-of q) (edges-of q) ≡ false) × (unserializable (count-of q) (edges-of q) ≡ true))
-    judged-28 = on-bytes as-judged (judge-28 (count-of q) (edges-of q) allow (formed .no-circle) (formed .all-reached))
+    judged-28 = on-bytes as-judged (judge-28 (count-of q) (edges-of q) allow (formed .no-circle))
 
     pub not-judged-10 : judged s allow ≢ refused 10 → infeasible (count-of q) (edges-of q) ≡ false
     not-judged-10 h = not-passing (infeasible (count-of q) (edges-of q)) (λ t. h (judged-10 .1 t))
@@ -72,7 +72,7 @@ module _ {s : List ℕ} {allow : Bool} {q : Records} {v : ℕ} (accepted : Accep
   accepted-verdict = accepted-judged .3
 
   pub accepted-well : Well (count-of q) (members (edges-of q))
-  accepted-well = passes-well (accepted-fits .some) (sheet-shape accepted-fits) (accepted-judged .0)
+  accepted-well = passes-well (accepted-fits .some) (sheet-shape accepted-fits) (sheet-entered accepted-fits) (accepted-judged .0)
 
   pub accepted-serial : Serializable (members (serialized (count-of q) (edges-of q)))
   accepted-serial = serializable-iff (accepted-fits .some) (sheet-shape accepted-fits) (accepted-well .rooted) .0 (accepted-judged .1)

@@ -12,6 +12,7 @@ use Rattle.definitions.specs.Limits.{most-steps, most-records, most-ticks}
 use Rattle.definitions.specs.Basics.{all-below, test-bit, Outcome, given, refused, when-given}
 use Rattle.definitions.specs.Bytes.{Parser, _>>=_, give, demand, byte, two-bytes, ticks-if, link-map, sequenced, endpoints, rises, bound-from, link, records, operations, pair-of, links, at-end, Records, sheet, read}
 use Rattle.definitions.specs.Links.{Constraint, sequencing, minimum, maximum, finish-maximum, sequencing-of, minimum-of, maximum-of, finish-maximum-of, gap-of, link-constraints, constraints, delay-at}
+use Rattle.definitions.specs.Links.{source-link, loose-steps, completed, links-of}
 use Rattle.definitions.specs.Links.{Edge, sequencing-edge, finish-edge, edge-of, edges, members}
 use Rattle.definitions.specs.Answers.{count-of, edges-of}
 use Rattle.definitions.specs.declared.Delay.{Delay}
@@ -203,6 +204,16 @@ module _ (os : List Operation) where
   records-same [] none = record { same = refl }
   records-same (l ∷ ls) none = both-same (record-same l (none l (List·Memᴰ·head refl))) (records-same ls (λ x m. none x (List·Memᴰ·tail m)))
 
+  -- An added link has no gap.
+  added-same : (vs : List ℕ) → Same (map source-link vs)
+  unfolding edge-of gapless-edge
+  added-same [] = record { same = refl }
+  added-same (v ∷ vs) = let rest = added-same vs .same in record { same = rw (sequencing-same 0 v (delay-at os 0), rest) }
+
+  completed-same : (n : ℕ) (ls : List Link) → ((l : Link) → List·Memᴰ l ls → NoGap l) → Same (completed n (constraints ls))
+  unfolding completed
+  completed-same n ls none = both-same (records-same ls none) (added-same (loose-steps n (constraints ls)))
+
   -- Each gains a number of two bytes at most.
   sequencing-few : (i j : ℕ) (x : Delay) → ((ticks : ℕ) → x ≡ Fixed ticks → ticks ≤ most-ticks) → gapless-sequencing x i j .gain ≤ most-ticks
   unfolding gapless-sequencing
@@ -249,13 +260,13 @@ module _ (s : List ℕ) (q : Records) (bytes : Bytes s) (before : gapless-read s
   sheet-is = record { bytes = bytes; reads = reads }
 
   edges-same : edges-of q ≡ gapless-edges-of q
-  unfolding edges-of edges gapless-edges-of
-  edges-same = records-same (q .steps) (q .pairs) (no-gaps s q bytes before) .same
+  unfolding edges-of edges gapless-edges-of links-of
+  edges-same = completed-same (q .steps) (count-of q) (q .pairs) (no-gaps s q bytes before) .same
 
   gains : Gains (members (edges-of q)) most-ticks
   unfolding gapless-edges-of
   gains e m =
-      let r = Memᴰ·of-map (gapless-edge (q .steps)) (constraints (q .pairs)) (subst (λ (es : List Edge). members es e) edges-same m) in
+      let r = Memᴰ·of-map (gapless-edge (q .steps)) (links-of q) (subst (λ (es : List Edge). members es e) edges-same m) in
       subst (λ (x : Edge). x .gain ≤ most-ticks) (r .2) (link-few (q .steps) (fits-of sheet-is .ticks) (r .0) (sheet-link (fits-of sheet-is) (r .0) (r .1) .within))
 
   pub as-before : AsBefore s q

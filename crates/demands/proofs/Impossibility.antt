@@ -9,7 +9,7 @@ use native.Mathlib.Omega.{arith}
 use Rattle.definitions.specs.Limits.{most-duration}
 use Rattle.definitions.specs.Basics.{refused}
 use Rattle.definitions.specs.Bytes.{Records}
-use Rattle.definitions.specs.Links.{Edge, members, constraints, After, UsableFrom}
+use Rattle.definitions.specs.Links.{Edge, members, links-of, After, UsableFrom}
 use Rattle.definitions.specs.Plan.{delays}
 use Rattle.definitions.specs.Answers.{infeasible, inconsistent, judged, count-of, edges-of}
 use Rattle.laws.proofs.Bools.{bool-cases}
@@ -30,7 +30,7 @@ use Rattle.demands.proofs.Formed.{formed-fits, formed-rooted, formed-sh
 -- Start times keep the links of a sheet exactly if they are a schedule of its edges.
 pub keeps-sheet : (q : Records) (d t : ℕ → ℕ) → KeepsLinks q d t ↔ Schedule (members (edges-of q)) d t
 unfolding edges-of
-keeps-sheet q d t = (keeps-schedule (q .steps) d t (constraints (q .pairs)), schedule-keeps (q .steps) d t (constraints (q .pairs)))
+keeps-sheet q d t = (keeps-schedule (q .steps) d t (links-of q), schedule-keeps (q .steps) d t (links-of q))
 
 -- A sheet that can be scheduled has start times for all delays.
 starts-exist : (q : Records) → Well (count-of q) (members (edges-of q)) → (d : ℕ → ℕ) → d 0 ≡ 0 → (t : ℕ → ℕ) × KeepsLinks q d t

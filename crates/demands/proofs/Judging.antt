@@ -9,13 +9,12 @@ use Rattle.definitions.specs.Basics.{Outcome, given, refused, refuse-if}
 use Rattle.definitions.specs.Bytes.{Records, read}
 use Rattle.definitions.specs.Links.{Edge}
 use Rattle.definitions.specs.Waits.{needs-waits}
-use Rattle.definitions.specs.Answers.{closes-circle, unreached, infeasible, inconsistent, unserializable, judge-edges, count-of, edges-of, judge-records, judged}
+use Rattle.definitions.specs.Answers.{closes-circle, infeasible, inconsistent, unserializable, judge-edges, count-of, edges-of, judge-records, judged}
 use Rattle.laws.proofs.Outcomes.{given-not-refused, given-same, refuse-own, refuse-other, refuse-given, refuse-never, when-given-by}
 
--- No refusal from 8 to 11 applies.
+-- None of 8, 10 and 11 applies.
 pub record Passes (n : ℕ) (es : List Edge) : Type 0 where
   pub no-circle : closes-circle n es ≡ false
-  pub all-reached : unreached n es ≡ false
   pub feasible : infeasible n es ≡ false
   pub consistent : inconsistent n es ≡ false
 
@@ -38,9 +37,6 @@ module _ (n : ℕ) (es : List Edge) (allow : Bool) where
   abbrev from-10 : Outcome ℕ
   from-10 = refuse-if (infeasible n es) 10 from-11
 
-  abbrev from-9 : Outcome ℕ
-  from-9 = refuse-if (unreached n es) 9 from-10
-
   -- What stands behind a refusal never gives its number.
   never-12 : {k : ℕ} → k < 12 → from-12 ≢ refused k
   never-12 h = refuse-never waits-refused 12 last (λ e. omega arith) (λ e. given-not-refused e)
@@ -54,79 +50,67 @@ module _ (n : ℕ) (es : List Edge) (allow : Bool) where
   never-10 : {k : ℕ} → k < 10 → from-10 ≢ refused k
   never-10 h = refuse-never (infeasible n es) 10 from-11 (λ e. omega arith) (never-11 (omega arith))
 
-  never-9 : {k : ℕ} → k < 9 → from-9 ≢ refused k
-  never-9 h = refuse-never (unreached n es) 9 from-10 (λ e. omega arith) (never-10 (omega arith))
-
-  -- Judging gives no number below 8, nor one above 12 but 28.
+  -- Judging gives no number below 8, nor 9, nor one above 12 but 28.
   pub judge-never-past : {k : ℕ} → 12 < k → 28 ≢ k → judge-edges n es allow ≢ refused k
   unfolding judge-edges
   judge-never-past h z =
-      refuse-never (closes-circle n es) 8 from-9 (λ e. omega arith)
-      (refuse-never (unreached n es) 9 from-10 (λ e. omega arith)
+      refuse-never (closes-circle n es) 8 from-10 (λ e. omega arith)
       (refuse-never (infeasible n es) 10 from-11 (λ e. omega arith)
       (refuse-never (inconsistent n es) 11 from-28 (λ e. omega arith)
       (refuse-never (unserializable n es) 28 from-12 z
-      (refuse-never waits-refused 12 last (λ e. omega arith) (λ e. given-not-refused e))))))
+      (refuse-never waits-refused 12 last (λ e. omega arith) (λ e. given-not-refused e)))))
 
   pub judge-never : {k : ℕ} → k < 8 → judge-edges n es allow ≢ refused k
   unfolding judge-edges
-  judge-never h = refuse-never (closes-circle n es) 8 from-9 (λ e. omega arith) (never-9 (omega arith))
+  judge-never h = refuse-never (closes-circle n es) 8 from-10 (λ e. omega arith) (never-10 (omega arith))
+
+  pub judge-never-9 : judge-edges n es allow ≢ refused 9
+  unfolding judge-edges
+  judge-never-9 = refuse-never (closes-circle n es) 8 from-10 (λ e. omega arith) (never-10 (omega arith))
 
   pub judge-8 : (judge-edges n es allow ≡ refused 8) ↔ (closes-circle n es ≡ true)
   unfolding judge-edges
-  judge-8 = refuse-own (closes-circle n es) 8 from-9 (never-9 (omega arith))
+  judge-8 = refuse-own (closes-circle n es) 8 from-10 (never-10 (omega arith))
 
-  -- Behind 8, behind 9, and so on.
-  past-8 : {k : ℕ} → 8 ≢ k → (judge-edges n es allow ≡ refused k) ↔ ((closes-circle n es ≡ false) × (from-9 ≡ refused k))
-  unfolding judge-edges
-  past-8 = refuse-other (closes-circle n es) 8 from-9
-
-  pub judge-9 : (judge-edges n es allow ≡ refused 9) ↔ ((closes-circle n es ≡ false) × (unreached n es ≡ true))
-  judge-9 =
-      let p = past-8 {k = 9} (λ e. omega arith) in
-      let r = refuse-own (unreached n es) 9 from-10 (never-10 (omega arith)) in
-      (λ h. let a = p .0 h in (a .0, r .0 (a .1)), λ h. p .1 (h .0, r .1 (h .1)))
-
-  module _ (no-circle : closes-circle n es ≡ false) (all-reached : unreached n es ≡ false) where
-    past-9 : {k : ℕ} → 8 ≢ k → 9 ≢ k → (judge-edges n es allow ≡ refused k) ↔ (from-10 ≡ refused k)
-    past-9 h k =
-        let p = past-8 h in
-        let r = refuse-other (unreached n es) 9 from-10 k in
-        (λ e. r .0 (p .0 e .1) .1, λ e. p .1 (no-circle, r .1 (all-reached, e)))
+  -- Behind 8, behind 10, and so on.
+  module _ (no-circle : closes-circle n es ≡ false) where
+    past-8 : {k : ℕ} → 8 ≢ k → (judge-edges n es allow ≡ refused k) ↔ (from-10 ≡ refused k)
+    unfolding judge-edges
+    past-8 h = let r = refuse-other (closes-circle n es) 8 from-10 h in (λ e. r .0 e .1, λ e. r .1 (no-circle, e))
 
     pub judge-10 : (judge-edges n es allow ≡ refused 10) ↔ (infeasible n es ≡ true)
     judge-10 =
-        let p = past-9 {k = 10} (λ e. omega arith) (λ e. omega arith) in
+        let p = past-8 {k = 10} (λ e. omega arith) in
         let r = refuse-own (infeasible n es) 10 from-11 (never-11 (omega arith)) in
         (λ h. r .0 (p .0 h), λ h. p .1 (r .1 h))
 
-    past-10 : {k : ℕ} → 8 ≢ k → 9 ≢ k → 10 ≢ k → (judge-edges n es allow ≡ refused k) ↔ ((infeasible n es ≡ false) × (from-11 ≡ refused k))
-    past-10 h k l =
-        let p = past-9 h k in
+    past-10 : {k : ℕ} → 8 ≢ k → 10 ≢ k → (judge-edges n es allow ≡ refused k) ↔ ((infeasible n es ≡ false) × (from-11 ≡ refused k))
+    past-10 h l =
+        let p = past-8 h in
         let r = refuse-other (infeasible n es) 10 from-11 l in
         (λ e. r .0 (p .0 e), λ e. p .1 (r .1 e))
 
     pub judge-11 : (judge-edges n es allow ≡ refused 11) ↔ ((infeasible n es ≡ false) × (inconsistent n es ≡ true))
     judge-11 =
-        let p = past-10 {k = 11} (λ e. omega arith) (λ e. omega arith) (λ e. omega arith) in
+        let p = past-10 {k = 11} (λ e. omega arith) (λ e. omega arith) in
         let r = refuse-own (inconsistent n es) 11 from-28 (never-28 (omega arith)) in
         (λ h. let a = p .0 h in (a .0, r .0 (a .1)), λ h. p .1 (h .0, r .1 (h .1)))
 
-    past-11 : {k : ℕ} → 8 ≢ k → 9 ≢ k → 10 ≢ k → 11 ≢ k → (judge-edges n es allow ≡ refused k) ↔ ((infeasible n es ≡ false) × (inconsistent n es ≡ false) × (from-28 ≡ refused k))
-    past-11 h k l m =
-        let p = past-10 h k l in
+    past-11 : {k : ℕ} → 8 ≢ k → 10 ≢ k → 11 ≢ k → (judge-edges n es allow ≡ refused k) ↔ ((infeasible n es ≡ false) × (inconsistent n es ≡ false) × (from-28 ≡ refused k))
+    past-11 h l m =
+        let p = past-10 h l in
         let r = refuse-other (inconsistent n es) 11 from-28 m in
         (λ e. let a = p .0 e in let b = r .0 (a .1) in (a .0, b .0, b .1), λ e. p .1 (e .0, r .1 (e .1, e .2)))
 
     pub judge-28 : (judge-edges n es allow ≡ refused 28) ↔ ((infeasible n es ≡ false) × (inconsistent n es ≡ false) × (unserializable n es ≡ true))
     judge-28 =
-        let p = past-11 {k = 28} (λ e. omega arith) (λ e. omega arith) (λ e. omega arith) (λ e. omega arith) in
+        let p = past-11 {k = 28} (λ e. omega arith) (λ e. omega arith) (λ e. omega arith) in
         let r = refuse-own (unserializable n es) 28 from-12 (refuse-never waits-refused 12 last (λ e. omega arith) (λ e. given-not-refused e)) in
         (λ h. let a = p .0 h in (a .0, a .1, r .0 (a .2)), λ h. p .1 (h .0, h .1, r .1 (h .2)))
 
     pub judge-12 : (judge-edges n es allow ≡ refused 12) ↔ ((infeasible n es ≡ false) × (inconsistent n es ≡ false) × (unserializable n es ≡ false) × (waits-refused ≡ true))
     judge-12 =
-        let p = past-11 {k = 12} (λ e. omega arith) (λ e. omega arith) (λ e. omega arith) (λ e. omega arith) in
+        let p = past-11 {k = 12} (λ e. omega arith) (λ e. omega arith) (λ e. omega arith) in
         let r = refuse-other (unserializable n es) 28 from-12 {l = 12} (λ e. omega arith) in
         let t = refuse-own waits-refused 12 last (λ e. given-not-refused e) in
         (λ h. let a = p .0 h in let b = r .0 (a .2) in (a .0, a .1, b .0, t .0 (b .1)), λ h. p .1 (h .0, h .1, r .1 (h .2, t .1 (h .3))))
@@ -135,14 +119,13 @@ module _ (n : ℕ) (es : List Edge) (allow : Bool) where
   pub judge-given : (v : ℕ) → (judge-edges n es allow ≡ given v) ↔ (Passes n es × (unserializable n es ≡ false) × (waits-refused ≡ false) × (cond (needs-waits n es) 1 0 ≡ v))
   unfolding judge-edges
   judge-given v =
-      let r8 = refuse-given (closes-circle n es) 8 from-9 v in
-      let r9 = refuse-given (unreached n es) 9 from-10 v in
+      let r8 = refuse-given (closes-circle n es) 8 from-10 v in
       let r10 = refuse-given (infeasible n es) 10 from-11 v in
       let r11 = refuse-given (inconsistent n es) 11 from-28 v in
       let r28 = refuse-given (unserializable n es) 28 from-12 v in
       let r12 = refuse-given waits-refused 12 last v in (
-        λ h. let a = r8 .0 h in let b = r9 .0 (a .1) in let c = r10 .0 (b .1) in let d = r11 .0 (c .1) in let f = r28 .0 (d .1) in let e = r12 .0 (f .1) in (record { no-circle = a .0; all-reached = b .0; feasible = c .0; consistent = d .0 }, f .0, e .0, given-same (e .1)),
-        λ h. r8 .1 (h .0 .no-circle, r9 .1 (h .0 .all-reached, r10 .1 (h .0 .feasible, r11 .1 (h .0 .consistent, r28 .1 (h .1, r12 .1 (h .2, ap given (h .3))))))),
+        λ h. let a = r8 .0 h in let c = r10 .0 (a .1) in let d = r11 .0 (c .1) in let f = r28 .0 (d .1) in let e = r12 .0 (f .1) in (record { no-circle = a .0; feasible = c .0; consistent = d .0 }, f .0, e .0, given-same (e .1)),
+        λ h. r8 .1 (h .0 .no-circle, r10 .1 (h .0 .feasible, r11 .1 (h .0 .consistent, r28 .1 (h .1, r12 .1 (h .2, ap given (h .3)))))),
       )
 
 -- Judging the bytes of a sheet is judging its edges.

@@ -17,5 +17,6 @@ pub mod Foresight
 pub mod OurStarts
 pub mod Planning
 pub mod Gapless
+pub mod Completion
 pub mod Examples
 pub mod Demands

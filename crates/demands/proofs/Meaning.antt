@@ -1,19 +1,17 @@
--- The tests that the definitions compute are the relations of document 01, for the edges of a sheet as sent and with its waits in.
-use mathlib.Core.Path.{_≡_, refl, sym, ap, subst, _∙_}
-use mathlib.Core.Bool.{true, not}
+-- The tests that the definitions compute are the relations of document 01, for the edges of a sheet without its waits and with them.
+use mathlib.Core.Path.{_≡_, refl, sym, subst, _∙_}
+use mathlib.Core.Bool.{true}
 use mathlib.Core.Logic.{_⊎_, inl, inr, _↔_}
 use mathlib.Core.List.{List, List·Memᴰ}
 use Prim.Native.Nat.{ℕ, suc, _+_, _<_}
 use native.Mathlib.Omega.{arith}
-use borrow.Author.Tests.{not-true}
 use Rattle.definitions.specs.Bytes.{Records}
 use Rattle.definitions.specs.Links.{Edge, members, Forward, Walk, stop, step, Joined, After, forwards, delay-at}
 use Rattle.definitions.specs.Rounds.{reaches}
 use Rattle.definitions.specs.Anchors.{InAnchorSet, is-source, chain}
-use Rattle.definitions.specs.Answers.{closes-circle, unreached, count-of, edges-of, serialized-of}
+use Rattle.definitions.specs.Answers.{closes-circle, count-of, edges-of, serialized-of}
 use Rattle.definitions.specs.declared.Delay.the-variants.{Open}
-use Rattle.laws.proofs.Bools.{both-ways, not-passing}
-use Rattle.laws.proofs.Tests.{any-has, any-by, any-below-has, any-below-by}
+use Rattle.laws.proofs.Tests.{any-has, any-by}
 use Rattle.theory.specs.Graphs.{Shape}
 use Rattle.theory.proofs.Walks.{after-mono, some-after, walk-to, joined-mono, chain-after}
 use Rattle.theory.proofs.Reachability.{forwards-mem, mem-forwards, forwards-shape, reaches-iff, after-reaches-iff, in-anchor-set-iff, well-posed-iff}
@@ -24,7 +22,7 @@ use Rattle.demands.specs.Demands.{Meant, MeantFor, WaitOf, sheet-waits}
 use Rattle.demands.proofs.Reading.{Fits}
 use Rattle.demands.proofs.Edges.{sheet-shape, sheet-fits}
 
-module _ {n : ℕ} {es : List Edge} (some : 0 < n) (shape : Shape n (members es)) where
+module _ {n : ℕ} {es : List Edge} (shape : Shape n (members es)) where
   -- A chain of forward links, by test.
   forward-reaches : {x : ℕ} → x < n → (v : ℕ) → (reaches n (forwards es) x v ≡ true) ↔ Joined (Forward (members es)) x v
   forward-reaches b v =
@@ -51,7 +49,6 @@ module _ {n : ℕ} {es : List Edge} (some : 0 < n) (shape : Shape n (members es)
       (forward-reaches (shape .to-below e (m .0)) (e .from) .1 (record { k = k₀; p = p₀; q = q₀; walk = subst (λ (i : ℕ). Walk (Forward (members es)) i (e .from) k₀ p₀ q₀) (h ∙ sym o) (walk-to w (sym f) refl refl refl) }))
 
   pub meant : Meant n es
-  unfolding unreached
   meant = record {
     walks = λ x v b. reaches-iff shape b v;
     after-walks = after-reaches-iff shape;
@@ -59,10 +56,6 @@ module _ {n : ℕ} {es : List Edge} (some : 0 < n) (shape : Shape n (members es)
     start-sets = in-anchor-set-iff shape;
     sound = well-posed-iff shape;
     circle = (circle-walk, λ r. walk-circle refl (r .4));
-    reached = (
-      λ h. let r = any-below-has (λ v. not (reaches n (forwards es) 0 v)) n h in (r .0, r .1, λ J. both-ways (forward-reaches some (r .0) .1 J) (not-true (reaches n (forwards es) 0 (r .0)) (r .2))),
-      λ r. any-below-by (λ v. not (reaches n (forwards es) 0 v)) n (r .1) (ap not (not-passing (reaches n (forwards es) 0 (r .0)) (λ t. r .2 (forward-reaches some (r .0) .0 t)))),
-    );
   }
 
 -- A step from whose end a walk goes is open: the walk's first edge is counted.
@@ -93,4 +86,4 @@ module _ {q : Records} (fits : Fits q) where
   pub meant-for : MeantFor q
   meant-for =
       let S = in-anchor-set-iff waits-shape in
-      record { as-sent = meant (fits .some) (sheet-shape fits); with-waits = meant (fits .some) waits-shape; source = λ v. S 0 v .1 (is-source refl); others-open = λ a v h. member-open (S a v .0 h) }
+      record { unwaited = meant (sheet-shape fits); with-waits = meant waits-shape; source = λ v. S 0 v .1 (is-source refl); others-open = λ a v h. member-open (S a v .0 h) }

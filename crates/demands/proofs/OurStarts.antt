@@ -7,7 +7,7 @@ use Prim.Native.Nat.{ℕ, zero, suc, _≤_, _<_}
 use native.Mathlib.Omega.{arith}
 use borrow.Author.Tests.{ne-eqb}
 use Rattle.definitions.specs.Bytes.{Records}
-use Rattle.definitions.specs.Links.{Edge, members, Constraint, constraints, delay-at, duration-with, KeepsAll, sequencing-edge, edge-of, edges}
+use Rattle.definitions.specs.Links.{Edge, members, Constraint, links-of, delay-at, duration-with, KeepsAll, sequencing-edge, edge-of, edges}
 use Rattle.definitions.specs.Waits.{WaitPair, needs-waits, wait-edge, serialized}
 use Rattle.definitions.specs.Anchors.{WellPosed}
 use Rattle.definitions.specs.Rival.{Further, Extension}
@@ -54,8 +54,8 @@ module _ {q : Records} (fits : Fits q) where
   pub edges-with-waits : edges (q .steps) (links-and-waits q) ≡ serialized-of q
   unfolding edges serialized-of serialized edges-of
   edges-with-waits =
-      map-append (edge-of (q .steps)) (constraints (q .pairs)) (map wait-link (sheet-waits q))
-      ∙ ap (λ (l : List Edge). map (edge-of (q .steps)) (constraints (q .pairs)) ++ l) (map-map (edge-of (q .steps)) wait-link (sheet-waits q) ∙ map-agree (λ w. edge-of (q .steps) (wait-link w)) wait-edge (sheet-waits q) wait-edge-link)
+      map-append (edge-of (q .steps)) (links-of q) (map wait-link (sheet-waits q))
+      ∙ ap (λ (l : List Edge). map (edge-of (q .steps)) (links-of q) ++ l) (map-map (edge-of (q .steps)) wait-link (sheet-waits q) ∙ map-agree (λ w. edge-of (q .steps) (wait-link w)) wait-edge (sheet-waits q) wait-edge-link)
 
 module _ {s : List ℕ} {allow : Bool} {q : Records} {v : ℕ} (accepted : Accepted s allow q v) where
   fits : Fits q
@@ -72,7 +72,7 @@ module _ {s : List ℕ} {allow : Bool} {q : Records} {v : ℕ} (accepted : Accep
   pub kept-for : (d : ℕ → ℕ) → d 0 ≡ 0 → KeptFor q d
   kept-for d d0 =
       let k = all-kept d d0 in
-      record { links = record { starts = k .starts; keeps = λ c m. k .keeps c (Memᴰ·append-left (map wait-link (sheet-waits q)) m) }; waits = λ w m. k .keeps (wait-link w) (Memᴰ·append-right (constraints (q .pairs)) (Memᴰ·map wait-link m)) }
+      record { links = record { starts = k .starts; keeps = λ c m. k .keeps c (Memᴰ·append-left (map wait-link (sheet-waits q)) m) }; waits = λ w m. k .keeps (wait-link w) (Memᴰ·append-right (links-of q) (Memᴰ·map wait-link m)) }
 
   -- The waits' links are further links, and with them the sheet is sound.
   pub ours-among : (d : ℕ → ℕ) → d 0 ≡ 0 → OursAmong q d (links-and-waits q)
@@ -80,7 +80,7 @@ module _ {s : List ℕ} {allow : Bool} {q : Records} {v : ℕ} (accepted : Accep
   ours-among d d0 = record {
     extension = record {
       keeps-all = λ c m. Memᴰ·append-left (map wait-link (sheet-waits q)) m;
-      only = λ c m. only c (List·Memᴰ·append-cases (constraints (q .pairs)) m);
+      only = λ c m. only c (List·Memᴰ·append-cases (links-of q) m);
       well-posed = subst (λ (l : List Edge). WellPosed (members l)) (sym (edges-with-waits fits)) (plan-posed (accepted-well accepted) (accepted-serial accepted));
     };
     kept = all-kept d d0;
@@ -89,7 +89,7 @@ module _ {s : List ℕ} {allow : Bool} {q : Records} {v : ℕ} (accepted : Accep
       further : (w : WaitPair) → List·Memᴰ w (sheet-waits q) → Further (count-of q) (wait-link w)
       further w m = let r = wait-of fits w m in (r .anchor-below, r .target-below)
 
-      only : (c : Constraint) → List·Memᴰ c (constraints (q .pairs)) ⊎ List·Memᴰ c (map wait-link (sheet-waits q)) → List·Memᴰ c (constraints (q .pairs)) ⊎ Further (count-of q) c
+      only : (c : Constraint) → List·Memᴰ c (links-of q) ⊎ List·Memᴰ c (map wait-link (sheet-waits q)) → List·Memᴰ c (links-of q) ⊎ Further (count-of q) c
       only c (inl m) = inl m
       only c (inr m) = let r = Memᴰ·of-map wait-link (sheet-waits q) m in inr (subst (Further (count-of q)) (r .2) (further (r .0) (r .1)))
 
@@ -100,7 +100,7 @@ module _ {s : List ℕ} {allow : Bool} {q : Records} {v : ℕ} (accepted : Accep
     earliest h d t d0 k =
         plan-least-unwaited (accepted-well accepted) (accepted-serial accepted) (sheet-timely fits timely) (verdict-zero (needs-waits (count-of q) (edges-of q)) .0 (accepted-verdict accepted ∙ h)) d0 (keeps-sheet q d t .0 k)
 
-    pub earliest-of-rivals : (fs : List Constraint) → Extension (q .steps) (constraints (q .pairs)) fs → (d t : ℕ → ℕ) → d 0 ≡ 0 → KeepsAll (q .steps) fs d t → (i : ℕ) → i < count-of q → our-start q d i ≤ t i
+    pub earliest-of-rivals : (fs : List Constraint) → Extension (q .steps) (links-of q) fs → (d t : ℕ → ℕ) → d 0 ≡ 0 → KeepsAll (q .steps) fs d t → (i : ℕ) → i < count-of q → our-start q d i ≤ t i
     unfolding serialized-of
     earliest-of-rivals fs extension d t d0 k =
         plan-least-rival (accepted-well accepted) (accepted-serial accepted) (sheet-timely fits timely) (rival-above fits extension) (rival-shape fits extension) (extension .well-posed) (rival-timely fits extension timely) d0 (keeps-schedule (q .steps) d t fs k)

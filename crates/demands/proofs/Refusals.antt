@@ -9,12 +9,12 @@ use native.Mathlib.Decide.{decLt}
 use Rattle.definitions.specs.Basics.{Outcome, given, refused, when-given}
 use Rattle.definitions.specs.Bytes.{Records, sheet, read}
 use Rattle.definitions.specs.Links.{Edge}
-use Rattle.definitions.specs.Answers.{closes-circle, unreached, count-of, edges-of, judge-edges, judge-records, judged}
+use Rattle.definitions.specs.Answers.{closes-circle, count-of, edges-of, judge-edges, judge-records, judged}
 use Rattle.laws.proofs.Bools.{not-passing, both-ways, same-or-not}
 use Rattle.laws.proofs.Outcomes.{refused-same}
 use Rattle.demands.specs.Demands.{FromReading, FromForm, WellFormed, ReadExactly, WellFormedExactly}
 use Rattle.demands.proofs.Reading.{read-most}
-use Rattle.demands.proofs.Judging.{judge-8, judge-9, judge-never, judge-never-past, judged-edges}
+use Rattle.demands.proofs.Judging.{judge-8, judge-never, judge-never-9, judge-never-past, judged-edges}
 
 not-reading : (n : ℕ) (es : List Edge) (allow : Bool) {k : ℕ} → FromReading k → judge-edges n es allow ≢ refused k
 not-reading n es allow (inl h) = judge-never n es allow (omega arith)
@@ -43,7 +43,7 @@ well-formed-exactly s bytes allow = (λ r. passed (r .0) (r .1), λ h. formed h 
         go : k ≤ 9 → Dec (k < 8) → (k ≡ 8) ⊎ (k ≢ 8) → ⊥
         go b (yes c) z = judge-never (count-of q) (edges-of q) allow c j
         go b (no c) (inl e) = both-ways (judge-8 (count-of q) (edges-of q) allow .0 (j ∙ ap refused e)) (f .no-circle)
-        go b (no c) (inr e) = both-ways (judge-9 (count-of q) (edges-of q) allow .0 (j ∙ ap refused (let nine : k ≡ 9 = omega arith in nine)) .1) (f .all-reached)
+        go b (no c) (inr e) = judge-never-9 (count-of q) (edges-of q) allow (j ∙ ap refused (let nine : k ≡ 9 = omega arith in nine))
 
         by : FromForm k → ⊥
         by (inl b) = go b (decLt k 8) (same-or-not k 8)
@@ -58,4 +58,4 @@ well-formed-exactly s bytes allow = (λ r. passed (r .0) (r .1), λ h. formed h 
     formed h (given q) e =
         let as-judged = judged-edges s e allow in
         let c = not-passing (closes-circle (count-of q) (edges-of q)) (λ t. h 8 (inl (omega arith)) (as-judged ∙ judge-8 (count-of q) (edges-of q) allow .1 t)) in
-        (q, record { sheet = record { bytes = bytes; reads = e }; no-circle = c; all-reached = not-passing (unreached (count-of q) (edges-of q)) (λ t. h 9 (inl (omega arith)) (as-judged ∙ judge-9 (count-of q) (edges-of q) allow .1 (c, t))) })
+        (q, record { sheet = record { bytes = bytes; reads = e }; no-circle = c })

@@ -1,24 +1,25 @@
--- From the answers of judging to the graph of a sheet: a sheet that passes 8 to 11 can be scheduled for all delays, one that passes 28 can have its waits put in, and what 10, 11 and 28 say of it.
+-- From the answers of judging to the graph of a sheet: a sheet that passes 8, 10 and 11 can be scheduled for all delays, one that passes 28 can have its waits put in, and what 10, 11 and 28 say of it.
 use mathlib.Core.Path.{_≡_, sym, ap, subst}
 use mathlib.Core.Bool.{true, false, not}
 use mathlib.Core.Logic.{_↔_}
 use mathlib.Core.List.{List}
 use Prim.Native.Nat.{ℕ, _<_}
 use borrow.Author.Tests.{not-true, not-false}
-use Rattle.definitions.specs.Links.{Edge, members, forwards, After, UsableFrom, usable}
-use Rattle.definitions.specs.Rounds.{rounds, stable, source-row, reaches, after-reaches}
+use Rattle.definitions.specs.Links.{Edge, members, After, UsableFrom, usable}
+use Rattle.definitions.specs.Rounds.{rounds, stable, source-row, after-reaches}
 use Rattle.definitions.specs.Waits.{needs-waits, serialized}
-use Rattle.definitions.specs.Answers.{closes-circle, unreached, infeasible, inconsistent, unserializable}
+use Rattle.definitions.specs.Answers.{closes-circle, infeasible, inconsistent, unserializable}
 use Rattle.laws.proofs.Bools.{not-passing, both-ways, or-neither}
-use Rattle.laws.proofs.Tests.{any-below-has, any-below-none, all-below-by}
-use Rattle.theory.specs.Graphs.{Schedule, Shape, Rooted, ForwardAcyclic, NonPositive, Serializable, Well}
+use Rattle.laws.proofs.Tests.{any-below-has, any-below-none}
+use Rattle.theory.specs.Graphs.{Entered, Schedule, Shape, Rooted, ForwardAcyclic, NonPositive, Serializable, Well}
 use Rattle.theory.proofs.Serialization.{waited-rooted}
 use Rattle.theory.proofs.WaitLists.{serialized-none, serialized-shape, serialized-waited, usable-reaches-iff}
-use Rattle.theory.proofs.Feasibility.{stable-nonpositive-iff, stable-schedule-iff, well-by, rooted-iff, forward-acyclic-iff}
+use Rattle.theory.proofs.Feasibility.{stable-nonpositive-iff, stable-schedule-iff, well-by, forward-acyclic-iff}
+use Rattle.theory.proofs.Entering.{entered-rooted}
 use Rattle.demands.proofs.Judging.{Passes}
 
 module _ {n : ℕ} {es : List Edge} (some : 0 < n) (shape : Shape n (members es)) where
-  -- Not 8, and not 9.
+  -- Not 8; and then every step has a chain from step 0, where an edge leads into each.
   circle-free : (closes-circle n es ≡ false) ↔ ForwardAcyclic (members es)
   unfolding closes-circle
   circle-free = forward-acyclic-iff shape
@@ -26,11 +27,8 @@ module _ {n : ℕ} {es : List Edge} (some : 0 < n) (shape : Shape n (members es)
   pub not-8 : closes-circle n es ≡ false → ForwardAcyclic (members es)
   not-8 h = circle-free .0 h
 
-  pub not-9 : unreached n es ≡ false → Rooted n (members es)
-  unfolding unreached
-  not-9 h =
-      rooted-iff some shape .0
-      (all-below-by (reaches n (forwards es) 0) n (λ v b. not-false (reaches n (forwards es) 0 v) (any-below-none (λ v. not (reaches n (forwards es) 0 v)) n h v b)))
+  pub acyclic-rooted : Entered n (members es) → closes-circle n es ≡ false → Rooted n (members es)
+  acyclic-rooted entered h = entered-rooted shape entered (not-8 h)
 
   -- 10: no start times keep the edges with delays 0; some closed walk is above 0.
   module _ (rooted : Rooted n (members es)) where
@@ -57,8 +55,8 @@ module _ {n : ℕ} {es : List Edge} (some : 0 < n) (shape : Shape n (members es)
     not-10-11 h k =
         well-by some shape rooted (not-false (stable es (rounds es n (source-row n 0))) h) (λ a b. any-below-none (λ a. after-reaches n (usable es a) a a) n k a b)
 
-  pub passes-well : Passes n es → Well n (members es)
-  passes-well P = not-10-11 (not-9 (P .all-reached)) (P .feasible) (P .consistent)
+  pub passes-well : Entered n (members es) → Passes n es → Well n (members es)
+  passes-well entered P = not-10-11 (acyclic-rooted entered (P .no-circle)) (P .feasible) (P .consistent)
 
 -- Not 28: the waits can be put in.
 module _ {n : ℕ} {es : List Edge} (some : 0 < n) (shape : Shape n (members es)) (rooted : Rooted n (members es)) where

@@ -10,18 +10,18 @@ use Rattle.definitions.specs.Basics.{refused}
 use Rattle.definitions.specs.Bytes.{Records}
 use Rattle.definitions.specs.Links.{Edge, KeepsAll, members}
 use Rattle.definitions.specs.Waits.{needs-waits, serialized}
-use Rattle.definitions.specs.Answers.{closes-circle, unreached, infeasible, unserializable, judged, judge-edges, count-of, edges-of, serialized-of}
+use Rattle.definitions.specs.Answers.{closes-circle, infeasible, unserializable, judged, judge-edges, count-of, edges-of, serialized-of}
 use Rattle.laws.proofs.Bools.{and-split, and-join, not-passing, both-ways, or-left, or-right, or-split}
 use Rattle.laws.proofs.Negations.{fails-unless, passes-unless}
 use Rattle.laws.proofs.Outcomes.{refused-same}
 use Rattle.theory.specs.Graphs.{Schedule}
 use Rattle.theory.proofs.WaitLists.{needs-waits-iff}
-use Rattle.demands.specs.Demands.{IsSheet, WellFormed, SomeListLeavesNone, ForwardCircle, Circle, SomeStepUnreached, Sound, WaitsClash, circle, no-times, JudgedFor, links-and-waits}
+use Rattle.demands.specs.Demands.{IsSheet, WellFormed, SomeListLeavesNone, ForwardCircle, Circle, Sound, WaitsClash, circle, no-times, JudgedFor, links-and-waits}
 use Rattle.demands.proofs.Reading.{Fits, fits-of}
-use Rattle.demands.proofs.Edges.{keeps-schedule, schedule-keeps, sheet-shape}
-use Rattle.demands.proofs.Judging.{Passes, judge-8, judge-9, judge-12, judge-28, judge-given, judged-edges}
+use Rattle.demands.proofs.Edges.{keeps-schedule, schedule-keeps, sheet-entered, sheet-shape}
+use Rattle.demands.proofs.Judging.{Passes, judge-8, judge-12, judge-28, judge-given, judge-never-9, judged-edges}
 use Rattle.demands.proofs.Meaning.{meant-for, waits-shape}
-use Rattle.demands.proofs.Sheets.{is-10, not-8, not-9, passes-well, serialized-rooted, unneeded-serializable}
+use Rattle.demands.proofs.Sheets.{is-10, not-8, passes-well, serialized-rooted, unneeded-serializable}
 use Rattle.demands.proofs.Formed.{formed-rooted, judged-10, judged-11, not-judged-10, not-judged-11}
 use Rattle.demands.proofs.Impossibility.{impossible-for}
 use Rattle.demands.proofs.OurStarts.{edges-with-waits}
@@ -40,23 +40,19 @@ module _ (s : List ℕ) (allow : Bool) (q : Records) (sheet : IsSheet s q) where
   on-edges = judged-edges s (sheet .reads) allow
 
   circled : (closes-circle n es ≡ true) ↔ Circle q
-  circled = meant-for fits .as-sent .circle
+  circled = meant-for fits .unwaited .circle
 
-  unreach : (unreached n es ≡ true) ↔ SomeStepUnreached q
-  unreach = meant-for fits .as-sent .reached
-
-  formed-iff : WellFormed s q ↔ ((¬ Circle q) × (¬ SomeStepUnreached q))
+  formed-iff : WellFormed s q ↔ (¬ Circle q)
   formed-iff =
       let c = fails-unless (closes-circle n es) circled in
-      let u = fails-unless (unreached n es) unreach in
-      (λ f. (c .0 (f .no-circle), u .0 (f .all-reached)), λ r. record { sheet = sheet; no-circle = c .1 (r .0); all-reached = u .1 (r .1) })
+      (λ f. c .0 (f .no-circle), λ r. record { sheet = sheet; no-circle = c .1 r })
 
-  -- No refusal from 8 to 11 applies exactly if the sheet is well-formed and no list leaves none.
+  -- None of 8, 10 and 11 applies exactly if the sheet is well-formed and no list leaves none.
   passes-iff : Passes n es ↔ (WellFormed s q × (¬ SomeListLeavesNone q))
   passes-iff = (λ P. (formed P, λ L. refuse P (impossible-for s allow q (formed P) .impossible .1 L)), λ r. passes (r .0) (r .1))
     where
       formed : Passes n es → WellFormed s q
-      formed P = record { sheet = sheet; no-circle = P .no-circle; all-reached = P .all-reached }
+      formed P = record { sheet = sheet; no-circle = P .no-circle }
 
       refuse : Passes n es → (judged s allow ≡ refused 10) ⊎ (judged s allow ≡ refused 11) → ⊥
       refuse P (inl h) = both-ways (judged-10 (formed P) allow .0 h) (P .feasible)
@@ -66,7 +62,7 @@ module _ (s : List ℕ) (allow : Bool) (q : Records) (sheet : IsSheet s q) where
       passes f none =
           let I = impossible-for s allow q f .impossible in
           let feasible = not-judged-10 f allow (λ h. none (I .0 (inl h))) in
-          record { no-circle = f .no-circle; all-reached = f .all-reached; feasible = feasible; consistent = not-judged-11 f allow feasible (λ h. none (I .0 (inr h))) }
+          record { no-circle = f .no-circle; feasible = feasible; consistent = not-judged-11 f allow feasible (λ h. none (I .0 (inr h))) }
 
   unneeded : (needs-waits n es ≡ false) ↔ Sound q
   unneeded = needs-waits-iff (sheet-shape fits)
@@ -74,14 +70,12 @@ module _ (s : List ℕ) (allow : Bool) (q : Records) (sheet : IsSheet s q) where
   needed : (needs-waits n es ≡ true) ↔ (¬ Sound q)
   needed = passes-unless (needs-waits n es) unneeded
 
-  -- What is refused with another number than 8 and 9 is well-formed.
-  formed-by : {k : ℕ} → 8 ≢ k → 9 ≢ k → judge-edges n es allow ≡ refused k → (closes-circle n es ≡ false) × (unreached n es ≡ false)
-  formed-by {k} not-8 not-9 h =
-      let c = not-passing (closes-circle n es) (λ t. not-8 (refused-same (sym (judge-8 n es allow .1 t) ∙ h))) in
-      (c, not-passing (unreached n es) (λ t. not-9 (refused-same (sym (judge-9 n es allow .1 (c, t)) ∙ h))))
+  -- What is refused with another number than 8 is well-formed.
+  formed-by : {k : ℕ} → 8 ≢ k → judge-edges n es allow ≡ refused k → closes-circle n es ≡ false
+  formed-by {k} not-8 h = not-passing (closes-circle n es) (λ t. not-8 (refused-same (sym (judge-8 n es allow .1 t) ∙ h)))
 
-  pub refused-formed : {k : ℕ} → 8 ≢ k → 9 ≢ k → judged s allow ≡ refused k → WellFormed s q
-  refused-formed a b h = let f = formed-by a b (sym on-edges ∙ h) in record { sheet = sheet; no-circle = f .0; all-reached = f .1 }
+  pub refused-formed : {k : ℕ} → 8 ≢ k → judged s allow ≡ refused k → WellFormed s q
+  refused-formed a h = record { sheet = sheet; no-circle = formed-by a (sym on-edges ∙ h) }
 
   -- 28: by the tests of circles and of 10, on the sheet with its waits.
   clash-iff : WellFormed s q → (unserializable n es ≡ true) ↔ WaitsClash q
@@ -111,23 +105,23 @@ module _ (s : List ℕ) (allow : Bool) (q : Records) (sheet : IsSheet s q) where
 
   twenty-eight : (judge-edges n es allow ≡ refused 28) ↔ (Passes n es × (unserializable n es ≡ true))
   twenty-eight = (
-    λ h. let f = formed-by (λ e. omega arith) (λ e. omega arith) h in
-        let r = judge-28 n es allow (f .0) (f .1) .0 h in
-        (record { no-circle = f .0; all-reached = f .1; feasible = r .0; consistent = r .1 }, r .2),
-    λ r. judge-28 n es allow (r .0 .no-circle) (r .0 .all-reached) .1 (r .0 .feasible, r .0 .consistent, r .1),
+    λ h. let f = formed-by (λ e. omega arith) h in
+        let r = judge-28 n es allow f .0 h in
+        (record { no-circle = f; feasible = r .0; consistent = r .1 }, r .2),
+    λ r. judge-28 n es allow (r .0 .no-circle) .1 (r .0 .feasible, r .0 .consistent, r .1),
   )
 
   -- A sheet that needs no waits passes 28.
   unneeded-passes : Passes n es → needs-waits n es ≡ false → unserializable n es ≡ false
-  unneeded-passes P h = unneeded-serializable (passes-well (fits .some) (sheet-shape fits) P) (not-8 (fits .some) (sheet-shape fits) (P .no-circle)) h
+  unneeded-passes P h = unneeded-serializable (passes-well (fits .some) (sheet-shape fits) (sheet-entered fits) P) (not-8 (fits .some) (sheet-shape fits) (P .no-circle)) h
 
   twelve : (judge-edges n es allow ≡ refused 12) ↔ (Passes n es × (unserializable n es ≡ false) × (needs-waits n es ≡ true) × (allow ≡ false))
   twelve = (
-    λ h. let f = formed-by (λ e. omega arith) (λ e. omega arith) h in
-        let r = judge-12 n es allow (f .0) (f .1) .0 h in
+    λ h. let f = formed-by (λ e. omega arith) h in
+        let r = judge-12 n es allow f .0 h in
         let w = and-split (needs-waits n es) (not allow) (r .3) in
-        (record { no-circle = f .0; all-reached = f .1; feasible = r .0; consistent = r .1 }, r .2, w .0, not-true allow (w .1)),
-    λ r. judge-12 n es allow (r .0 .no-circle) (r .0 .all-reached) .1 (r .0 .feasible, r .0 .consistent, r .1, and-join (r .2) (ap not (r .3))),
+        (record { no-circle = f; feasible = r .0; consistent = r .1 }, r .2, w .0, not-true allow (w .1)),
+    λ r. judge-12 n es allow (r .0 .no-circle) .1 (r .0 .feasible, r .0 .consistent, r .1, and-join (r .2) (ap not (r .3))),
   )
 
   verdict-bool : (b a : Bool) → (((b && not a) ≡ false) × (cond {A = ℕ} b 1 0 ≡ 1)) ↔ ((b ≡ true) × (a ≡ true))
@@ -141,15 +135,14 @@ module _ (s : List ℕ) (allow : Bool) (q : Records) (sheet : IsSheet s q) where
 
   pub judged-for : JudgedFor s allow q
   judged-for =
-      let r9 = judge-9 n es allow in
-      let c = fails-unless (closes-circle n es) circled in
       let given-0 = judge-given n es allow 0 in
       let given-1 = judge-given n es allow 1 in
       let none = verdict-none (needs-waits n es) allow in
       let some = verdict-bool (needs-waits n es) allow in
       record {
         refused-8 = (λ h. circled .0 (judge-8 n es allow .0 (sym on-edges ∙ h)), λ x. on-edges ∙ judge-8 n es allow .1 (circled .1 x));
-        refused-9 = (λ h. let a = r9 .0 (sym on-edges ∙ h) in (c .0 (a .0), unreach .0 (a .1)), λ x. on-edges ∙ r9 .1 (c .1 (x .0), unreach .1 (x .1)));
+        never-9 = λ h. judge-never-9 n es allow (sym on-edges ∙ h);
+        reached = λ none. formed-rooted (formed-iff .1 none);
         well-formed = formed-iff;
         refused-28 = (
           λ h. let a = twenty-eight .0 (sym on-edges ∙ h) in let p = passes-iff .0 (a .0) in (p .0, p .1, clash-iff (p .0) .0 (a .1)),

@@ -6,9 +6,10 @@
 --    steps, these links and further after or at-least links, and any start times that keep it (waits added).
 -- L11. On sheets with a limit from the finish of an open step, nobody without foresight is earlier; refused 28 exactly if, not being 10 or 11, there is no such rival.
 -- L1. All this holds of after links with a gap, and sheets without one plan as before.
+-- L3. All this is read on the completed sheet; 9 never occurs, and sheets on which nothing is added plan as before.
 --
 -- Words that are not defined here are those of the crate definitions, in the words of document 01: Bytes, Links, Anchors, Waits, Plan, Rival, Answers, to be read in this order. Quoted sentences are
--- document 01's, and document 02's where they speak of requests L11 and L1.
+-- document 01's, and document 02's where they speak of requests L11, L1 and L3.
 -- Start times and durations are functions from steps to whole numbers, with no largest one: a hand may take any time at all. Lists of durations are a case of them.
 use mathlib.Core.Path.{_≡_}
 use mathlib.Core.Bool.{Bool, true, false, cond}
@@ -19,19 +20,20 @@ use lib.ListN.{length, getD, take, drop, replicate}
 use Rattle.definitions.specs.Limits.{most-steps, most-duration, most-offset, most-gapless-offset, most-start, longest-sheet}
 use Rattle.definitions.specs.Basics.{largest, test-bit, given, refused}
 use Rattle.definitions.specs.Bytes.{Records, link-map, read}
-use Rattle.definitions.specs.Links.{Constraint, sequencing, finish-maximum, constraints, delay-at, Keeps, KeepsAll, Edge, Graph, members, Forward, Walk, Joined, After, UsableFrom, usable}
+use Rattle.definitions.specs.Links.{Constraint, sequencing, finish-maximum, constraints, links-of, delay-at, Keeps, KeepsAll, Edge, Graph, members, Forward, Walk, Joined, After, UsableFrom, usable}
 use Rattle.definitions.specs.Rounds.{cell, reaches, after-reaches}
 use Rattle.definitions.specs.Anchors.{InAnchorSet, in-anchor-set, WellPosed, well-posed}
 use Rattle.definitions.specs.Waits.{Wait, WaitPair, wait-list, wait-maps, wait-count, wait-pair}
 use Rattle.definitions.specs.Plan.{Offset, offset, start-times, decides, plan-row, plan-table, row-part, undecided, delays-wrong, delays}
 use Rattle.definitions.specs.Rival.{Extension, Lasts, DelayAssignment, DynamicStrategy}
-use Rattle.definitions.specs.Answers.{closes-circle, unreached, count-of, edges-of, serialized-of, judged, waits-answer, planned, starts-answer}
+use Rattle.definitions.specs.Answers.{closes-circle, count-of, edges-of, serialized-of, judge-edges, judged, waits-answer, planned, starts-answer}
 use Rattle.definitions.specs.Output.{StartLine, start-lines, listed, standplan}
 use Rattle.definitions.specs.Worked.{Worked, worked-sheets}
 use Rattle.definitions.specs.declared.Delay.the-variants.{Open, Fixed}
 use Rattle.theory.specs.Counts.{standing-bits}
-use Rattle.theory.specs.Graphs.{Carries, Schedule}
+use Rattle.theory.specs.Graphs.{Carries, Entered, Entry, Schedule}
 use Rattle.demands.specs.Gapless.{gapless-map, gapless-read, gapless-edges-of}
+use Rattle.demands.specs.Entered.{sent-edges, judge-with-9}
 
 -- ## The words
 
@@ -51,21 +53,20 @@ pub record IsSheet (s : List ℕ) (q : Records) : Type 0 where
   pub bytes : Bytes s
   pub reads : read s ≡ given q
 
--- "A sheet that passes 1 to 9 is well-formed."
+-- "A sheet that passes 1 to 9 is well-formed." 9 is never given (request L3).
 pub record WellFormed (s : List ℕ) (q : Records) : Type 0 where
   pub sheet : IsSheet s q
   pub no-circle : closes-circle (count-of q) (edges-of q) ≡ false
-  pub all-reached : unreached (count-of q) (edges-of q) ≡ false
 
 -- "Accepted means that no refusal down to 12 applies", nor 26 or 28. v is the verdict; allow says whether the caller allows waits.
 pub record Accepted (s : List ℕ) (allow : Bool) (q : Records) (v : ℕ) : Type 0 where
   pub sheet : IsSheet s q
   pub accepts : judged s allow ≡ given v
 
--- Start times t that keep every link of the sheet under the durations d. What d says of step 0 and of fixed steps does not matter here: the duration of step 0 counts as 0, that of a fixed step is
+-- Start times t that keep every link of the sheet, completed, under the durations d. What d says of step 0 and of fixed steps does not matter here: the duration of step 0 counts as 0, that of a fixed step is
 -- its own.
 abbrev pub KeepsLinks : Records → (ℕ → ℕ) → (ℕ → ℕ) → Type 0
-KeepsLinks q d t = KeepsAll (q .steps) (constraints (q .pairs)) d t
+KeepsLinks q d t = KeepsAll (q .steps) (links-of q) d t
 
 -- The edges of a sheet ask of start times what its links do; offsets and start sets are taken over the edges. Proof: edges-meant.
 abbrev pub EdgesMeant : Type 0
@@ -121,11 +122,11 @@ wait-link w = sequencing (w .anchor) (w .target) 0
 
 -- With the waits put in as after links.
 abbrev pub links-and-waits : Records → List Constraint
-links-and-waits q = constraints (q .pairs) ++ map wait-link (sheet-waits q)
+links-and-waits q = links-of q ++ map wait-link (sheet-waits q)
 
 -- No limit counts from the finish of an open step other than step 0: a sheet without request L11, but for such limits on step 0 and on fixed steps.
 abbrev pub NoLateLinks : Records → Type 0
-NoLateLinks q = (i j u : ℕ) → List·Memᴰ (finish-maximum i j u) (constraints (q .pairs)) → ¬ Lasts (q .steps) i
+NoLateLinks q = (i j u : ℕ) → List·Memᴰ (finish-maximum i j u) (links-of q) → ¬ Lasts (q .steps) i
 
 -- ## Demand 3
 
@@ -148,7 +149,7 @@ ReadExactly = (s : List ℕ) → Bytes s → (allow : Bool) (k : ℕ) → (read 
 abbrev pub WellFormedExactly : Type 0
 WellFormedExactly = (s : List ℕ) → Bytes s → (allow : Bool) → ((q : Records) × WellFormed s q) ↔ ((k : ℕ) → FromForm k → judged s allow ≢ refused k)
 
--- "8. Forward links close a circle. 9. A step has no forward chain from step 0." "12. Waits are needed and the caller did not allow them." "Verdict 0 is sound, 1 sound with waits."
+-- "8. Forward links close a circle." "9 never occurs any more": every step of the completed sheet then has a forward chain from step 0. "12. Waits are needed and the caller did not allow them." "Verdict 0 is sound, 1 sound with waits."
 -- "28, the waits close a circle of forward links, or leave no start times with each open step at its least, after 11". "Each refusal is given when its condition holds and no earlier one does, and only
 -- then." Proof: judged-exactly.
 abbrev pub ForwardCircle : List Edge → Type 0
@@ -156,9 +157,6 @@ ForwardCircle es = (x : ℕ) × (k : ℕ) × (g : ℕ) × (l : ℕ) × Walk (For
 
 abbrev pub Circle : Records → Type 0
 Circle q = ForwardCircle (edges-of q)
-
-abbrev pub SomeStepUnreached : Records → Type 0
-SomeStepUnreached q = (v : ℕ) × (v < count-of q) × (¬ Joined (Forward (members (edges-of q))) 0 v)
 
 abbrev pub Sound : Records → Type 0
 Sound q = WellPosed (members (edges-of q))
@@ -169,8 +167,9 @@ pub data WaitsClash (q : Records) : Type 0 where
 
 pub record JudgedFor (s : List ℕ) (allow : Bool) (q : Records) : Type 0 where
   pub refused-8 : (judged s allow ≡ refused 8) ↔ Circle q
-  pub refused-9 : (judged s allow ≡ refused 9) ↔ ((¬ Circle q) × SomeStepUnreached q)
-  pub well-formed : WellFormed s q ↔ ((¬ Circle q) × (¬ SomeStepUnreached q))
+  pub never-9 : judged s allow ≢ refused 9
+  pub reached : ¬ Circle q → (v : ℕ) → v < count-of q → Joined (Forward (members (edges-of q))) 0 v
+  pub well-formed : WellFormed s q ↔ (¬ Circle q)
   pub refused-28 : (judged s allow ≡ refused 28) ↔ (WellFormed s q × (¬ SomeListLeavesNone q) × WaitsClash q)
   pub refused-12 : (judged s allow ≡ refused 12) ↔ (WellFormed s q × (¬ SomeListLeavesNone q) × (¬ WaitsClash q) × (¬ Sound q) × (allow ≡ false))
   pub verdict-0 : (judged s allow ≡ given 0) ↔ (WellFormed s q × (¬ SomeListLeavesNone q) × Sound q)
@@ -248,11 +247,11 @@ NobodyEarlier =
 -- Proof: nobody-earlier-with-waits.
 abbrev pub NobodyEarlierWithWaits : Type 0
 NobodyEarlierWithWaits =
-    (s : List ℕ) (allow : Bool) (q : Records) (v : ℕ) → Accepted s allow q v → NoLateLinks q → (fs : List Constraint) → Extension (q .steps) (constraints (q .pairs)) fs → (d t : ℕ → ℕ) → d 0 ≡ 0 → KeepsAll (q .steps) fs d t → (i : ℕ) → i < count-of q → our-start q d i ≤ t i
+    (s : List ℕ) (allow : Bool) (q : Records) (v : ℕ) → Accepted s allow q v → NoLateLinks q → (fs : List Constraint) → Extension (q .steps) (links-of q) fs → (d t : ℕ → ℕ) → d 0 ≡ 0 → KeepsAll (q .steps) fs d t → (i : ℕ) → i < count-of q → our-start q d i ≤ t i
 
 -- The sheet with our waits put in as after links is one of these rivals' sheets, and our starts keep it. So the bound is met. Proof: ours-among-rivals.
 pub record OursAmong (q : Records) (d : ℕ → ℕ) (fs : List Constraint) : Type 0 where
-  pub extension : Extension (q .steps) (constraints (q .pairs)) fs
+  pub extension : Extension (q .steps) (links-of q) fs
   pub kept : KeepsAll (q .steps) fs d (our-start q d)
 
 abbrev pub OursAmongRivals : Type 0
@@ -265,22 +264,22 @@ OursAmongRivals =
 -- each of its starts is at least ours, for every list. It holds on sheets without bit 4 too. Proof: nobody-earlier-without-foresight.
 abbrev pub NobodyEarlierWithoutForesight : Type 0
 NobodyEarlierWithoutForesight =
-    (s : List ℕ) (allow : Bool) (q : Records) (v : ℕ) → Accepted s allow q v → (ρ : (ℕ → ℕ) → ℕ → ℕ) → DynamicStrategy (q .steps) (constraints (q .pairs)) ρ → (d : ℕ → ℕ) → DelayAssignment (q .steps) d → (i : ℕ) → i < count-of q → our-start q d i ≤ ρ d i
+    (s : List ℕ) (allow : Bool) (q : Records) (v : ℕ) → Accepted s allow q v → (ρ : (ℕ → ℕ) → ℕ → ℕ) → DynamicStrategy (q .steps) (links-of q) ρ → (d : ℕ → ℕ) → DelayAssignment (q .steps) d → (i : ℕ) → i < count-of q → our-start q d i ≤ ρ d i
 
 -- Our starts are such a rival. Proof: ours-without-foresight.
 abbrev pub OursWithoutForesight : Type 0
 OursWithoutForesight =
-    (s : List ℕ) (allow : Bool) (q : Records) (v : ℕ) → Accepted s allow q v → DynamicStrategy (q .steps) (constraints (q .pairs)) (our-start q)
+    (s : List ℕ) (allow : Bool) (q : Records) (v : ℕ) → Accepted s allow q v → DynamicStrategy (q .steps) (links-of q) (our-start q)
 
 -- Refused 28 exactly if, not being 10 or 11, no such rival exists. Proof: refused-28-exactly.
 abbrev pub NoRival : Records → Type 0
-NoRival q = (ρ : (ℕ → ℕ) → ℕ → ℕ) → ¬ DynamicStrategy (q .steps) (constraints (q .pairs)) ρ
+NoRival q = (ρ : (ℕ → ℕ) → ℕ → ℕ) → ¬ DynamicStrategy (q .steps) (links-of q) ρ
 
 abbrev pub Refused28Exactly : Type 0
 Refused28Exactly =
     (s : List ℕ) (allow : Bool) (q : Records) → WellFormed s q → (judged s allow ≡ refused 28) ↔ ((judged s allow ≢ refused 10) × (judged s allow ≢ refused 11) × NoRival q)
 
--- On a sheet without late links nothing is new: every walk may take every edge, of the sheet as sent and with its waits in, so that waits, offsets and sound are those of document 01 word for word, and 28
+-- On a sheet without late links nothing is new: every walk may take every edge, without waits and with them, so that waits, offsets and sound are those of document 01 word for word, and 28
 -- is never given. All else that makes a plan is defined from these. Proof: nothing-new. A plain wait is one of document 01, with walks over all edges.
 pub record PlainWait (E : Graph) (a i : ℕ) : Type 0 where
   pub edge : Edge
@@ -291,7 +290,7 @@ pub record PlainWait (E : Graph) (a i : ℕ) : Type 0 where
   pub absent : ¬ InAnchorSet E a i
 
 pub record NothingNewFor (s : List ℕ) (allow : Bool) (q : Records) : Type 0 where
-  pub as-sent : (a : ℕ) → usable (edges-of q) a ≡ edges-of q
+  pub unwaited : (a : ℕ) → usable (edges-of q) a ≡ edges-of q
   pub with-waits : (a : ℕ) → usable (serialized-of q) a ≡ serialized-of q
   pub sound : Sound q ↔ ((a : ℕ) → Carries (members (edges-of q)) a)
   pub waits : (a i : ℕ) → List·Memᴰ (wait-pair a i) (sheet-waits q) ↔ PlainWait (members (edges-of q)) a i
@@ -316,9 +315,33 @@ pub record PlansAsBefore : Type 0 where
   pub refusals : (s : List ℕ) (k : ℕ) → k ≢ 4 → gapless-read s ≡ refused k → read s ≡ refused k
   pub maps : (m : ℕ) → m < 256 → test-bit m 3 ≡ false → link-map m ≡ gapless-map m
 
+-- ## Request L3
+
+-- "What buyers are promised about impossible sheets and earliest starts is read on the sheet so completed." Times are whole numbers from 0 on, and step 0 ends at tick 0, so an added link asks
+-- nothing more of them: the same start times keep the links of the records. Proof: added-links-free.
+abbrev pub AddedLinksFree : Type 0
+AddedLinksFree = (s : List ℕ) (q : Records) → IsSheet s q → (d t : ℕ → ℕ) → KeepsLinks q d t ↔ KeepsAll (q .steps) (constraints (q .pairs)) d t
+
+-- "A sheet whose only forward link out of step 1 goes back to 0 is then a circle, 8"; and so is every sheet with a forward link into step 0. Proof: into-source-circle.
+abbrev pub IntoSourceCircle : Type 0
+IntoSourceCircle = (s : List ℕ) (allow : Bool) (q : Records) → IsSheet s q → Entry (members (edges-of q)) 0 → judged s allow ≡ refused 8
+
+-- A sheet on which a forward link leads into every step other than 0 means and plans what it did: nothing is added, so its links and edges are those of its records, and judging has no need of 9. All else is
+-- worked out from the steps and the edges. Proof: entered-as-before.
+abbrev pub AllEntered : Records → Type 0
+AllEntered q = Entered (count-of q) (members (sent-edges q))
+
+pub record NothingAdded (q : Records) : Type 0 where
+  pub links : links-of q ≡ constraints (q .pairs)
+  pub edges : edges-of q ≡ sent-edges q
+  pub judges : (allow : Bool) → judge-edges (count-of q) (edges-of q) allow ≡ judge-with-9 (count-of q) (sent-edges q) allow
+
+abbrev pub EnteredAsBefore : Type 0
+EnteredAsBefore = (s : List ℕ) (q : Records) → IsSheet s q → AllEntered q → NothingAdded q
+
 -- ## Demand 2: the tests mean what document 01 says
 
--- What the definitions compute over a list of edges is what document 01 says in words, as relations: chains and walks, start sets, sound; and the refusals 8 and 9.
+-- What the definitions compute over a list of edges is what document 01 says in words, as relations: chains and walks, start sets, sound; and refusal 8.
 pub record Meant (n : ℕ) (es : List Edge) : Type 0 where
   pub walks : (x v : ℕ) → x < n → (reaches n es x v ≡ true) ↔ Joined (members es) x v
   pub after-walks : (a v : ℕ) → (after-reaches n es a v ≡ true) ↔ After (members es) a v
@@ -326,11 +349,10 @@ pub record Meant (n : ℕ) (es : List Edge) : Type 0 where
   pub start-sets : (a v : ℕ) → (in-anchor-set n es a v ≡ true) ↔ InAnchorSet (members es) a v
   pub sound : (well-posed n es ≡ true) ↔ WellPosed (members es)
   pub circle : (closes-circle n es ≡ true) ↔ ForwardCircle es
-  pub reached : (unreached n es ≡ true) ↔ ((v : ℕ) × (v < n) × (¬ Joined (Forward (members es)) 0 v))
 
--- For every sheet, as sent and with its waits in. "Step 0 is in every set, its own too. Another open step .." Proof: tests-meant.
+-- For every sheet, without its waits and with them. "Step 0 is in every set, its own too. Another open step .." Proof: tests-meant.
 pub record MeantFor (q : Records) : Type 0 where
-  pub as-sent : Meant (count-of q) (edges-of q)
+  pub unwaited : Meant (count-of q) (edges-of q)
   pub with-waits : Meant (count-of q) (serialized-of q)
   pub source : (v : ℕ) → in-start-set q 0 v ≡ true
   pub others-open : (a v : ℕ) → in-start-set q a v ≡ true → (a ≡ 0) ⊎ (delay-at (q .steps) a ≡ Open)
@@ -489,7 +511,7 @@ WorkedBytes s = (w : Worked) × List·Memᴰ w worked-sheets × (w .bytes ≡ s)
 -- a circle and without. Proof: hypotheses-met.
 pub record RivalMet (q : Records) : Type 0 where
   pub links : List Constraint
-  pub extension : Extension (q .steps) (constraints (q .pairs)) links
+  pub extension : Extension (q .steps) (links-of q) links
   pub durations : ℕ → ℕ
   pub source : durations 0 ≡ 0
   pub times : ℕ → ℕ

@@ -1,4 +1,4 @@
--- The planner before request L1: how a link record was read, and what an after link weighed. All else is worked out from the steps and the edges, by definitions that request L1 left alone.
+-- The planner without request L1: how a link record is read, and what an after link weighs. All else is worked out from the steps and the edges, by definitions that request L1 left alone.
 use mathlib.Core.Bool.{Bool, false, not, _&&_, _||_}
 use mathlib.Core.List.{List, map}
 use Prim.Native.Nat.{ℕ}
@@ -6,7 +6,7 @@ use lib.Dec.{eqb, leb}
 use Rattle.definitions.specs.Limits.{most-steps, most-records}
 use Rattle.definitions.specs.Basics.{test-bit, Outcome, given, when-given}
 use Rattle.definitions.specs.Bytes.{Parser, _>>=_, _>>_, give, demand, byte, two-bytes, ticks-if, sequenced, endpoints, rises, bound-from, records, operations, pair-of, at-end, Records}
-use Rattle.definitions.specs.Links.{Constraint, sequencing, minimum, maximum, finish-maximum, constraints, delay-at, Edge, edge-of}
+use Rattle.definitions.specs.Links.{Constraint, sequencing, minimum, maximum, finish-maximum, links-of, delay-at, Edge, edge-of}
 use Rattle.definitions.specs.declared.Delay.{Delay}
 use Rattle.definitions.specs.declared.Delay.the-variants.{Open, Fixed}
 use Rattle.definitions.specs.declared.Operation.{Operation}
@@ -63,4 +63,4 @@ gapless-edge os (maximum i j u) = edge-of os (maximum i j u)
 gapless-edge os (finish-maximum i j u) = edge-of os (finish-maximum i j u)
 
 unfoldable pub gapless-edges-of : Records → List Edge
-gapless-edges-of q = map (gapless-edge (q .steps)) (constraints (q .pairs))
+gapless-edges-of q = map (gapless-edge (q .steps)) (links-of q)

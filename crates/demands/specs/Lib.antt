@@ -1,2 +1,3 @@
 pub mod Gapless
+pub mod Entered
 pub mod Demands

@@ -1,6 +1,6 @@
 -- Judging in two parts, as the code goes: each answer from the tests behind it, and the whole from the parts.
 use mathlib.Core.Path.{_≡_, refl, sym, ap, _∙_}
-use mathlib.Core.Bool.{Bool, true, false, cond, not, _&&_, _||_}
+use mathlib.Core.Bool.{Bool, true, false, cond, not, _&&_}
 use mathlib.Core.List.{List}
 use mathlib.Core.Logic.{_≢_}
 use Prim.Native.Nat.{ℕ, _<_, _≤_}
@@ -8,31 +8,29 @@ use lib.Dec.{eqb, ltb}
 use lib.ListN.{replicate}
 use borrow.Author.Tests.{lt-ltb}
 use Rattle.data_relations.specs.Sets.{AnchorSets}
-use Rattle.definitions.specs.Answers.{closes-circle, unreached, infeasible, inconsistent, unserializable, judge-edges}
+use Rattle.definitions.specs.Answers.{closes-circle, infeasible, inconsistent, unserializable, judge-edges}
 use Rattle.definitions.specs.Basics.{Outcome, given, refused, refuse-if, when-given}
 use Rattle.definitions.specs.Links.{Edge, members}
 use Rattle.definitions.specs.Rounds.{rounds, stable, source-row}
 use Rattle.definitions.specs.Numbers.{verdict-of}
 use Rattle.definitions.specs.Waits.{needs-waits, wait-count, wait-maps}
 use Rattle.definitions.specs.declared.Verdict.{Verdict}
-use Rattle.demands.proofs.Sheets.{not-8, not-9, not-10-11, unneeded-serializable}
+use Rattle.demands.proofs.Sheets.{acyclic-rooted, not-8, not-10-11, unneeded-serializable}
 use Rattle.order_forward.specs.Sorting.{Sorting}
-use Rattle.order_forward.specs.declared.Sorted.{Sorted}
 use Rattle.laws.proofs.Bools.{and-split, both-ways}
 use Rattle.laws.proofs.Outcomes.{given-not-refused}
 use Rattle.order_reach.specs.Pushes.{Reached, Stripped, column}
-use Rattle.theory.specs.Graphs.{ForwardAcyclic, Rooted, Shape, Well}
+use Rattle.theory.specs.Graphs.{Entered, ForwardAcyclic, Rooted, Shape, Well}
 use Rattle.judge_waits.specs.Reaching.{Known, Reaches}
 use Rattle.judge_waits.proofs.Posed.{unwaited-consistent, unwaited-count, unwaited-maps}
 use Rattle.judge_edges.specs.Analysis.{judge-order, judge-first, judge-waits, judge-serial, judge-rest, Listed, Unweighed, Presumed}
 
 -- Refusals in a row are the first of them, and then the rest.
-split : {A : Type 0} (a b c : Bool) (i j k : ℕ) (rest : Outcome A) → refuse-if a i (refuse-if b j (refuse-if c k rest)) ≡ when-given {A = Unit {0}} (refuse-if a i (refuse-if b j (refuse-if c k (given tt)))) (λ u. rest)
+split : {A : Type 0} (a b : Bool) (i j : ℕ) (rest : Outcome A) → refuse-if a i (refuse-if b j rest) ≡ when-given {A = Unit {0}} (refuse-if a i (refuse-if b j (given tt))) (λ u. rest)
 unfolding refuse-if when-given
-split true b c i j k rest = refl
-split false true c i j k rest = refl
-split false false true i j k rest = refl
-split false false false i j k rest = refl
+split true b i j rest = refl
+split false true i j rest = refl
+split false false i j rest = refl
 
 -- What reaches what, as the kernel gives it.
 pub reached-reaches : {n : ℕ} {g : List Edge} {rows : List ℕ} → Shape n (members g) → Reached n g rows → Reaches n g rows
@@ -47,70 +45,66 @@ stripped-within {n} {sets} S a v t =
 module _ (n : ℕ) (g : List Edge) where
   judge-split : (allow : Bool) → judge-edges n g allow ≡ when-given (judge-first n g) (λ u. judge-rest n g allow)
   unfolding judge-edges judge-first judge-rest judge-serial judge-waits
-  judge-split allow = split (closes-circle n g) (unreached n g) (infeasible n g) 8 9 10 (judge-rest n g allow)
+  judge-split allow = split (closes-circle n g) (infeasible n g) 8 10 (judge-rest n g allow)
 
-  -- 8 and 9, by what sorting found.
-  by-tests : (a b : Bool) → cond (not (a || b)) (given tt) (refused (cond a 8 9)) ≡ refuse-if {A = Unit {0}} a 8 (refuse-if b 9 (given tt))
+  -- 8, by what sorting found.
+  by-test : (a : Bool) → cond (not a) (given tt) (refused 8) ≡ refuse-if {A = Unit {0}} a 8 (given tt)
   unfolding refuse-if
-  by-tests true b = refl
-  by-tests false true = refl
-  by-tests false false = refl
+  by-test true = refl
+  by-test false = refl
 
-  pub sorting-order : {sets : List ℕ} {s : Sorted} → Sorting n g sets s → {passes : Bool} → s .passes ≡ passes → judge-order n g ≡ cond passes (given tt) (refused (cond (s .circle) 8 9))
+  pub sorting-order : {sets : List ℕ} {s : Bool} → Sorting n g sets s → {passes : Bool} → s ≡ passes → judge-order n g ≡ cond passes (given tt) (refused 8)
   unfolding judge-order
-  sorting-order {s = s} sorting {passes} e =
-      sym (by-tests (closes-circle n g) (unreached n g)) ∙ ap (λ (b : Bool). cond b (given tt) (refused (cond (closes-circle n g) 8 9))) (sym (sorting .passes) ∙ e) ∙ ap (λ (b : Bool). cond passes (given tt) (refused (cond b 8 9))) (sym (sorting .circle))
+  sorting-order sorting e = sym (by-test (closes-circle n g)) ∙ ap (λ (b : Bool). cond b (given tt) (refused 8)) (sym (sorting .passes) ∙ e)
 
-  order-by : (a b : Bool) → refuse-if {A = Unit {0}} a 8 (refuse-if b 9 (given tt)) ≡ given tt → (a ≡ false) × (b ≡ false)
+  order-by : (a : Bool) → refuse-if {A = Unit {0}} a 8 (given tt) ≡ given tt → a ≡ false
   unfolding refuse-if
-  order-by true b h = absurd (given-not-refused (sym h))
-  order-by false true h = absurd (given-not-refused (sym h))
-  order-by false false h = (refl, refl)
+  order-by true h = absurd (given-not-refused (sym h))
+  order-by false h = refl
 
-  order-passed : judge-order n g ≡ given tt → (closes-circle n g ≡ false) × (unreached n g ≡ false)
+  order-passed : judge-order n g ≡ given tt → closes-circle n g ≡ false
   unfolding judge-order
-  order-passed h = order-by (closes-circle n g) (unreached n g) h
+  order-passed h = order-by (closes-circle n g) h
 
-  -- What refuses 8 or 9 refuses the first part.
-  refused-on : (a b c : Bool) (k : ℕ) → refuse-if {A = Unit {0}} a 8 (refuse-if b 9 (given tt)) ≡ refused k → refuse-if {A = Unit {0}} a 8 (refuse-if b 9 (refuse-if c 10 (given tt))) ≡ refused k
+  -- What refuses 8 refuses the first part.
+  refused-on : (a b : Bool) (k : ℕ) → refuse-if {A = Unit {0}} a 8 (given tt) ≡ refused k → refuse-if {A = Unit {0}} a 8 (refuse-if b 10 (given tt)) ≡ refused k
   unfolding refuse-if
-  refused-on true b c k h = h
-  refused-on false true c k h = h
-  refused-on false false c k h = absurd (given-not-refused h)
+  refused-on true b k h = h
+  refused-on false b k h = absurd (given-not-refused h)
 
   pub first-refused : (k : ℕ) → judge-order n g ≡ refused k → judge-first n g ≡ refused k
   unfolding judge-order judge-first
-  first-refused k h = refused-on (closes-circle n g) (unreached n g) (infeasible n g) k h
+  first-refused k h = refused-on (closes-circle n g) (infeasible n g) k h
 
-  -- 10, where it is not 8 or 9.
-  first-10-by : closes-circle n g ≡ false → unreached n g ≡ false → stable g (rounds g n (source-row n 0)) ≡ false → judge-first n g ≡ refused 10
+  -- 10, where it is not 8.
+  first-10-by : closes-circle n g ≡ false → stable g (rounds g n (source-row n 0)) ≡ false → judge-first n g ≡ refused 10
   unfolding judge-first refuse-if infeasible
-  first-10-by h k l = rw (h, k, l)
+  first-10-by h l = rw (h, l)
 
-  first-done-by : closes-circle n g ≡ false → unreached n g ≡ false → stable g (rounds g n (source-row n 0)) ≡ true → judge-first n g ≡ given tt
+  first-done-by : closes-circle n g ≡ false → stable g (rounds g n (source-row n 0)) ≡ true → judge-first n g ≡ given tt
   unfolding judge-first refuse-if infeasible
-  first-done-by h k l = rw (h, k, l)
+  first-done-by h l = rw (h, l)
 
-  infeasible-by : closes-circle n g ≡ false → unreached n g ≡ false → infeasible n g ≡ true → (allow : Bool) → judge-edges n g allow ≡ refused 10
+  infeasible-by : closes-circle n g ≡ false → infeasible n g ≡ true → (allow : Bool) → judge-edges n g allow ≡ refused 10
   unfolding judge-edges refuse-if
-  infeasible-by h k l allow = rw (h, k, l)
+  infeasible-by h l allow = rw (h, l)
 
   module _ (passed : judge-order n g ≡ given tt) where
-    pub all-rooted : 1 ≤ n → Shape n (members g) → Rooted n (members g)
-    all-rooted some shape = not-9 some shape (order-passed passed .1)
+    pub all-rooted : 1 ≤ n → Shape n (members g) → Entered n (members g) → Rooted n (members g)
+    all-rooted some shape entered = acyclic-rooted some shape entered (order-passed passed)
 
     pub first-10 : stable g (rounds g n (source-row n 0)) ≡ false → judge-first n g ≡ refused 10
-    first-10 l = let p = order-passed passed in first-10-by (p .0) (p .1) l
+    first-10 l = first-10-by (order-passed passed) l
 
     pub first-done : stable g (rounds g n (source-row n 0)) ≡ true → judge-first n g ≡ given tt
-    first-done l = let p = order-passed passed in first-done-by (p .0) (p .1) l
+    first-done l = first-done-by (order-passed passed) l
 
     -- 10 by its test, for who finds out about it after the rest.
     pub order-infeasible : infeasible n g ≡ true → (allow : Bool) → judge-edges n g allow ≡ refused 10
-    order-infeasible l allow = let p = order-passed passed in infeasible-by (p .0) (p .1) l allow
+    order-infeasible l allow = infeasible-by (order-passed passed) l allow
 
     pub order-acyclic : 1 ≤ n → Shape n (members g) → ForwardAcyclic (members g)
-    order-acyclic some shape = not-8 some shape (order-passed passed .0)
+    order-acyclic some shape = not-8 some shape (order-passed passed)
 
   -- 12 and the verdicts, by the count of waits.
   pub waits-none : wait-count n g ≡ 0 → (allow : Bool) → judge-waits n g allow ≡ given 0
@@ -125,20 +119,19 @@ module _ (n : ℕ) (g : List Edge) where
   unfolding judge-waits needs-waits refuse-if
   waits-refused h = rw (lt-ltb 0 (wait-count n g) h)
 
-  -- What passes 8 to 10 and 11 can be scheduled.
-  passed-by : (a b c : Bool) → refuse-if {A = Unit {0}} a 8 (refuse-if b 9 (refuse-if c 10 (given tt))) ≡ given tt → (a ≡ false) × (b ≡ false) × (c ≡ false)
+  -- What passes 8, 10 and 11 can be scheduled.
+  passed-by : (a b : Bool) → refuse-if {A = Unit {0}} a 8 (refuse-if b 10 (given tt)) ≡ given tt → (a ≡ false) × (b ≡ false)
   unfolding refuse-if
-  passed-by true b c h = absurd (given-not-refused (sym h))
-  passed-by false true c h = absurd (given-not-refused (sym h))
-  passed-by false false true h = absurd (given-not-refused (sym h))
-  passed-by false false false h = (refl, refl, refl)
+  passed-by true b h = absurd (given-not-refused (sym h))
+  passed-by false true h = absurd (given-not-refused (sym h))
+  passed-by false false h = (refl, refl)
 
-  first-passed : judge-first n g ≡ given tt → (closes-circle n g ≡ false) × (unreached n g ≡ false) × (infeasible n g ≡ false)
+  first-passed : judge-first n g ≡ given tt → (closes-circle n g ≡ false) × (infeasible n g ≡ false)
   unfolding judge-first
-  first-passed h = passed-by (closes-circle n g) (unreached n g) (infeasible n g) h
+  first-passed h = passed-by (closes-circle n g) (infeasible n g) h
 
-  pub passed-well : 1 ≤ n → Shape n (members g) → judge-first n g ≡ given tt → inconsistent n g ≡ false → Well n (members g)
-  passed-well some shape h k = let r = first-passed h in not-10-11 some shape (not-9 some shape (r .1)) (r .2) k
+  pub passed-well : 1 ≤ n → Shape n (members g) → Entered n (members g) → judge-first n g ≡ given tt → inconsistent n g ≡ false → Well n (members g)
+  passed-well some shape entered h k = let r = first-passed h in not-10-11 some shape (acyclic-rooted some shape entered (r .0)) (r .1) k
 
   -- From 11 on.
   rest-11 : inconsistent n g ≡ true → (allow : Bool) → judge-rest n g allow ≡ refused 11
@@ -166,7 +159,7 @@ module _ (n : ℕ) (g : List Edge) where
       go true h = absurd (given-not-refused h)
       go false h = absurd (given-not-refused h)
 
-  -- What refuses 8, 9 or 10 refuses the whole; what passes them goes on with the rest.
+  -- What refuses 8 or 10 refuses the whole; what passes them goes on with the rest.
   edges-refused : (k : ℕ) → judge-first n g ≡ refused k → (allow : Bool) → judge-edges n g allow ≡ refused k
   unfolding when-given
   edges-refused k e allow = judge-split allow ∙ ap (λ (o : Outcome (Unit {0})). when-given o (λ u. judge-rest n g allow)) e
@@ -201,7 +194,7 @@ module _ (n : ℕ) (g : List Edge) where
     pub edges-go-on : judge-first n g ≡ given tt → Listed n g (judge-rest n g) allow verdict maps count → Listed n g (judge-edges n g) allow verdict maps count
     edges-go-on h = same-lists (judge-edges n g) (judge-rest n g) (edges-rest h)
 
-    -- The analysis from 11 on, of edges that pass 8 and 9.
+    -- The analysis from 11 on, of edges that pass 8.
     module _ {reach : List ℕ} (shape : Shape n (members g)) (reached : Reached n g reach) where
       pub unweighed-11 : inconsistent n g ≡ true → verdict-of verdict ≡ refused 11 → maps ≡ replicate 64 0 → count ≡ 0 → Unweighed n g allow verdict reach maps count
       unweighed-11 h e m c =
@@ -212,9 +205,9 @@ module _ (n : ℕ) (g : List Edge) where
           record { long = reached .long; reaches = reached-reaches shape reached; serialized = λ first. same-lists (judge-rest n g) (judge-serial n g) (rest-serial h) (l first) }
 
       -- Nothing reaches further than the anchor sets say.
-      pub unweighed-posed : {sets : List ℕ} → 1 ≤ n → n ≤ 64 → AnchorSets n g sets → judge-order n g ≡ given tt → Stripped sets n reach → maps ≡ replicate 64 0 → count ≡ 0 → (count ≡ wait-count n g → verdict-of verdict ≡ judge-waits n g allow) → Unweighed n g allow verdict reach maps count
+      pub unweighed-posed : {sets : List ℕ} → 1 ≤ n → n ≤ 64 → Entered n (members g) → AnchorSets n g sets → judge-order n g ≡ given tt → Stripped sets n reach → maps ≡ replicate 64 0 → count ≡ 0 → (count ≡ wait-count n g → verdict-of verdict ≡ judge-waits n g allow) → Unweighed n g allow verdict reach maps count
       unfolding needs-waits
-      unweighed-posed {sets} some few anchors passed stripped m c judges =
+      unweighed-posed {sets} some few entered anchors passed stripped m c judges =
           let known : Known n g reach sets = record { shape = shape; reaches = reached-reaches shape reached; anchors = anchors } in
           let within = stripped-within stripped in
           let once = order-acyclic passed some shape in
@@ -222,13 +215,13 @@ module _ (n : ℕ) (g : List Edge) where
           let none = unwaited-count known within in
           let counted = c ∙ sym none in
           unweighed-rest consistent
-          (λ first. serial-found (unneeded-serializable (passed-well some shape first consistent) once (ap (ltb 0) none)) (judges counted) (m ∙ sym (unwaited-maps known within few)) counted)
+          (λ first. serial-found (unneeded-serializable (passed-well some shape entered first consistent) once (ap (ltb 0) none)) (judges counted) (m ∙ sym (unwaited-maps known within few)) counted)
 
-  -- What refuses 8 or 9 refuses the whole.
+  -- What refuses 8 refuses the whole.
   pub order-refused : (k : ℕ) → judge-order n g ≡ refused k → (allow : Bool) → judge-edges n g allow ≡ refused k
   order-refused k h = edges-refused k (first-refused k h)
 
-  -- The analysis with 10 left out is refused by 8 or 9, or goes on with the rest.
+  -- The analysis with 10 left out is refused by 8, or goes on with the rest.
   module _ (allow sorted : Bool) (verdict : Verdict) (reach maps : List ℕ) (count : ℕ) where
     pub presumed-refused : (k : ℕ) → judge-order n g ≡ refused k → sorted ≡ false → verdict-of verdict ≡ refused k → maps ≡ replicate 64 0 → count ≡ 0 → Presumed n g allow sorted verdict reach maps count
     presumed-refused k h s e m c =

@@ -3,13 +3,11 @@ use definitions::Refusal;
 use definitions::Verdict;
 use order_forward::sort;
 ghost use mathlib.Core.Path.{_≡_};
-ghost use mathlib.Core.Bool.{true, false, cond};
+ghost use mathlib.Core.Bool.{true};
 ghost use mathlib.Core.List.{List};
 ghost use Prim.Native.Nat.{ℕ};
 ghost use lib.ListN.{replicate};
-ghost use Rattle.definitions.specs.Limits.{most-gain};
 ghost use Rattle.definitions.specs.Answers.{judge-edges, unserializable};
-ghost use Rattle.definitions.specs.Basics.{refused};
 ghost use Rattle.definitions.specs.Links.{Edge, members};
 ghost use Rattle.definitions.specs.Numbers.{verdict-of};
 ghost use Rattle.definitions.specs.Waits.{wait-count};
@@ -17,10 +15,10 @@ ghost use Rattle.definitions.specs.declared.Verdict.the-variants.{Refused};
 ghost use Rattle.data_lists.specs.Lists.{WithLists};
 ghost use Rattle.data_edges.specs.Words.{graph};
 ghost use Rattle.judge_serial.specs.Waiting.{Waiting};
-ghost use Rattle.theory.specs.Graphs.{Gains, Shape};
+ghost use Rattle.theory.specs.Graphs.{SheetGraph};
 ghost use Rattle.judge_edges.specs.Analysis.{BlankRows, WaitsCounted, Lent, Listed, NoneListed, Presumed, Rooting, Unweighed, judge-serial, judge-waits};
 
-// Whether the edges pass 8 and 9, the verdict, and the count of the waits: the rest of an analysis is lent.
+// Whether the edges pass 8, the verdict, and the count of the waits: the rest of an analysis is lent.
 pub struct Found {
     pub sorted: bool,
     pub verdict: Verdict,
@@ -35,16 +33,6 @@ fn refused(k: Refusal, sorted: bool) -> Found
         verdict: Verdict::Refused(k),
         count: 0,
     }
-}
-
-// Refusal 8 where forward edges close a circle, else 9.
-fn unsorted(circle: bool) -> Found
-    ensures { λ r. ⌜ (verdict-of (r .verdict) ≡ refused (cond circle 8 9)) × NoneListed false r ⌝ }
-{
-    if circle {
-        return refused(Refusal::ForwardCycle, false);
-    }
-    refused(Refusal::Unreachable, false)
 }
 
 // Refusal 12, and the verdict where it does not apply.
@@ -145,12 +133,11 @@ pub fn judge_assuming_feasible(
     maps: &mut [u64; 64],
 ) -> Found
     requires { ⌜ WithLists n (now es) (now lists) × Lent (now order) (now reach) (now maps) ⌝ }
-    ensures { λ r. ⌜ (Shape n (members (graph (now (es .entry)))) → Gains (members (graph (now (es .entry)))) most-gain → Presumed n (graph (now (es .entry))) allow (r .sorted) (r .verdict) (now (reach .exit)) (now (maps .exit)) (r .count)) ⌝ }
+    ensures { λ r. ⌜ (SheetGraph n (members (graph (now (es .entry)))) → Presumed n (graph (now (es .entry))) allow (r .sorted) (r .verdict) (now (reach .exit)) (now (maps .exit)) (r .count)) ⌝ }
 {
     let mut sets = [0u64; 64];
-    let sorted = sort(es, n, &mut sets, order);
-    if !sorted.passes {
-        return unsorted(sorted.circle);
+    if !sort(es, n, &mut sets, order) {
+        return refused(Refusal::ForwardCycle, false);
     }
     serialize(es, lists, &sets, order, n, allow, reach, maps)
 }
@@ -158,13 +145,12 @@ pub fn judge_assuming_feasible(
 // The verdict of the edges of a sheet of n steps, with their adjacency lists, and the waits into maps that are blank.
 pub fn judge_edges(es: &[u64], lists: &[u16], n: usize, allow: bool, maps: &mut [u64; 64]) -> Found
     requires { ⌜ WithLists n (now es) (now lists) × (now maps ≡ replicate 64 0) ⌝ }
-    ensures { λ r. ⌜ (Shape n (members (graph (now (es .entry)))) → Gains (members (graph (now (es .entry)))) most-gain → Listed n (graph (now (es .entry))) (judge-edges n (graph (now (es .entry)))) allow (r .verdict) (now (maps .exit)) (r .count)) ⌝ }
+    ensures { λ r. ⌜ (SheetGraph n (members (graph (now (es .entry)))) → Listed n (graph (now (es .entry))) (judge-edges n (graph (now (es .entry)))) allow (r .verdict) (now (maps .exit)) (r .count)) ⌝ }
 {
     let mut sets = [0u64; 64];
     let mut order = [0u8; 64];
-    let sorted = sort(es, n, &mut sets, &mut order);
-    if !sorted.passes {
-        return unsorted(sorted.circle);
+    if !sort(es, n, &mut sets, &mut order) {
+        return refused(Refusal::ForwardCycle, false);
     }
     if !walk_feasible::feasible(es, lists, &order, n) {
         return refused(Refusal::Infeasible, true);

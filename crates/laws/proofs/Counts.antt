@@ -85,6 +85,18 @@ select-length-bound test n = omega (arith, select-length test n, sum-below-bound
     at-most-one true = omega arith
     at-most-one false = omega arith
 
+-- One fewer where 0 does not pass. Induction on n.
+pub select-length-positive : (test : ℕ → Bool) → test 0 ≡ false → (n k : ℕ) → n ≤ suc k → length (select-below test n) ≤ k
+unfolding select-below
+select-length-positive test h zero k b = omega arith
+select-length-positive test h (suc zero) k b = rw h (omega arith)
+select-length-positive test h (suc (suc n)) k b =
+    omega (arith, length-append (select-below test (suc n)) (cond (test (suc n)) (suc n ∷ []) []), select-length-positive test h (suc n) (k - 1) (omega arith), one (test (suc n)))
+  where
+    one : (t : Bool) → length (cond t (suc n ∷ []) []) ≤ 1
+    one true = omega arith
+    one false = omega arith
+
 -- A list made of the lists of the numbers below n.
 pub flatMap-length : {B : Type 0} (f : ℕ → List B) (n : ℕ) → length (flatMap f (tabulate (λ a. a) n)) ≡ sum-below (λ a. length (f a)) n
 unfolding sum-below tabulate flatMap

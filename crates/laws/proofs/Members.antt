@@ -1,15 +1,16 @@
--- The members of a map taken out one at a time: what some member passes, and the largest value of a member. Assumes nothing.
-use mathlib.Core.Path.{_≡_, sym, ap, _∙_}
-use mathlib.Core.Bool.{Bool, true, false, not, _&&_, _||_, and-true}
+-- The members of a map taken out one at a time: what some member passes, the largest value of a member, and the list of the members. Assumes nothing.
+use mathlib.Core.Path.{_≡_, refl, sym, ap, _∙_}
+use mathlib.Core.Bool.{Bool, true, false, cond, not, _&&_, _||_, and-true}
 use mathlib.Core.Logic.{_⊎_, inl, inr, _≢_}
-use Prim.Native.Nat.{ℕ, _<_, _≤_, max}
+use mathlib.Core.List.{[], _∷_, _++_}
+use Prim.Native.Nat.{ℕ, zero, suc, _<_, _≤_, max}
 use native.Mathlib.Omega.{arith}
 use lib.Dec.{eqb}
-use borrow.Author.Tests.{ne-eqb}
-use Rattle.definitions.specs.Basics.{any-below, largest, test-bit}
-use Rattle.laws.proofs.Bools.{same-or-not, both-ways, and-split, and-join, or-split, or-left, or-right, same-test}
+use borrow.Author.Tests.{eq-eqb, ne-eqb}
+use Rattle.definitions.specs.Basics.{any-below, largest, select-below, test-bit}
+use Rattle.laws.proofs.Bools.{same-or-not, both-ways, and-split, and-join, or-split, or-left, or-right, mark-back, gone, same-test}
 use Rattle.laws.proofs.Maps.{test-zero}
-use Rattle.laws.proofs.Tests.{any-below-has, any-below-by, none-any-below, largest-above, largest-below}
+use Rattle.laws.proofs.Tests.{any-below-has, any-below-by, none-any-below, select-below-none, largest-above, largest-below}
 
 -- ---- the empty map, and one with no member below n
 
@@ -65,3 +66,20 @@ module _ (m r x : ℕ) (member : test-bit m x ≡ true) (without : (j : ℕ) →
       below : (k : ℕ) → k < n → test-bit m k ≡ true → (k ≡ x) ⊎ (k ≢ x) → f k ≤ max (f x) (largest (test-bit r) f n)
       below k c t (inl e) = omega (arith, ap f e)
       below k c t (inr p) = omega (arith, largest-above (test-bit r) f n k c (stays k p t))
+
+  -- The members below n, rising: x first, where it is the smallest one of m, and then those of r. Induction on n: nothing below x is in either.
+  pub select-member-first : ((j : ℕ) → j < x → test-bit m j ≡ false) → (n : ℕ) → x < n → select-below (test-bit m) n ≡ x ∷ select-below (test-bit r) n
+  unfolding select-below
+  select-member-first least zero b = absurd (omega arith)
+  select-member-first least (suc n) b = go (same-or-not n x) (select-member-first least n)
+    where
+      same : n ≢ x → test-bit r n ≡ test-bit m n
+      same p = without n ∙ ap (λ (s : Bool). test-bit m n && not s) (ne-eqb n x p) ∙ and-true (test-bit m n)
+
+      taken : test-bit r x ≡ false
+      taken = without x ∙ gone (test-bit m x) (eqb x x) (eq-eqb x x refl)
+
+      go : (n ≡ x) ⊎ (n ≢ x) → (x < n → select-below (test-bit m) n ≡ x ∷ select-below (test-bit r) n) → select-below (test-bit m) n ++ cond (test-bit m n) (n ∷ []) [] ≡ x ∷ (select-below (test-bit r) n ++ cond (test-bit r n) (n ∷ []) [])
+      go (inl e) below =
+          rw (e, select-below-none (test-bit m) x least, select-below-none (test-bit r) x (λ j c. mark-back (stood j) (least j c)), member, taken)
+      go (inr p) below = rw (below (omega arith), same p)

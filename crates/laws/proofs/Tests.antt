@@ -126,6 +126,15 @@ module _ (test : ℕ → Bool) where
       go (inl i) below = let r = below i in (omega (arith, r .0), r .1)
       go (inr i) below = here (test n) refl i
 
+-- Nothing is selected where nothing below n passes.
+pub select-below-none : (test : ℕ → Bool) (n : ℕ) → ((k : ℕ) → k < n → test k ≡ false) → select-below test n ≡ []
+unfolding select-below
+select-below-none test zero f = refl
+select-below-none test (suc n) f =
+    let rest = select-below-none test n (λ k b. f k (omega arith)) in
+    let last = f n (omega arith) in
+    rw (rest, last)
+
 pub select-below-same : (t u : ℕ → Bool) (n : ℕ) → ((k : ℕ) → k < n → t k ≡ u k) → select-below t n ≡ select-below u n
 unfolding select-below
 select-below-same t u zero f = refl

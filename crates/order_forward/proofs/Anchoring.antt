@@ -1,35 +1,34 @@
 -- The rows that are drawn along an order of the steps are what the chains of forward edges say. Every forward edge has handed on, from the end of the rows' equation to its start; and nothing in a row is there without
 -- a chain, by induction on the rank. So bit 0 of a row tells whether a chain comes from step 0; where one comes to every step, the rows are the anchor sets.
 use mathlib.Core.Path.{_≡_, refl, sym, ap, ap₂, _∙_}
-use mathlib.Core.Bool.{Bool, true, false, not, _&&_, _||_}
+use mathlib.Core.Bool.{Bool, true, false, _&&_, _||_}
 use mathlib.Core.Logic.{_⊎_, inl, inr, _≢_}
 use mathlib.Core.List.{List}
 use Prim.Native.Nat.{ℕ, zero, suc, _≤_, _<_}
 use native.Mathlib.Omega.{arith}
 use native.Mathlib.Decide.{decLt}
 use lib.Dec.{eqb, ltb}
-use borrow.Author.Tests.{eq-eqb, eqb-true, lt-ltb, ltb-true, not-false}
+use borrow.Author.Tests.{eq-eqb, eqb-true, lt-ltb, ltb-true}
 use Rattle.definitions.specs.Anchors.{in-anchor-set}
-use Rattle.definitions.specs.Answers.{unreached}
 use Rattle.definitions.specs.Basics.{any, any-below, test-bit}
 use Rattle.definitions.specs.Links.{After, Edge, Forward, Graph, Joined, Walk, forwards, members, step, stop}
 use Rattle.definitions.specs.Rounds.{after-reaches, reaches}
 use Rattle.laws.proofs.Bools.{and-join, and-split, both-ways, not-passing, or-left, or-right, or-split, same-or-not, same-test}
-use Rattle.laws.proofs.Searches.{any-below-same}
-use Rattle.laws.proofs.Tests.{any-below-by, any-below-has, any-below-none, any-by, any-has}
+use Rattle.laws.proofs.Tests.{any-below-by, any-below-has, any-by, any-has}
 use Rattle.order_steps.specs.Orders.{Ordered, Predecessors, counts-into}
-use Rattle.order_steps.proofs.Circles.{bit-edge, edge-bit}
+use Rattle.order_steps.proofs.Circles.{bit-edge, edge-bit, ordered-acyclic}
 use Rattle.order_reach.specs.Pushes.{Settled, Within, column}
 use Rattle.order_reach.proofs.Searching.{leads, settled-walk}
 use Rattle.data_relations.specs.Rows.{row-bit}
 use Rattle.data_relations.specs.Sets.{AnchorSets}
-use Rattle.theory.specs.Graphs.{Shape}
+use Rattle.theory.specs.Graphs.{Entered, Shape}
 use Rattle.theory.specs.Sweeps.{Leads}
+use Rattle.theory.proofs.Entering.{entered-rooted}
 use Rattle.theory.proofs.Reachability.{after-reaches-iff, forwards-mem, forwards-shape, joined-reaches, mem-forwards, reaches-joined}
 use Rattle.theory.proofs.Walks.{after-edge, after-from, after-join, after-mono, joined-mono, some-after, walk-edge, walk-none}
-use Rattle.order_forward.specs.Sorting.{Drawn, Entered}
+use Rattle.order_forward.specs.Sorting.{Drawn, Adjoined}
 
-module _ {n : ℕ} {g : List Edge} {before order own rows : List ℕ} (few : n ≤ 64) (some : 1 ≤ n) (shape : Shape n (members g)) (direct : Predecessors g before) (O : Ordered n before order) (E : Entered g own) (D : Drawn n before own rows) where
+module _ {n : ℕ} {g : List Edge} {before order own rows : List ℕ} (few : n ≤ 64) (some : 1 ≤ n) (shape : Shape n (members g)) (direct : Predecessors g before) (O : Ordered n before order) (E : Adjoined g own) (D : Drawn n before own rows) where
   abbrev Fore : Graph
   Fore = Forward (members g)
 
@@ -147,21 +146,13 @@ module _ {n : ℕ} {g : List Edge} {before order own rows : List ℕ} (few : n �
   ends-below b (stop e hk hp hq) = omega arith
   ends-below b (step w e m f o hk hp hq) = omega (arith, shape .to-below e (m .0))
 
-  pub missing-by : any-below (λ v. not (eqb v 0 || column rows 0 v)) n ≡ unreached n g
-  unfolding unreached
-  missing-by = any-below-same (λ (v : ℕ). not (eqb v 0 || column rows 0 v)) (λ (v : ℕ). not (reaches n (forwards g) 0 v)) n (λ v b. ap not (same-test (eqb v 0 || column rows 0 v) (reaches n (forwards g) 0 v) (λ h. by v (or-split (eqb v 0) (column rows 0 v) h)) (λ h. or-right (eqb v 0) (source-bit v ∙ h))))
-    where
-      by : (v : ℕ) → (eqb v 0 ≡ true) ⊎ (column rows 0 v ≡ true) → reaches n (forwards g) 0 v ≡ true
-      by v (inl e) = sym (source-bit v) ∙ ap (column rows 0) (eqb-true v 0 e) ∙ root
-      by v (inr h) = sym (source-bit v) ∙ h
+  -- Where forward edges lead into every step other than 0 each has a chain from it: they close no circle, for the steps have an order.
+  reached-each : Entered n (members g) → (v : ℕ) → v < n → reaches n (forwards g) 0 v ≡ true
+  reached-each entered v b = source-test v (entered-rooted shape entered (ordered-acyclic direct shape O) v b)
 
-  reached-each : unreached n g ≡ false → (v : ℕ) → v < n → reaches n (forwards g) 0 v ≡ true
-  unfolding unreached
-  reached-each h v b = not-false (reaches n (forwards g) 0 v) (any-below-none (λ (w : ℕ). not (reaches n (forwards g) 0 w)) n h v b)
-
-  pub sets-by : unreached n g ≡ false → (a v : ℕ) → column rows a v ≡ (ltb v n && (ltb a n && in-anchor-set n g a v))
+  sets-by : Entered n (members g) → (a v : ℕ) → column rows a v ≡ (ltb v n && (ltb a n && in-anchor-set n g a v))
   unfolding in-anchor-set
-  sets-by h a v = same-test (column rows a v) (ltb v n && (ltb a n && (eqb a 0 || after-reaches n (forwards g) a v))) (λ k. found k (same-or-not a 0)) (λ k. test (and-split (ltb v n) (ltb a n && (eqb a 0 || after-reaches n (forwards g) a v)) k) (same-or-not a 0))
+  sets-by entered a v = same-test (column rows a v) (ltb v n && (ltb a n && (eqb a 0 || after-reaches n (forwards g) a v))) (λ k. found k (same-or-not a 0)) (λ k. test (and-split (ltb v n) (ltb a n && (eqb a 0 || after-reaches n (forwards g) a v)) k) (same-or-not a 0))
     where
       found : column rows a v ≡ true → (a ≡ 0) ⊎ (a ≢ 0) → (ltb v n && (ltb a n && (eqb a 0 || after-reaches n (forwards g) a v))) ≡ true
       found k (inl z) =
@@ -178,8 +169,8 @@ module _ {n : ℕ} {g : List Edge} {before order own rows : List ℕ} (few : n �
       chained z (inr t) = after-bit a v z ∙ t
 
       test : (ltb v n ≡ true) × ((ltb a n && (eqb a 0 || after-reaches n (forwards g) a v)) ≡ true) → (a ≡ 0) ⊎ (a ≢ 0) → column rows a v ≡ true
-      test p (inl z) = ap (λ (x : ℕ). column rows x v) z ∙ source-bit v ∙ reached-each h v (ltb-true v n (p .0))
+      test p (inl z) = ap (λ (x : ℕ). column rows x v) z ∙ source-bit v ∙ reached-each entered v (ltb-true v n (p .0))
       test p (inr z) = chained z (or-split (eqb a 0) (after-reaches n (forwards g) a v) (and-split (ltb a n) (eqb a 0 || after-reaches n (forwards g) a v) (p .1) .1))
 
-  pub drawn-sets : unreached n g ≡ false → AnchorSets n g rows
-  drawn-sets h = record { bits = sets-by h }
+  pub drawn-sets : Entered n (members g) → AnchorSets n g rows
+  drawn-sets entered = record { bits = sets-by entered }

@@ -17,10 +17,10 @@ use Rattle.laws.proofs.Searches.{any-below-same}
 use Rattle.order_steps.specs.Orders.{Counted, Ordered}
 use Rattle.data_relations.specs.Rows.{row-bit}
 use Rattle.data_relations.proofs.Gathering.{store-bit}
-use Rattle.order_forward.specs.Sorting.{Drawn, Entered}
+use Rattle.order_forward.specs.Sorting.{Drawn, Adjoined}
 
 -- The rows of counted edges, with step 0 in its own.
-pub entered-by : (g : List Edge) (rows : List ℕ) (own : ℕ) → Counted g rows → ((a : ℕ) → test-bit own a ≡ (row-bit rows 0 a || eqb a 0)) → Entered g (set rows 0 own)
+pub entered-by : (g : List Edge) (rows : List ℕ) (own : ℕ) → Counted g rows → ((a : ℕ) → test-bit own a ≡ (row-bit rows 0 a || eqb a 0)) → Adjoined g (set rows 0 own)
 entered-by g rows own G bits =
     record { long = length-set rows 0 own ∙ G .long; bits = λ v a. store-bit rows 0 own (λ k. eqb k 0) (omega (arith, G .long)) bits v a ∙ ap (λ (t : Bool). t || (eqb v 0 && eqb a 0)) (G .bits v a) }
 

@@ -1,21 +1,20 @@
--- What is found of a sheet's edges for refusals 8 and 9, and the anchor sets, drawn along the order of the steps. Rows are of the steps' anchors: bit a of row v.
+-- What is found of a sheet's edges for refusal 8, and the anchor sets, drawn along the order of the steps. Rows are of the steps' anchors: bit a of row v.
 use mathlib.Core.Path.{_≡_}
 use mathlib.Core.Bool.{Bool, true, not, _&&_, _||_}
 use mathlib.Core.List.{List}
 use Prim.Native.Nat.{ℕ, _<_, _≤_}
 use lib.Dec.{eqb}
 use lib.ListN.{getD, length, replicate}
-use Rattle.definitions.specs.Answers.{closes-circle, unreached}
+use Rattle.definitions.specs.Answers.{closes-circle}
 use Rattle.definitions.specs.Basics.{any, any-below}
 use Rattle.definitions.specs.Limits.{most-steps}
 use Rattle.definitions.specs.Links.{Edge}
 use Rattle.order_steps.specs.Orders.{Ordered, counts-into}
 use Rattle.data_relations.specs.Rows.{row-bit}
 use Rattle.data_relations.specs.Sets.{AnchorSets}
-use Rattle.order_forward.specs.declared.Sorted.{Sorted}
 
 -- The anchors that come to each step along one edge. Step 0 is in its own set.
-pub record Entered (g : List Edge) (rows : List ℕ) : Type 0 where
+pub record Adjoined (g : List Edge) (rows : List ℕ) : Type 0 where
   pub long : length rows ≡ 64
   pub bits : (v a : ℕ) → row-bit rows v a ≡ (any (counts-into v a) g || (eqb v 0 && eqb a 0))
 
@@ -38,8 +37,7 @@ pub record Sortable (n : ℕ) (sets order : List ℕ) : Type 0 where
   pub blank : sets ≡ replicate 64 0
   pub long : length order ≡ 64
 
--- The tests of the definitions; where neither refusal applies, the rows are the anchor sets.
-pub record Sorting (n : ℕ) (g : List Edge) (sets : List ℕ) (r : Sorted) : Type 0 where
-  pub passes : r .passes ≡ not (closes-circle n g || unreached n g)
-  pub circle : r .circle ≡ closes-circle n g
-  pub found : r .passes ≡ true → AnchorSets n g sets
+-- The test of the definitions; where 8 does not apply, the rows are the anchor sets.
+pub record Sorting (n : ℕ) (g : List Edge) (sets : List ℕ) (r : Bool) : Type 0 where
+  pub passes : r ≡ not (closes-circle n g)
+  pub found : r ≡ true → AnchorSets n g sets

@@ -1,20 +1,13 @@
-// Refusals 8 and 9, an order of the steps along the forward edges, and their anchor sets: see specs/Sorting.antt.
+// Refusal 8, an order of the steps along the forward edges, and their anchor sets: see specs/Sorting.antt.
 ghost use mathlib.Core.Path.{_≡_};
-ghost use mathlib.Core.Bool.{not, _&&_, _||_};
-ghost use Prim.Native.Nat.{ℕ, _≤_};
-ghost use lib.Dec.{eqb};
+ghost use mathlib.Core.Bool.{_&&_, _||_};
+ghost use Prim.Native.Nat.{ℕ};
 ghost use Rattle.definitions.specs.Basics.{any-below, test-bit};
 ghost use Rattle.definitions.specs.Links.{members};
 ghost use Rattle.data_edges.specs.Words.{graph};
 ghost use Rattle.data_relations.specs.Rows.{row-bit};
-ghost use Rattle.theory.specs.Graphs.{Shape};
+ghost use Rattle.theory.specs.Graphs.{Entered, Shape};
 ghost use Rattle.order_forward.specs.Sorting.{Drawable, Drawn, Sortable, Sorting};
-
-// Whether the edges pass 8 and 9, and whether forward edges close a circle, which is 8.
-pub struct Sorted {
-    pub passes: bool,
-    pub circle: bool,
-}
 
 // The members of a map and of the rows of the steps in another.
 fn gather(rows: &[u64; 64], own: u64, steps: u64) -> u64
@@ -45,40 +38,18 @@ fn draw(before: &[u64; 64], order: &[u8; 64], n: usize, rows: &mut [u64; 64])
     }
 }
 
-// Refusal 9, from bit 0 of the rows: some step is not step 0 and does not come after it.
-fn has_unreached(rows: &[u64; 64], n: usize) -> bool
-    requires { ⌜ n ≤ 64 ⌝ }
-    ensures { λ r. ⌜ r ≡ any-below (λ v. not (eqb v 0 || row-bit (now (rows .entry)) v 0)) n ⌝ }
-{
-    let mut v = 1;
-    while v < n {
-        if !data_bits::has(rows[v], 0) {
-            return true;
-        }
-        v += 1;
-    }
-    false
-}
-
-// Refusals 8 and 9, an order of the steps, and the anchor sets into rows that are blank. Step 0 is in its own set.
-pub fn sort(es: &[u64], n: usize, sets: &mut [u64; 64], order: &mut [u8; 64]) -> Sorted
+// Whether forward edges close no circle, which is refusal 8; then an order of the steps, and the anchor sets into rows that are blank. Step 0 is in its own set.
+pub fn sort(es: &[u64], n: usize, sets: &mut [u64; 64], order: &mut [u8; 64]) -> bool
     requires { ⌜ Sortable n (now sets) (now order) ⌝ }
-    ensures { λ r. ⌜ (Shape n (members (graph (now (es .entry)))) → Sorting n (graph (now (es .entry))) (now (sets .exit)) r) ⌝ }
+    ensures { λ r. ⌜ (Shape n (members (graph (now (es .entry)))) → Entered n (members (graph (now (es .entry)))) → Sorting n (graph (now (es .entry))) (now (sets .exit)) r) ⌝ }
 {
     let mut before = [0u64; 64];
     order_steps::predecessors(es, &mut before, sets);
     if !order_steps::arrange(&before, n, order) {
-        return Sorted {
-            passes: false,
-            circle: true,
-        };
+        return false;
     }
     let own = data_bits::insert(sets[0], 0);
     sets[0] = own;
     draw(&before, order, n, sets);
-    let missing = has_unreached(sets, n);
-    Sorted {
-        passes: !missing,
-        circle: false,
-    }
+    true
 }

@@ -7,18 +7,17 @@ use native.Mathlib.Omega.{arith}
 use lib.ListN.{getD, take, length-take}
 use Rattle.definitions.specs.Answers.{count-of, edges-of}
 use Rattle.definitions.specs.Bytes.{Records, read}
-use Rattle.definitions.specs.Limits.{most-gain}
 use Rattle.definitions.specs.Links.{Edge, members}
 use Rattle.definitions.specs.declared.Reading.the-variants as Readings
 use Rattle.demands.specs.Demands.{Bytes}
-use Rattle.demands.proofs.Edges.{sheet-gains, sheet-shape}
+use Rattle.demands.proofs.Edges.{sheet-entered, sheet-gains, sheet-shape}
 use Rattle.demands.proofs.Reading.{Fits, read-fits}
 use Rattle.data_edges.specs.Words.{graph}
 use Rattle.read_sheet.specs.Answers.{Holds, Reports}
 use Rattle.read_sheet.specs.declared.Report.{Report}
 use Rattle.read_sheet.proofs.Reports.{Found, report-given}
 use Rattle.plan_walks.specs.Tables.{SheetEdges}
-use Rattle.theory.specs.Graphs.{Gains, Shape}
+use Rattle.theory.specs.Graphs.{SheetGraph}
 
 -- The edges that its words stand for.
 abbrev pub word-edges : List ℕ → Report → List Edge
@@ -38,8 +37,7 @@ module _ {q : Records} {words : List ℕ} {report : Report} (fits : Fits q) (hol
     some = omega (arith, holds .n, fits .some);
     few = omega (arith, holds .n, fits .few);
     edges = omega (arith, holds .few, length-take (report .count) words);
-    shape = held-by (λ n g. Shape n (members g)) (sheet-shape fits);
-    gains = held-by (λ n g. Gains (members g) most-gain) (sheet-gains fits);
+    formed = held-by (λ n g. SheetGraph n (members g)) (record { shape = sheet-shape fits; entered = sheet-entered fits; gains = sheet-gains fits });
   }
 
 -- The elements of a list of bytes are below 256, from each place.

@@ -1,6 +1,7 @@
 // The calls over bytes, in one: a sheet is read and analysed once, and what is asked of it is answered, with the waits beside it. The crates judge_sheet, plan_sheet and plan_times each ask one question.
 // What is large and local has few sizes, of which the least that is enough is cleared (an array's length is part of its type): the ladders of sizes stand here and nowhere else.
 use data_numbers::accepted;
+use definitions::MOST_ADDED;
 use definitions::MOST_EDGES;
 use definitions::Reading;
 use definitions::Refusal;
@@ -33,14 +34,14 @@ pub enum Question {
 
 // ---- the sizes
 
-// Most sheets have few link records, and the words of their edges, four for each record, are then few.
+// Most sheets have few link records, and the words of their edges, four for each record and one for each link that is added, are then few.
 const FEW_RECORDS: u16 = 32;
 
-const FEW_WORDS: usize = 128;
+const FEW_WORDS: usize = 4 * (FEW_RECORDS as usize) + MOST_ADDED;
 
 const SOME_RECORDS: u16 = 128;
 
-const SOME_WORDS: usize = 512;
+const SOME_WORDS: usize = 4 * (SOME_RECORDS as usize) + MOST_ADDED;
 
 // Rows of the working table: most of what a small sheet pays for is the clearing of them.
 const FEW_STEPS: usize = 8;

@@ -7,7 +7,7 @@ use native.Mathlib.Omega.{arith}
 use lib.ListN.{length, replicate}
 use Rattle.definitions.specs.Answers.{infeasible, judge-edges}
 use Rattle.definitions.specs.Basics.{Outcome, given, refused}
-use Rattle.definitions.specs.Limits.{most-gain, most-steps}
+use Rattle.definitions.specs.Limits.{most-steps}
 use Rattle.definitions.specs.Links.{Edge, members}
 use Rattle.definitions.specs.Numbers.{verdict-of}
 use Rattle.definitions.specs.Waits.{needs-waits}
@@ -17,7 +17,7 @@ use Rattle.demands.proofs.Sheets.{passes-well, serializable-iff}
 use Rattle.laws.proofs.Bools.{both-ways}
 use Rattle.laws.proofs.Outcomes.{given-not-refused}
 use Rattle.data_numbers.specs.Codes.{is-given}
-use Rattle.theory.specs.Graphs.{Gains, Rooted, Shape}
+use Rattle.theory.specs.Graphs.{Rooted, SheetGraph}
 use Rattle.judge_edges.specs.Analysis.{Listed, Presumed, judge-order}
 use Rattle.judge_edges.proofs.Judging.{all-rooted, first-done, order-infeasible, order-refused}
 use Rattle.judge_waits.specs.Reaching.{Reaches}
@@ -28,22 +28,22 @@ given-value : (o : Outcome ℕ) → is-given o ≡ true → (v : ℕ) × (o ≡ 
 given-value (given v) h = (v, refl)
 given-value (refused k) h = absurd (false≢true h)
 
--- An accepted sheet passes 8 to 11, so it can be scheduled for all delays, and its waits are listed.
-plannable : {n : ℕ} {g : List Edge} {allow : Bool} {verdict : Verdict} {reach maps : List ℕ} {count : ℕ} → Listed n g (judge-edges n g) allow verdict maps count → length reach ≡ most-steps → Reaches n g reach → 1 ≤ n → Shape n (members g) → Gains (members g) most-gain → is-given (verdict-of verdict) ≡ true → Plannable n g reach maps
-plannable {n} {g} {allow} {verdict} listed long reaches some shape gains h =
+-- An accepted sheet passes 8, 10 and 11, so it can be scheduled for all delays, and its waits are listed.
+plannable : {n : ℕ} {g : List Edge} {allow : Bool} {verdict : Verdict} {reach maps : List ℕ} {count : ℕ} → Listed n g (judge-edges n g) allow verdict maps count → length reach ≡ most-steps → Reaches n g reach → 1 ≤ n → SheetGraph n (members g) → is-given (verdict-of verdict) ≡ true → Plannable n g reach maps
+plannable {n} {g} {allow} {verdict} listed long reaches some formed h =
     let r = given-value (verdict-of verdict) h in
     let judged = judge-given n g allow (r .0) .0 (sym (listed .judges) ∙ r .1) in
     let passes = judged .0 in
-    let well = passes-well (omega arith) shape passes in
+    let well = passes-well (omega arith) (formed .shape) (formed .entered) passes in
     let waits = listed .found (cond (needs-waits n g) 1 0) (judge-given n g true (cond (needs-waits n g) 1 0) .1 (passes, judged .1, never (needs-waits n g), refl)) in
-    record { well = well; serial = serializable-iff (omega arith) shape (well .rooted) .0 (judged .1); gains = gains; long = long; reaches = reaches; waits = waits .0 }
+    record { well = well; serial = serializable-iff (omega arith) (formed .shape) (well .rooted) .0 (judged .1); gains = formed .gains; long = long; reaches = reaches; waits = waits .0 }
   where
     never : (b : Bool) → (b && not true) ≡ false
     never true = refl
     never false = refl
 
 module _ {n : ℕ} {g : List Edge} {allow sorted : Bool} {verdict : Verdict} {reach maps : List ℕ} {count : ℕ} (presumed : Presumed n g allow sorted verdict reach maps count) where
-  -- Where 8 or 9 applies the verdict is that refusal.
+  -- Where 8 applies the verdict is that refusal.
   pub unsorted-refused : sorted ≡ false → is-given (verdict-of verdict) ≡ false
   unsorted-refused h = by (judge-order n g) refl
     where
@@ -51,17 +51,17 @@ module _ {n : ℕ} {g : List Edge} {allow sorted : Bool} {verdict : Verdict} {re
       by (given tt) e = absurd (both-ways (presumed .sorts .1 e) h)
       by (refused k) e = ap is-given (presumed .unsorted h .judges ∙ order-refused n g k e allow)
 
-  -- Every step can be reached, as 9 does not apply.
-  pub sorted-rooted : 1 ≤ n → Shape n (members g) → sorted ≡ true → Rooted n (members g)
-  sorted-rooted some shape h = all-rooted n g (presumed .sorts .0 h) some shape
+  -- Where it does not every step can be reached.
+  pub sorted-rooted : 1 ≤ n → SheetGraph n (members g) → sorted ≡ true → Rooted n (members g)
+  sorted-rooted some formed h = all-rooted n g (presumed .sorts .0 h) some (formed .shape) (formed .entered)
 
-  -- Where neither applies the rest turns on 10: where it does not apply, what was found with 10 left out holds.
+  -- And the rest turns on 10: where it does not apply, what was found with 10 left out holds.
   module _ (h : sorted ≡ true) where
     pub feasible-listed : feasible n g ≡ true → Listed n g (judge-edges n g) allow verdict maps count
     feasible-listed t = presumed .feasible (first-done n g (presumed .sorts .0 h) t)
 
-    pub feasible-plannable : 1 ≤ n → Shape n (members g) → Gains (members g) most-gain → feasible n g ≡ true → is-given (verdict-of verdict) ≡ true → Plannable n g reach maps
-    feasible-plannable some shape gains t k = plannable (feasible-listed t) (presumed .long h) (presumed .reaches h) some shape gains k
+    pub feasible-plannable : 1 ≤ n → SheetGraph n (members g) → feasible n g ≡ true → is-given (verdict-of verdict) ≡ true → Plannable n g reach maps
+    feasible-plannable some formed t k = plannable (feasible-listed t) (presumed .long h) (presumed .reaches h) some formed k
 
     -- Where it applies, it is the verdict, with waits allowed or not, and no waits are listed.
     pub infeasible-listed : {v : Verdict} → feasible n g ≡ false → verdict-of v ≡ refused 10 → Listed n g (judge-edges n g) allow v (replicate most-steps 0) 0

@@ -17,7 +17,7 @@ use Rattle.data_edges.specs.Words.{graph}
 use Rattle.plan_deciding.specs.Working.{Holds}
 use Rattle.data_numbers.specs.Codes.{is-given}
 use Rattle.walk_seed.specs.Seeds.{Empty}
-use Rattle.theory.specs.Graphs.{Gains, Serializable, Shape, Well}
+use Rattle.theory.specs.Graphs.{Gains, Serializable, SheetGraph, Well}
 use Rattle.judge_waits.specs.Reaching.{Reaches}
 
 -- The edges of a sheet of n steps, as words: within the limits of a sheet, and shaped as its links make them.
@@ -25,8 +25,7 @@ pub record SheetEdges (n : ℕ) (es : List ℕ) : Type 0 where
   pub some : 1 ≤ n
   pub few : n ≤ most-steps
   pub edges : length es ≤ most-edges
-  pub shape : Shape n (members (graph es))
-  pub gains : Gains (members (graph es)) most-gain
+  pub formed : SheetGraph n (members (graph es))
 
 -- The edges of a sheet with their adjacency lists, and a working table without walks that has a row for each step.
 pub record Tabulable (n : ℕ) (es lists : List ℕ) (d : List (List ℕ)) : Type 0 where

@@ -34,7 +34,7 @@ fn add_source(rows: &mut [u64; 64], n: usize)
     }
 }
 
-// Whether edges that pass 8 and 9 also pass 10, beside the verdict of an analysis with 10 left out. Where that accepts, the table and the sets are filled, and the search for walks tells 10; else 10 is searched for alone.
+// Whether edges that pass 8 also pass 10, beside the verdict of an analysis with 10 left out. Where that accepts, the table and the sets are filled, and the search for walks tells 10; else 10 is searched for alone.
 fn fill(
     d: &mut [[u32; 64]],
     es: &[u64],

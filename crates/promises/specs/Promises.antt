@@ -9,7 +9,7 @@ use lib.ListN.{take}
 use Rattle.definitions.specs.Answers.{count-of, edges-of}
 use Rattle.definitions.specs.Basics.{given, refused, test-bit}
 use Rattle.definitions.specs.Bytes.{Records}
-use Rattle.definitions.specs.Links.{Constraint, Keeps, KeepsAll, constraints, members}
+use Rattle.definitions.specs.Links.{Constraint, Keeps, KeepsAll, links-of, members}
 use Rattle.definitions.specs.Numbers.{verdict-of}
 use Rattle.definitions.specs.Plan.{delays, undecided}
 use Rattle.definitions.specs.Rival.{DynamicStrategy, Extension}
@@ -48,8 +48,8 @@ pub record StartsKeep (q : Records) (v : ℕ) (list after : List ℕ) : Type 0 w
   pub links : KeepsLinks q (delays list) (cell after)
   pub waits : (w : WaitPair) → List·Memᴰ w (sheet-waits q) → Keeps (q .steps) (delays list) (cell after) (wait-link w)
   pub earliest : NoLateLinks q → v ≡ 0 → (t : ℕ → ℕ) → KeepsLinks q (delays list) t → (i : ℕ) → i < count-of q → cell after i ≤ t i
-  pub earliest-of-rivals : NoLateLinks q → (fs : List Constraint) → Extension (q .steps) (constraints (q .pairs)) fs → (t : ℕ → ℕ) → KeepsAll (q .steps) fs (delays list) t → (i : ℕ) → i < count-of q → cell after i ≤ t i
-  pub earliest-without-foresight : (ρ : (ℕ → ℕ) → ℕ → ℕ) → DynamicStrategy (q .steps) (constraints (q .pairs)) ρ → (i : ℕ) → i < count-of q → cell after i ≤ ρ (delays (take (count-of q) list)) i
+  pub earliest-of-rivals : NoLateLinks q → (fs : List Constraint) → Extension (q .steps) (links-of q) fs → (t : ℕ → ℕ) → KeepsAll (q .steps) fs (delays list) t → (i : ℕ) → i < count-of q → cell after i ≤ t i
+  pub earliest-without-foresight : (ρ : (ℕ → ℕ) → ℕ → ℕ) → DynamicStrategy (q .steps) (links-of q) ρ → (i : ℕ) → i < count-of q → cell after i ≤ ρ (delays (take (count-of q) list)) i
 
 abbrev pub StartsKeepAndNobodyIsEarlier : Type 0
 StartsKeepAndNobodyIsEarlier =

@@ -1,8 +1,8 @@
--- R, and the words that the edges of so many link records may need.
+-- R, and the words that the edges of a sheet with so many link records may need.
 use mathlib.Core.Path.{_≡_, sym, _∙_}
 use mathlib.Core.Bool.{true}
 use mathlib.Core.List.{List}
-use Prim.Native.Nat.{ℕ, _*_, _≤_, _<_, min}
+use Prim.Native.Nat.{ℕ, _+_, _*_, _≤_, _<_, min}
 use native.Mathlib.Decide.{decLt}
 use native.Mathlib.Omega.{arith}
 use lib.Dec.{leb}
@@ -10,7 +10,7 @@ use lib.ListN.{drop}
 use borrow.Author.Tests.{le-leb, lt-leb, leb-true}
 use Rattle.definitions.specs.Basics.{Outcome, given, refused}
 use Rattle.definitions.specs.Bytes.{Taken, two-bytes}
-use Rattle.definitions.specs.Limits.{links-of-record, most-records, most-edges}
+use Rattle.definitions.specs.Limits.{links-of-record, most-records, most-added, most-edges}
 use Rattle.read_fields.specs.Counts.{count-within, link-count, edge-room}
 
 -- Where R is within its limit, there is to be room for all of the records.
@@ -24,7 +24,7 @@ count-most (given t) = omega arith
 count-most (refused k) = omega arith
 
 -- Words that are enough for a brief sheet's edges, and for any sheet's.
-pub room-brief : (s : List ℕ) (most : ℕ) → leb (link-count s) most ≡ true → edge-room s ≤ links-of-record * most
+pub room-brief : (s : List ℕ) (most : ℕ) → leb (link-count s) most ≡ true → edge-room s ≤ links-of-record * most + most-added
 room-brief s most e = let b = leb-true (link-count s) most e in omega arith
 
 pub room-any : (s : List ℕ) → edge-room s ≤ most-edges

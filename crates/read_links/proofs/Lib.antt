@@ -1,3 +1,4 @@
 pub mod Words
 pub mod Pushing
 pub mod Records
+pub mod Completing

@@ -93,7 +93,7 @@ module _ (m i j : ℕ) (t : Fields) where
   abbrev gap : ℕ
   gap = gap-of (bound-from (test-bit m 3) (t .gap))
 
-  links-there : link-constraints (link-from m i j t) ≡ four m (sequencing i j gap) (minimum i j (t .least)) (maximum i j (t .most)) (finish-maximum i j (t .latest))
+  pub links-there : link-constraints (link-from m i j t) ≡ four m (sequencing i j gap) (minimum i j (t .least)) (maximum i j (t .most)) (finish-maximum i j (t .latest))
   unfolding link-constraints link-from
   links-there = simp (after-there, least-there, most-there, latest-there)
 

@@ -1,1 +1,2 @@
 pub mod Pushes
+pub mod Completes

@@ -1,10 +1,11 @@
-// A link record from its fields on: they are read, and then its edges are written as words.
+// A link record from its fields on: they are read, and then its edges are written as words. And the links that are added, once all records are read (request L3).
 use data_edges::BACK_PLACE;
 use data_edges::COUNTED_PLACE;
 use data_edges::GAIN_PLACE;
 use data_edges::LATE_PLACE;
 use data_edges::LOSS_PLACE;
 use data_edges::TO_PLACE;
+use data_indices::byte_index;
 use definitions::Refusal;
 use read_fields::NumberRead;
 use read_fields::has;
@@ -16,13 +17,14 @@ ghost use mathlib.Core.List.{List};
 ghost use Prim.Native.Nat.{ℕ, _+_, _≤_, _<_};
 ghost use lib.Dec.{eqb};
 ghost use lib.ListN.{length};
-ghost use Rattle.definitions.specs.Limits.{most-ticks};
+ghost use Rattle.definitions.specs.Limits.{most-steps, most-ticks};
 ghost use Rattle.definitions.specs.Links.{sequencing-edge, finish-edge};
 ghost use Rattle.definitions.specs.declared.Delay.{Delay};
 ghost use Rattle.data_edges.specs.Words.{edge, unpack, Fit, DigitsFit};
 ghost use Rattle.read_steps.specs.Leaving.{leaving};
 ghost use Rattle.read_pair.specs.Parts.{link-from};
 ghost use Rattle.read_links.specs.Pushes.{PushedIf, Pushable, LinkPushed, Ready, bound-edge, BoundReads, LinkReads};
+ghost use Rattle.read_links.specs.Completes.{EnteredMore, Loose, Completable, Completes};
 
 // The place after a link record that was read, and the count of words after its edges; or the fault met there.
 pub enum LinkRead {
@@ -197,4 +199,45 @@ pub fn push_link(
             FieldsRead::Refused(k) => LinkRead::Refused(k),
         },
     }
+}
+
+// ---- the links that are added
+
+// The map of the steps that forward links lead into, with those of one record more, which has the map m and leads to `to`: bits 0 and 1 are its forward links.
+pub fn with_entered(entered: u64, m: u8, to: u8) -> u64
+    requires { ⌜ to < most-steps ⌝ }
+    ensures { λ r. ⌜ EnteredMore m to entered r ⌝ }
+{
+    data_bits::insert_if(entered, byte_index(to), m % 4 != 0)
+}
+
+// The map of the steps that follow nothing: those below n, without 0 and those entered.
+fn loose_steps(entered: u64, n: usize) -> u64
+    requires { ⌜ n ≤ most-steps ⌝ }
+    ensures { λ r. ⌜ Loose n entered r ⌝ }
+{
+    data_sets::minus(data_sets::minus(data_sets::below(n), 1), entered)
+}
+
+// The edge of an after link from 0 to each step that follows nothing, rising, written at count; it says how many words there are then.
+pub fn complete(
+    words: &mut [u64],
+    count: usize,
+    entered: u64,
+    n: usize,
+    digits: &[u32; 64],
+) -> usize
+    requires { ⌜ Completable n (now words) count ⌝ }
+    ensures { λ r. ⌜ Completes n entered (now (digits .entry)) (now (words .entry)) (now (words .exit)) count r ⌝ }
+{
+    let d = digits[0];
+    let mut left = loose_steps(entered, n);
+    let mut next = count;
+    while left != 0 {
+        let v = data_bits::lowest(left);
+        let w = sequencing_word(d, 0, v as u8, 0);
+        next = push(words, next, true, w);
+        left = data_bits::without_lowest(left);
+    }
+    next
 }

@@ -1,6 +1,6 @@
--- The loop over the link records: those read, put in front of those that are left, give the same answer as the whole, and the first words stand for the edges of those read.
+-- The loop over the link records: those read, put in front of those that are left, give the same answer as the whole, the first words stand for the edges of those read, and a map has the steps that these lead into.
 use mathlib.Core.Path.{_≡_, refl, sym, ap, _∙_}
-use mathlib.Core.List.{List, [], _∷_, _++_, flatMap}
+use mathlib.Core.List.{List, [], _∷_, _++_, flatMap, map, map-append}
 use Prim.Native.Nat.{ℕ, suc, _+_, _-_, _*_, _≤_, _<_}
 use native.Mathlib.Omega.{arith}
 use lib.ListN.{take, drop, getD}
@@ -8,7 +8,7 @@ use Rattle.definitions.specs.Basics.{given, refused, when-given}
 use Rattle.definitions.specs.Numbers.{number}
 use Rattle.definitions.specs.Bytes.{link, links, pair-of}
 use Rattle.definitions.specs.Limits.{links-of-record}
-use Rattle.definitions.specs.Links.{Edge, link-constraints, constraints, edges}
+use Rattle.definitions.specs.Links.{Edge, link-constraints, constraints, source-link, loose-steps, completed, edge-of, edges}
 use Rattle.definitions.specs.declared.Link.{Link}
 use Rattle.definitions.specs.declared.Operation.{Operation}
 use Rattle.definitions.specs.declared.Previous.{Previous}
@@ -23,12 +23,14 @@ use Rattle.read_pair.specs.Answers.{Ranks, Ranked}
 use Rattle.read_pair.specs.Parts.{link-fields, link-from}
 use Rattle.read_steps.specs.Leaving.{Leaves}
 use Rattle.read_links.specs.Pushes.{Took}
+use Rattle.read_links.specs.Completes.{Entered, EnteredMore, Completes}
+use Rattle.read_links.proofs.Completing.{entered-none, entered-more}
 use Rattle.read_links.proofs.Records.{link-few, edges-more}
 use Rattle.read_records.specs.Answers.{LinksReads}
 use Rattle.read_records.specs.Parts.{last-links}
 
--- The loop's invariant: i of r records are read, `last` is the number of the last pair, and the words are right for all steps that add these digits.
-pub record Edged (digits : List ℕ) (n r : ℕ) (bytes : List ℕ) (i last : ℕ) (rest words : List ℕ) (count : ℕ) : Type 0 where
+-- The loop's invariant: i of r records are read, `last` is the number of the last pair, the words are right for all steps that add these digits, and `entered` is the map of the steps that forward links lead into.
+pub record Edged (digits : List ℕ) (n r : ℕ) (bytes : List ℕ) (i last : ℕ) (rest words : List ℕ) (count entered : ℕ) : Type 0 where
   pub done : List Link
   pub previous : Previous
   pub ranked : Ranked previous last
@@ -36,16 +38,17 @@ pub record Edged (digits : List ℕ) (n r : ℕ) (bytes : List ℕ) (i last : �
   pub unread : Unread (link n) pair-of r Nothing bytes done (r - i) previous rest
   pub few : count ≤ links-of-record * i
   pub same : (os : List Operation) → Leaves os n digits → graph (take count words) ≡ edges os (constraints done)
+  pub enters : Entered (constraints done) entered
 
 module _ (digits : List ℕ) (n r : ℕ) (bytes : List ℕ) where
   -- None is read.
-  pub edged-none : (words : List ℕ) → Edged digits n r bytes 0 0 bytes words 0
+  pub edged-none : (words : List ℕ) → Edged digits n r bytes 0 0 bytes words 0 0
   unfolding graph edges constraints flatMap
   edged-none words =
       let e : r - 0 ≡ r = omega arith in
-      record { done = []; previous = Nothing; ranked = refl; within = omega arith; unread = rw e (unread-start (link n) pair-of r Nothing bytes); few = omega arith; same = λ os h. refl }
+      record { done = []; previous = Nothing; ranked = refl; within = omega arith; unread = rw e (unread-start (link n) pair-of r Nothing bytes); few = omega arith; same = λ os h. refl; enters = entered-none }
 
-  module _ (i last : ℕ) (rest words : List ℕ) (count : ℕ) (so : Edged digits n r bytes i last rest words count) where
+  module _ (i last : ℕ) (rest words : List ℕ) (count entered : ℕ) (so : Edged digits n r bytes i last rest words count entered) where
     one-left : i < r → Unread (link n) pair-of r Nothing bytes (so .done) (suc (r - (i + 1))) (so .previous) rest
     one-left h = let e : suc (r - (i + 1)) ≡ r - i = omega arith in rw e (so .unread)
 
@@ -61,9 +64,9 @@ module _ (digits : List ℕ) (n r : ℕ) (bytes : List ℕ) where
           ∙ ap (λ (x : List Edge). x ++ edges os (link-constraints more)) (so .same os h)
           ∙ sym (edges-more os (so .done) more)
 
-      pub edged-more : i < r → source ≡ from → from < n → (last′ : ℕ) → Ranks from to last′ → Edged digits n r bytes (i + 1) last′ (drop next bytes) words′ count′
+      pub edged-more : i < r → source ≡ from → from < n → (last′ : ℕ) → Ranks from to last′ → (entered′ : ℕ) → EnteredMore m to entered entered′ → Edged digits n r bytes (i + 1) last′ (drop next bytes) words′ count′ entered′
       unfolding pair-of link-from
-      edged-more h e below last′ number = record {
+      edged-more h e below last′ number entered′ enters = record {
         done = so .done ++ more ∷ [];
         previous = pair-of more;
         ranked = number;
@@ -71,6 +74,7 @@ module _ (digits : List ℕ) (n r : ℕ) (bytes : List ℕ) where
         unread = unread-one (link n) pair-of r Nothing bytes (so .done) (r - (i + 1)) (so .previous) rest (drop next bytes) more (sym pair ∙ T .same) (one-left h);
         few = omega (arith, so .few, T .pushed .counts, link-few m from to (T .fields));
         same = λ os h. edges-same os h e below;
+        enters = entered-more (so .done) m from to (T .fields) entered entered′ enters (so .enters);
       }
 
     -- The next one is refused: so is the whole.
@@ -85,14 +89,23 @@ module _ (digits : List ℕ) (n r : ℕ) (bytes : List ℕ) where
         let none : r - i ≡ 0 = omega arith in
         unread-none (link n) pair-of r Nothing bytes (so .done) (so .previous) rest (rw none at (so .unread))
 
-    -- What is answered then: the edges of all records.
-    pub answers-whole : outcome (last-links n r) bytes ≡ given (so .done) → LinksReads bytes n r digits words (record { reading = Whole; count = count })
-    unfolding when-given
-    answers-whole e = record {
-      reading = rw e;
-      few = omega (arith, so .few, so .within);
-      same = λ os h ls g. so .same os h ∙ ap (λ (x : List Link). edges os (constraints x)) (given-same (sym e ∙ g));
-    }
+    -- What is answered once the added links are pushed too: the edges of the completed links of all records.
+    module _ (words′ : List ℕ) (count′ : ℕ) (added : Completes n entered digits words words′ count count′) where
+      edges-completed : (os : List Operation) → Leaves os n digits → graph (take count′ words′) ≡ edges os (completed n (constraints (so .done)))
+      unfolding edges completed
+      edges-completed os h =
+          let cs = constraints (so .done) in
+          added .same os h cs (so .enters)
+          ∙ ap (λ (es : List Edge). es ++ edges os (map source-link (loose-steps n cs))) (so .same os h)
+          ∙ sym (map-append (edge-of os) cs (map source-link (loose-steps n cs)))
+
+      pub answers-whole : outcome (last-links n r) bytes ≡ given (so .done) → LinksReads bytes n r digits words′ (record { reading = Whole; count = count′ })
+      unfolding when-given
+      answers-whole e = record {
+        reading = rw e;
+        few = omega (arith, so .few, so .within, added .few);
+        same = λ os h ls g. edges-completed os h ∙ ap (λ (x : List Link). edges os (completed n (constraints x))) (given-same (sym e ∙ g));
+      }
 
 -- A refusal.
 pub answers-refused : (n r : ℕ) (bytes digits words : List ℕ) (k : Refusal) → outcome (last-links n r) bytes ≡ refused (number k) → LinksReads bytes n r digits words (record { reading = Refused k; count = 0 })

@@ -1,4 +1,4 @@
-// The link records of a sheet, read one by one; the edges of each are written as words.
+// The link records of a sheet, read one by one; the edges of each are written as words, and behind them those of the links that are added (request L3).
 ghost use Rattle.read_records.specs.Answers.{Fits, LinksReads};
 use data_indices::byte_index;
 use definitions::Reading;
@@ -6,13 +6,13 @@ use definitions::Refusal;
 use read_links::LinkRead;
 use read_pair::PairRead;
 
-// Whether the records are the whole of the bytes; or the first fault. The first count words stand for their edges.
+// Whether the records are the whole of the bytes; or the first fault. The first count words stand for the edges of their links, completed.
 pub struct LinksRead {
     pub reading: Reading,
     pub count: usize,
 }
 
-// The r link records, which are the whole of this part of the bytes, of a sheet whose n steps add these digits. Their edges are written from the front of the words on.
+// The r link records, which are the whole of this part of the bytes, of a sheet whose n steps add these digits. The edges of their links, completed, are written from the front of the words on.
 pub fn read_links(
     part: &[u8],
     n: usize,
@@ -26,6 +26,7 @@ pub fn read_links(
     let mut last = 0;
     let mut next = 0;
     let mut count = 0;
+    let mut entered = 0;
     let mut i = 0;
     while i < r {
         match read_pair::read_link(part, next, n, last) {
@@ -35,6 +36,7 @@ pub fn read_links(
                 match read_links::push_link(part, next + 3, m, words, count, from, to, d) {
                     LinkRead::Item(after, more) => {
                         last = read_pair::rank(from, to);
+                        entered = read_links::with_entered(entered, m, to);
                         next = after;
                         count = more;
                         i += 1;
@@ -61,8 +63,9 @@ pub fn read_links(
             count: 0,
         };
     }
+    let all = read_links::complete(words, count, entered, n, digits);
     LinksRead {
         reading: Reading::Whole,
-        count: count,
+        count: all,
     }
 }

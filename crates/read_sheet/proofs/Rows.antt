@@ -8,6 +8,7 @@ use Rattle.definitions.specs.Answers.{edges-of}
 use Rattle.definitions.specs.Basics.{Outcome, given, refused, when-given}
 use Rattle.definitions.specs.Bytes.{Records}
 use Rattle.definitions.specs.Limits.{most-records}
+use Rattle.definitions.specs.Links.{constraints, completed, links-of, edges}
 use Rattle.definitions.specs.Numbers.{number}
 use Rattle.definitions.specs.declared.Link.{Link}
 use Rattle.definitions.specs.declared.Reading.{Reading}
@@ -47,13 +48,13 @@ module _ (s : List ℕ) (at n r middle : ℕ) (digits words : List ℕ) (unbound
   rest = drop middle s
 
   holds : (ls : List Link) → outcome (last-links n r) rest ≡ given ls → Holds (record { steps = row .steps; pairs = ls }) words made
-  unfolding edges-of
+  unfolding edges-of links-of
   holds ls e = record {
     n = sym (row .count);
     opens = row .opens;
     few = omega (arith, found .few);
     within = omega (arith, found .few, fits .room);
-    same = found .same (row .steps) (row .leaves) ls e;
+    same = found .same (row .steps) (row .leaves) ls e ∙ ap (λ (k : ℕ). edges (row .steps) (completed k (constraints ls))) (sym (row .count));
   }
 
   -- The outcome of the whole, from that of the link records.

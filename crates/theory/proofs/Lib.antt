@@ -6,6 +6,7 @@ pub mod DelayLimits
 pub mod SoleDelays
 pub mod RelativeSchedules
 pub mod AnchorOrder
+pub mod Entering
 pub mod Relaxation
 pub mod FirstRows
 pub mod RowLaws

@@ -5,6 +5,7 @@ use mathlib.Core.Logic.{_≢_, _⊎_}
 use Prim.Native.Nat.{_+_, _<_, _≤_, suc, zero, ℕ}
 use lib.Dec.{eqb}
 use Rattle.definitions.specs.Anchors.{InAnchorSet}
+use Rattle.definitions.specs.Limits.{most-gain}
 use Rattle.definitions.specs.Links.{After, Edge, Forward, Graph, Joined, UsableFrom, Walk, _⊑_}
 use Rattle.definitions.specs.Plan.{Offset}
 use Rattle.definitions.specs.Waits.{Wait}
@@ -27,7 +28,17 @@ pub record Shape (n : ℕ) (E : Graph) : Type 0 where
   pub forward-timely : (e : Edge) → E e → e .back ≡ false → e .late ≡ false
   pub late-not-source : (e : Edge) → E e → e .late ≡ true → e .to ≢ 0
 
--- Every step has a forward chain from step 0: not refusal 9.
+-- A forward edge leads into v; and into every step other than 0, as in the graph of every completed sheet (request L3).
+pub record Entry (E : Graph) (v : ℕ) : Type 0 where
+  pub edge : Edge
+  pub mem : E edge
+  pub forward : edge .back ≡ false
+  pub enters : edge .to ≡ v
+
+abbrev pub Entered : ℕ → Graph → Type 0
+Entered n E = (v : ℕ) → v < n → v ≢ 0 → Entry E v
+
+-- Every step has a forward chain from step 0. Where forward edges close no circle it follows from `Entered`.
 abbrev pub Rooted : ℕ → Graph → Type 0
 Rooted n E = (v : ℕ) → v < n → Joined (Forward E) 0 v
 
@@ -67,7 +78,13 @@ FirstGains E g = (e : Edge) → E e → (e .from ≡ 0) ⊎ (e .counted ≡ true
 abbrev pub Losses : Graph → ℕ → Type 0
 Losses E l = (e : Edge) → E e → e .loss ≤ l
 
--- A graph that can be scheduled for every list of delays: not refused 9, 10 or 11.
+-- What the kernels ask of the graph of a sheet of n steps.
+pub record SheetGraph (n : ℕ) (E : Graph) : Type 0 where
+  pub shape : Shape n E
+  pub entered : Entered n E
+  pub gains : Gains E most-gain
+
+-- A graph that can be scheduled for every list of delays: not refused 10 or 11.
 pub record Well (n : ℕ) (E : Graph) : Type 0 where
   pub some : 0 < n
   pub shape : Shape n E

@@ -1,14 +1,14 @@
--- `order_forward::sort` meets its contract: without an order forward edges close a circle, with one the rows that are drawn along it tell the rest.
+-- `order_forward::sort` meets its contract: without an order forward edges close a circle, with one the rows that are drawn along it are the anchor sets.
 use borrow.Author.Needs.{needs}
-use mathlib.Core.Path.{sym, _∙_}
+use mathlib.Core.Path.{_∙_}
 use lib.ListN.{set}
 use borrow.Author.Tests.{not-false}
 use Rattle.data_edges.specs.Words.{graph}
 use Rattle.order_steps.proofs.Circles.{arranged-circle}
-use Rattle.order_forward.specs.Sorting.{Entered}
-use Rattle.order_forward.proofs.Anchoring.{drawn-sets, missing-by}
+use Rattle.order_forward.specs.Sorting.{Adjoined}
+use Rattle.order_forward.proofs.Anchoring.{drawn-sets}
 use Rattle.order_forward.proofs.Drawing.{entered-by}
-use Rattle.order_forward.proofs.Faults.{sorting-8, sorting-9}
+use Rattle.order_forward.proofs.Faults.{sorting-circle, sorting-sets}
 use Rattle.order_forward.proofs.sort.Statement.{statement}
 use Rattle.order_forward.proofs.sort.Tie as tie
 
@@ -26,7 +26,7 @@ abbrev found : tie.After-insert → tie.Else1
 found s = s .before .before
 
 -- The rows before they are drawn.
-enters : (s : tie.After-insert) → Entered (graph (start (found s .before) .args .es .now)) (set (direct (found s .before) .predecessors .last .1 .1 .0) 0 (s .insert .result))
+enters : (s : tie.After-insert) → Adjoined (graph (start (found s .before) .args .es .now)) (set (direct (found s .before) .predecessors .last .1 .1 .0) 0 (s .insert .result))
 enters s = entered-by _ _ _ (direct (found s .before) .predecessors .ensures .1) (s .insert .ensures)
 
 predecessors-requires : tie.Need-predecessors-requires
@@ -36,9 +36,9 @@ arrange-requires : tie.Need-arrange-requires
 arrange-requires c κs = search needs
 
 returns : tie.Need-returns
-returns c shape =
+returns c shape into =
     let s = c .before in
-    sorting-8 (arranged-circle (direct s .predecessors .ensures .0) shape (s .arrange .ensures) ∙ c .if1 .taken)
+    sorting-circle (arranged-circle (direct s .predecessors .ensures .0) shape (s .arrange .ensures) ∙ c .if1 .taken)
 
 element-copy-out-insert : tie.Need-element-copy-out-insert
 element-copy-out-insert c = search needs
@@ -54,22 +54,16 @@ draw-requires c κs =
     let f = found (entered c) in
     record { few = start (f .before) .pre .few; ordered = f .before .arrange .ensures .ordered (not-false _ (f .if1 .left)); long = enters (entered c) .long }
 
-has-unreached-requires : tie.Need-has-unreached-requires
-has-unreached-requires c κs = search needs
-
 returns-2 : tie.Need-returns-2
-returns-2 c shape =
-    let d = c .before .before in
-    let i = entered (d .before) in
+returns-2 c shape into =
+    let i = entered (c .before) in
     let a = found i .before in
     let p = start a .pre in
     let ok = found i .if1 .left in
     let P = direct a .predecessors .ensures .0 in
     let O = a .arrange .ensures .ordered (not-false _ ok) in
     let E = enters i in
-    let D = d .draw .ensures in
-    let missing = c .has-unreached .ensures ∙ missing-by (p .few) (p .some) shape P O E D in
-    sorting-9 _ (arranged-circle P shape (a .arrange .ensures) ∙ ok) missing (λ f. drawn-sets (p .few) (p .some) shape P O E D (sym missing ∙ f))
+    sorting-sets (arranged-circle P shape (a .arrange .ensures) ∙ ok) (drawn-sets (p .few) (p .some) shape P O E (c .draw .ensures) into)
 
 pub sort-spec : {M : Type 1} → statement M
 sort-spec =
@@ -82,5 +76,4 @@ sort-spec =
     insert-requires
     element-write-sets
     draw-requires
-    has-unreached-requires
     returns-2)

@@ -82,7 +82,7 @@ returns-2 c os o =
     let held = tabulated k .tabulate .ensures .held (k .checked .ensures .accepted (accepts e)) in
     let checks = k .checked .ensures .checks os o in
     let right = list-right _ _ _ os _ _ checks (accepts e) in
-    let fits = fitting held (sheet .gains) (sheet .few) (args .question) os (now (args .list)) _ (o .long) right (k .checked .ensures .fits (accepts e)) in
+    let fits = fitting held (sheet .formed .gains) (sheet .few) (args .question) os (now (args .list)) _ (o .long) right (k .checked .ensures .fits (accepts e)) in
     record {
       verdict = outcome-of (args .question) _ _ (args .allow) os (now (args .list)) (now (args .out)) (listed .judges) checks;
       numbers = given-written (args .question) _ _ (args .allow) os (now (args .list)) (now (args .out)) (listed .judges) checks (accepts e) (w .write .ensures _ held fits);

@@ -26,7 +26,7 @@ returns : tie.Need-returns
 returns c =
     let s = c .before .before in
     let no = sym (s .accepted .ensures) ∙ not-true _ (c .before .if1 .taken) in
-    (λ rooted long. c .feasible .ensures (start s .pre .sheet .shape) rooted, λ h k p. absurd (both-ways k no))
+    (λ rooted long. c .feasible .ensures (start s .pre .sheet .formed .shape) rooted, λ h k p. absurd (both-ways k no))
 
 add-source-requires : tie.Need-add-source-requires
 add-source-requires c κs = start (c .before .before) .pre .sheet .few
@@ -34,7 +34,7 @@ add-source-requires c κs = start (c .before .before) .pre .sheet .few
 walks-if-possible-requires : tie.Need-walks-if-possible-requires
 walks-if-possible-requires c κs =
     let p = start (looked (c .before .before)) .pre in
-    record { given = record { some = p .sheet .some; few = p .sheet .few; listed = p .adjacent }; inside = p .rows; bare = p .empty; ends = ends-within _ _ (p .sheet .shape) (p .rows) }
+    record { given = record { some = p .sheet .some; few = p .sheet .few; listed = p .adjacent }; inside = p .rows; bare = p .empty; ends = ends-within _ _ (p .sheet .formed .shape) (p .rows) }
 
 same-length : tie.Need-same-length
 same-length c = search needs
@@ -46,7 +46,7 @@ returns-2 c =
     let st = start (looked sourced) in
     let sheet = st .pre .sheet in
     let told = walked .walks-if-possible .ensures in (
-      λ rooted long. told .told (sheet .shape) rooted (sheet .gains) (source-in (st .args .sets .now) (sourced .add-source .last .0) (sourced .add-source .ensures long)),
+      λ rooted long. told .told (sheet .formed .shape) rooted (sheet .formed .gains) (source-in (st .args .sets .now) (sourced .add-source .last .0) (sourced .add-source .ensures long)),
       λ possible k p. record {
         well = p .well;
         serial = p .serial;

@@ -1,4 +1,4 @@
--- `plan_walks::tabulate` meets its contract: what the analysis found where 8 or 9 applies, or where 10 does not; else 10, with the maps made blank again.
+-- `plan_walks::tabulate` meets its contract: what the analysis found where 8 applies, or where 10 does not; else 10, with the maps made blank again.
 use borrow.Author.Needs.{needs}
 use mathlib.Core.Path.{_≡_, refl, sym, _∙_}
 use mathlib.Core.Bool.{true, false, false≢true}
@@ -26,9 +26,9 @@ told : (s : tie.After-fill) → s .fill .result ≡ feasible (start (analysed (s
 told s =
     let a = analysed (sorted s) in
     let sheet = start a .pre .0 .sheet in
-    let presumed = a .judge-assuming-feasible .ensures (sheet .shape) (sheet .gains) in
+    let presumed = a .judge-assuming-feasible .ensures (sheet .formed) in
     let passes = not-false _ (sorted s .if1 .left) in
-    s .fill .ensures .0 (sorted-rooted presumed (sheet .some) (sheet .shape) passes) (presumed .long passes)
+    s .fill .ensures .0 (sorted-rooted presumed (sheet .some) (sheet .formed) passes) (presumed .long passes)
 
 judge-assuming-feasible-requires : tie.Need-judge-assuming-feasible-requires
 judge-assuming-feasible-requires c κs =
@@ -39,7 +39,7 @@ returns : tie.Need-returns
 returns c =
     let a = c .before .before in
     let sheet = start a .pre .0 .sheet in
-    let presumed = a .judge-assuming-feasible .ensures (sheet .shape) (sheet .gains) in
+    let presumed = a .judge-assuming-feasible .ensures (sheet .formed) in
     let unsorted = not-true _ (c .if1 .taken) in
     record { listed = presumed .unsorted unsorted; held = λ h. absurd (both-ways h (unsorted-refused presumed unsorted)) }
 
@@ -54,12 +54,12 @@ returns-2 c =
     let f = c .before .before in
     let a = analysed (sorted f) in
     let sheet = start a .pre .0 .sheet in
-    let presumed = a .judge-assuming-feasible .ensures (sheet .shape) (sheet .gains) in
+    let presumed = a .judge-assuming-feasible .ensures (sheet .formed) in
     let passes = not-false _ (sorted f .if1 .left) in
     let possible = sym (told f) ∙ c .if2 .taken in
     record {
       listed = feasible-listed presumed passes possible;
-      held = λ h. f .fill .ensures .1 (c .if2 .taken) h (feasible-plannable presumed passes (sheet .some) (sheet .shape) (sheet .gains) possible h);
+      held = λ h. f .fill .ensures .1 (c .if2 .taken) h (feasible-plannable presumed passes (sheet .some) (sheet .formed) possible h);
     }
 
 same-length-2 : tie.Need-same-length-2
@@ -70,7 +70,7 @@ returns-3 c =
     let f = c .before .before .before in
     let a = analysed (sorted f) in
     let sheet = start a .pre .0 .sheet in
-    let presumed = a .judge-assuming-feasible .ensures (sheet .shape) (sheet .gains) in
+    let presumed = a .judge-assuming-feasible .ensures (sheet .formed) in
     let impossible = sym (told f) ∙ c .before .if2 .left in
     record { listed = infeasible-listed presumed (not-false _ (sorted f .if1 .left)) impossible refl; held = λ h. absurd (false≢true h) }
 

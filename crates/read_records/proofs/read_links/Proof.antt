@@ -1,5 +1,5 @@
--- `read_records::read_links` meets its contract. The loop's invariant is `Edged`: i of the r records are read, those read in front of those left give the answer of the whole, and the first count words stand for the edges of
--- those read. What falls is the number of records left. After the last one the bytes must end too.
+-- `read_records::read_links` meets its contract. The loop's invariant is `Edged`: i of the r records are read, those read in front of those left give the answer of the whole, the first count words stand for the edges of
+-- those read, and `entered` is the map of the steps that they lead into. What falls is the number of records left. After the last one the bytes must end too; then the added links are pushed.
 use mathlib.Core.Path.{_≡_, refl, sym, subst, _∙_}
 use Prim.Native.Nat.{_+_, _-_}
 use native.Mathlib.Omega.{arith}
@@ -19,10 +19,11 @@ use Rattle.read_records.proofs.read_links.Statement.{statement}
 use Rattle.read_records.proofs.read_links.Tie as tie
 
 abbrev Inv-loop : tie.InvT-loop
-Inv-loop part n r digits words₀ last₀ next₀ count₀ i₀ words last next count i = (length words ≡ length words₀) × Edged digits n r part i last (drop next part) words count
+Inv-loop part n r digits words₀ last₀ next₀ count₀ entered₀ i₀ words last next count entered i =
+    (length words ≡ length words₀) × Edged digits n r part i last (drop next part) words count entered
 
 abbrev μ-loop : tie.MeasureT-loop
-μ-loop part n r digits words₀ last₀ next₀ count₀ i₀ words last next count i = r - i
+μ-loop part n r digits words₀ last₀ next₀ count₀ entered₀ i₀ words last next count entered i = r - i
 
 -- Places: the turn's beginning, its map and pair read, the pair known, its fields read and its edges pushed.
 abbrev Turn : Type 0
@@ -51,6 +52,10 @@ paired s = s .before .before .before .before .before
 
 abbrev linked : tie.After-slice-known2 Inv-loop μ-loop → Linked
 linked s = s .before .before
+
+-- And, past the loop, its end, from where the added links are pushed.
+abbrev ended : tie.After-complete-arg Inv-loop μ-loop → Turn
+ended s = s .before .before .before
 
 -- What reading the map and the pair means, by its answer; and the pair that was read.
 abbrev PairAnswered : Read → PairRead → Type 0
@@ -116,6 +121,11 @@ enum-known-after c = search needs
 rank-requires : tie.Need-rank-requires Inv-loop μ-loop
 rank-requires c κs = search needs
 
+with-entered-requires : tie.Need-with-entered-requires Inv-loop μ-loop
+with-entered-requires c κs =
+    let p = paired (linked (c .before .before .before .before)) in
+    omega (arith, pair-found p .inside .to, start (turn (read p)) .pre .steps)
+
 add-i : tie.Need-add-i Inv-loop μ-loop
 add-i c = search needs
 
@@ -124,14 +134,14 @@ loop-less c = search needs
 
 loop-again : tie.Need-loop-again Inv-loop μ-loop
 loop-again c =
-    let taken = c .before .before in
+    let taken = c .before .before .before in
     let s = linked (taken .before .before) in
     let p = paired s in
     let l = turn (read p) .loop in
     let F = pair-found p in
     let T = subst (LinkAnswered s) (taken .after .given .1) (s .push-link .ensures) in
     let source = s .before .before .before .byte-index .ensures .0 in
-    (T .pushed .long ∙ l .inv .0, edged-more _ _ _ _ (l .i) _ _ _ _ (l .inv .1) _ _ _ _ _ (F .same) _ _ _ T (omega arith) source (F .inside .from) _ (c .rank .ensures))
+    (T .pushed .long ∙ l .inv .0, edged-more _ _ _ _ (l .i) _ _ _ _ _ (l .inv .1) _ _ _ _ _ (F .same) _ _ _ T (omega arith) source (F .inside .from) _ (c .before .rank .ensures) _ (c .with-entered .ensures))
 
 enum-known-k : tie.Need-enum-known-k Inv-loop μ-loop
 enum-known-k c = search needs
@@ -146,7 +156,7 @@ returns c =
     let p = paired s in
     let l = turn (read p) .loop in
     let cut = subst (LinkAnswered s) (c .before .k .given .1) (s .push-link .ensures) in
-    answers-refused _ _ _ _ _ _ (links-refused _ _ _ (edged-refused _ _ _ _ (l .i) _ _ _ _ (l .inv .1) (omega arith) _ (sym (pair-found p .same) ∙ cut)))
+    answers-refused _ _ _ _ _ _ (links-refused _ _ _ (edged-refused _ _ _ _ (l .i) _ _ _ _ _ (l .inv .1) (omega arith) _ (sym (pair-found p .same) ∙ cut)))
 
 enum-known-k-2 : tie.Need-enum-known-k-2 Inv-loop μ-loop
 enum-known-k-2 c = search needs
@@ -160,7 +170,7 @@ returns-2 c =
     let s = c .before .before .before in
     let l = turn s .loop in
     let item = subst (PairAnswered s) (c .before .k2 .given .1) (pair-answered s) in
-    answers-refused _ _ _ _ _ _ (links-refused _ _ _ (edged-refused _ _ _ _ (l .i) _ _ _ _ (l .inv .1) (omega arith) _ (sym (item .same))))
+    answers-refused _ _ _ _ _ _ (links-refused _ _ _ (edged-refused _ _ _ _ (l .i) _ _ _ _ _ (l .inv .1) (omega arith) _ (sym (item .same))))
 
 same-length-3 : tie.Need-same-length-3 Inv-loop μ-loop
 same-length-3 c = search needs
@@ -169,15 +179,23 @@ same-length-3 c = search needs
 returns-3 : tie.Need-returns-3 Inv-loop μ-loop
 returns-3 c =
     let l = c .before .before .loop in
-    answers-refused _ _ _ _ _ _ (links-trailing _ _ _ (l .next) (edged-all _ _ _ _ (l .i) _ _ _ _ (l .inv .1) (omega arith)) (c .if1 .taken))
+    answers-refused _ _ _ _ _ _ (links-trailing _ _ _ (l .next) (edged-all _ _ _ _ (l .i) _ _ _ _ _ (l .inv .1) (omega arith)) (c .if1 .taken))
+
+complete-requires : tie.Need-complete-requires Inv-loop μ-loop
+complete-requires c κs =
+    let l = ended c in
+    let so = l .loop .inv in
+    let pre = start l .pre in
+    record { steps = pre .steps; room = omega (arith, so .0, so .1 .few, so .1 .within, pre .room) }
 
 same-length-4 : tie.Need-same-length-4 Inv-loop μ-loop
 same-length-4 c = search needs
 
 returns-4 : tie.Need-returns-4 Inv-loop μ-loop
 returns-4 c =
-    let l = c .before .before .loop in
-    answers-whole _ _ _ _ (l .i) _ _ _ _ (l .inv .1) (links-whole _ _ _ (l .next) (edged-all _ _ _ _ (l .i) _ _ _ _ (l .inv .1) (omega arith)) (c .if1 .left))
+    let s = c .before .before in
+    let l = ended (s .before) .loop in
+    answers-whole _ _ _ _ (l .i) _ _ _ _ _ (l .inv .1) _ _ (s .complete .ensures) (links-whole _ _ _ (l .next) (edged-all _ _ _ _ (l .i) _ _ _ _ _ (l .inv .1) (omega arith)) (s .before .before .if1 .left))
 
 pub read-links-spec : {M : Type 1} → statement M
 read-links-spec =
@@ -195,6 +213,7 @@ read-links-spec =
     push-link-requires
     enum-known-after
     rank-requires
+    with-entered-requires
     add-i
     loop-less
     loop-again
@@ -206,5 +225,6 @@ read-links-spec =
     returns-2
     same-length-3
     returns-3
+    complete-requires
     same-length-4
     returns-4)
