@@ -35,13 +35,17 @@ pub enum Question {
 // ---- the sizes
 
 // Most sheets have few link records, and the words of their edges, four for each record and one for each link that is added, are then few.
-const FEW_RECORDS: u16 = 32;
+const FEW_RECORDS: u16 = 16;
 
 const FEW_WORDS: usize = 4 * (FEW_RECORDS as usize) + MOST_ADDED;
 
-const SOME_RECORDS: u16 = 128;
+const SOME_RECORDS: u16 = 32;
 
 const SOME_WORDS: usize = 4 * (SOME_RECORDS as usize) + MOST_ADDED;
+
+const MANY_RECORDS: u16 = 128;
+
+const MANY_WORDS: usize = 4 * (MANY_RECORDS as usize) + MOST_ADDED;
 
 // Rows of the working table: most of what a small sheet pays for is the clearing of them.
 const FEW_STEPS: usize = 8;
@@ -327,6 +331,11 @@ pub fn answer(
     }
     if read_fields::is_brief(s, SOME_RECORDS) {
         let mut words = [0u64; SOME_WORDS];
+        let report = read_sheet::read(s, &mut words);
+        return answer_read(s, report, &words, allow, question, list, out, maps);
+    }
+    if read_fields::is_brief(s, MANY_RECORDS) {
+        let mut words = [0u64; MANY_WORDS];
         let report = read_sheet::read(s, &mut words);
         return answer_read(s, report, &words, allow, question, list, out, maps);
     }
