@@ -22,7 +22,7 @@ struct Boost {
         for (int v = 0; v < g.steps; v++) {
             for (int l = g.first[v]; l < g.first[v + 1]; l++) boost::add_edge(v, g.forward[l].to, -g.forward[l].weight, d);
             if (waits && (g.open >> v & 1))
-                for (uint64_t map = g.out[g.anchor[v]]; map; map &= map - 1) boost::add_edge(v, lowest(map), 0, d);
+                for (uint64_t map = g.out[g.anchor[v]]; map; map &= map - 1) boost::add_edge(v, lowest(map), -int(g.duration[v]), d);
         }
         for (int r = 0; r < g.returns; r++)
             if (!g.back[r].late || g.back[r].to != without) boost::add_edge(g.back[r].from, g.back[r].to, -g.back[r].weight, d);

@@ -23,7 +23,7 @@ struct FloydWarshall {
             for (int l = g.first[v]; l < g.first[v + 1]; l++) t[v][g.forward[l].to] = g.forward[l].weight;
             if (waits && (g.open >> v & 1))
                 for (uint64_t map = g.out[g.anchor[v]]; map; map &= map - 1)
-                    if (t[v][lowest(map)] < 0) t[v][lowest(map)] = 0;
+                    if (t[v][lowest(map)] < g.duration[v]) t[v][lowest(map)] = g.duration[v];
         }
         for (int r = 0; r < g.returns; r++) {
             const Return &b = g.back[r];

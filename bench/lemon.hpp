@@ -24,7 +24,7 @@ struct Lemon {
         for (int v = 0; v < g.steps; v++) {
             for (int l = g.first[v]; l < g.first[v + 1]; l++) add(v, g.forward[l].to, g.forward[l].weight);
             if (waits && (g.open >> v & 1))
-                for (uint64_t map = g.out[g.anchor[v]]; map; map &= map - 1) add(v, lowest(map), 0);
+                for (uint64_t map = g.out[g.anchor[v]]; map; map &= map - 1) add(v, lowest(map), g.duration[v]);
         }
         for (int r = 0; r < g.returns; r++)
             if (!g.back[r].late || g.back[r].to != without) add(g.back[r].from, g.back[r].to, g.back[r].weight);

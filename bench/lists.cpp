@@ -51,7 +51,7 @@ static std::vector<Line> lines(const Sheet &s, const List &list) {
     }
     for (int r = 0; r < g.returns; r++) {
         const planner::Return &b = g.back[r];
-        out.push_back({b.from, b.to, b.weight - (b.late ? int(list[b.to]) : 0)});
+        out.push_back({b.from, b.to, b.weight - (b.late ? int(list[b.to]) - g.duration[b.to] : 0)}); // the weight has the least in it
     }
     return out;
 }
@@ -142,7 +142,7 @@ int main(int argc, char **argv) {
         List one(set[k][0], 0);
         if (planner::read(g, set[k].data(), set[k].size()) == 0)
             for (int v = 0; v < g.steps; v++)
-                if (g.open >> v & 1) one[v] = uint32_t(engine() % 200);
+                if (g.open >> v & 1) one[v] = uint32_t(g.duration[v] + engine() % 200); // from its least on
         list.push_back(one);
         const Starts right = ours(set[k], one);
         for (const Row &row : rows)

@@ -1,4 +1,4 @@
-/* Judges, plans and runs a sheet, each of its open steps lasting TICKS ticks: stand SHEET TICKS
+/* Judges, plans and runs a sheet, each of its open steps lasting TICKS ticks, or its least duration where that is more: stand SHEET TICKS
  *
  *     tools/library && cc -std=c11 -I include examples/stand.c target/staticlib/libstandplan.a -o target/stand
  */
@@ -13,6 +13,7 @@ enum { MOST = STANDPLAN_MAX_STEPS };
 
 static uint8_t sheet[STANDPLAN_MAX_SHEET + 1]; /* a byte more than the longest sheet: what is longer is refused */
 static uint32_t table[STANDPLAN_MAX_TABLE], list[MOST], starts[MOST];
+static uint16_t leasts[MOST];
 static standplan_run run;
 
 static void print_steps(const char *before, uint64_t map) {
@@ -53,16 +54,13 @@ int main(int argc, char **argv) {
     /* Judge, waits allowed. Planning and working out starts judge too; this call is for who wants the verdict alone. */
     printf("verdict %u\n", taken(standplan_judge(sheet, length, true)));
 
-    /* A sheet that was not refused can be read without a check: N, then the map of each step. Step 0 needs no bit among the open. */
-    size_t n = sheet[0];
-    uint64_t open = 0;
-    for (size_t v = 0, at = 3; v < n; v++) {
-        if (v != 0 && sheet[at] == 1) {
-            open |= UINT64_C(1) << v;
-            list[v] = (uint32_t)ticks;
-        }
-        at += sheet[at] == 2 ? 3 : 1;
-    }
+    /* What a run is begun with: N, the map of the open steps, step 0 among them, and the least durations. The list has what open steps last here. */
+    size_t n;
+    uint64_t open;
+    taken(standplan_steps(sheet, length, &n, &open, leasts, MOST));
+    for (size_t v = 1; v < n; v++)
+        if (open >> v & 1)
+            list[v] = ticks < leasts[v] ? leasts[v] : (uint32_t)ticks;
 
     /* Waits. */
     uint64_t waits[MOST];
@@ -96,15 +94,15 @@ int main(int argc, char **argv) {
         printf(" %u", starts[v]);
     printf("\n");
 
-    /* Run: here a step ends when it has lasted TICKS; at a stand, when somebody says so. */
+    /* Run: here a step ends when it has lasted what the list says; at a stand, when somebody says so, and not below its least duration (refusal 20). */
     uint64_t all = UINT64_MAX >> (MOST - n), map;
-    taken(standplan_run_begin(&run, n, open, table, n * n, &map));
+    taken(standplan_run_begin(&run, n, open, leasts, n, table, n * n, &map));
     print_steps("tick 0: starts", map);
     printf("\n");
     while (run.words[STANDPLAN_STARTED] != all) {
         for (size_t v = 1; v < n; v++) {
             uint64_t at_work = open & run.words[STANDPLAN_STARTED] & ~run.words[STANDPLAN_FINISHED];
-            if ((at_work >> v & 1) == 0 || run.tick - run.start[v] < ticks)
+            if ((at_work >> v & 1) == 0 || run.tick - run.start[v] < list[v])
                 continue;
             taken(standplan_run_finish(&run, v, table, n * n, &map));
             printf("tick %u: step %zu ends", run.tick, v);

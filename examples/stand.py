@@ -1,4 +1,4 @@
-"""Judges, plans and runs a sheet, each of its open steps lasting TICKS ticks: stand.py SHEET TICKS
+"""Judges, plans and runs a sheet, each of its open steps lasting TICKS ticks, or its least duration where that is more: stand.py SHEET TICKS
 
     tools/library && PYTHONPATH=bindings/python python3 examples/stand.py examples/stand.sheet 10
 
@@ -17,12 +17,9 @@ def show(sheet, ticks):
     # Judge, waits allowed. Planning and working out starts judge too; this call is for who wants the verdict alone.
     print("verdict", standplan.judge(sheet, True))
 
-    # A sheet that was not refused can be read without a check: N, then the map of each step. Step 0 needs not be among the open.
-    n, open_steps, at = sheet[0], set(), 3
-    for v in range(n):
-        if v and sheet[at] == 1:
-            open_steps.add(v)
-        at += 3 if sheet[at] == 2 else 1
+    # What a run is begun with: N, the open steps, step 0 among them, and the least durations. The list has what open steps last here.
+    n, open_steps, leasts = standplan.steps(sheet)
+    lasts = [max(ticks, leasts[v]) if v and v in open_steps else 0 for v in range(n)]
 
     # Waits.
     waits = standplan.waits(sheet)
@@ -37,13 +34,13 @@ def show(sheet, ticks):
         print(f"step {v} starts at the latest of {', '.join(f'end of {a} + {offset}' for a, offset in plan.deciding(v).items())}")
 
     # Start times, for durations that are known.
-    print("start times", words(standplan.starts(sheet, True, [ticks if v in open_steps else 0 for v in range(n)])))
+    print("start times", words(standplan.starts(sheet, True, lasts)))
 
-    # Run: here a step ends when it has lasted TICKS; at a stand, when somebody says so.
+    # Run: here a step ends when it has lasted what the list says; at a stand, when somebody says so, and not below its least duration (refusal 20).
     run = standplan.Run(plan)
-    print("tick 0: starts", words(run.begin(open_steps)))
+    print("tick 0: starts", words(run.begin(open_steps, leasts)))
     while len(run.started) < n:
-        while ended := [v for v, tick in run.started.items() if v in open_steps and v not in run.finished and run.now - tick >= ticks]:
+        while ended := [v for v, tick in run.started.items() if v in open_steps and v not in run.finished and run.now - tick >= lasts[v]]:
             started = run.finish(ended[0])
             print(f"tick {run.now}: step {ended[0]} ends" + (f", starts {words(started)}" if started else ""))
         if started := run.tick():

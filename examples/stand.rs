@@ -1,16 +1,16 @@
-//! Judges, plans and runs a sheet, each of its open steps lasting TICKS ticks: stand SHEET TICKS
+//! Judges, plans and runs a sheet, each of its open steps lasting TICKS ticks, or its least duration where that is more: stand SHEET TICKS
 //!
 //!     tools/library && cargo run --manifest-path bindings/rust/Cargo.toml --target-dir target/rust --example stand examples/stand.sheet 10
 //!
 //! The crate `standplan` is bindings/rust: safe wrappers around the functions of include/standplan.h.
-use standplan::{judge, plan, starts, waits, Refusal, Run};
+use standplan::{judge, plan, starts, steps, waits, Refusal, Run, Steps};
 use std::{env, fs, process::exit};
 
 fn words<T: ToString>(items: impl IntoIterator<Item = T>, between: &str) -> String {
     items.into_iter().map(|item| item.to_string()).collect::<Vec<_>>().join(between)
 }
 
-fn steps(map: u64) -> String {
+fn members(map: u64) -> String {
     words((0..64).filter(|v| map >> v & 1 == 1), " ")
 }
 
@@ -19,21 +19,15 @@ fn show(sheet: &[u8], ticks: u32) -> Result<(), Refusal> {
     // Judge, waits allowed. Planning and working out starts judge too; this call is for who wants the verdict alone.
     println!("verdict {}", judge(sheet, true)?.number());
 
-    // A sheet that was not refused can be read without a check: N, then the map of each step. Step 0 needs no bit among the open.
-    let n = sheet[0] as usize;
-    let (mut open, mut at) = (0u64, 3);
-    for v in 0..n {
-        if v != 0 && sheet[at] == 1 {
-            open |= 1 << v;
-        }
-        at += if sheet[at] == 2 { 3 } else { 1 };
-    }
+    // What a run is begun with: N, the map of the open steps, step 0 among them, and the least durations. The list has what open steps last here.
+    let Steps { n, open, leasts } = steps(sheet)?;
+    let list: Vec<u32> = (0..n).map(|v| if v != 0 && open >> v & 1 == 1 { ticks.max(leasts[v].into()) } else { 0 }).collect();
 
     // Waits.
     let found = waits(sheet)?;
     println!("waits {}", found.count);
     for (i, &map) in found.maps.iter().enumerate().filter(|(_, map)| **map != 0) {
-        println!("step {i} waits for {}", steps(map));
+        println!("step {i} waits for {}", members(map));
     }
 
     // Plan: which steps decide when step v starts.
@@ -43,22 +37,21 @@ fn show(sheet: &[u8], ticks: u32) -> Result<(), Refusal> {
     }
 
     // Start times, for durations that are known.
-    let list: Vec<u32> = (0..n).map(|v| if open >> v & 1 == 1 { ticks } else { 0 }).collect();
     println!("start times {}", words(starts(sheet, true, &list)?, " "));
 
-    // Run: here a step ends when it has lasted TICKS; at a stand, when somebody says so.
+    // Run: here a step ends when it has lasted what the list says; at a stand, when somebody says so, and not below its least duration (refusal 20).
     let mut run = Run::new();
-    let begun = run.begin(n, open, &plan.table)?;
-    println!("tick 0: starts {}", steps(begun));
+    let begun = run.begin(n, open, &leasts, &plan.table)?;
+    println!("tick 0: starts {}", members(begun));
     while run.started != u64::MAX >> (64 - n) {
-        while let Some(v) = (1..n).find(|&v| (open & run.started & !run.finished) >> v & 1 == 1 && run.tick - run.start[v] >= ticks) {
+        while let Some(v) = (1..n).find(|&v| (open & run.started & !run.finished) >> v & 1 == 1 && run.tick - run.start[v] >= list[v]) {
             let map = run.finish(v, &plan.table)?;
-            let more = if map != 0 { format!(", starts {}", steps(map)) } else { String::new() };
+            let more = if map != 0 { format!(", starts {}", members(map)) } else { String::new() };
             println!("tick {}: step {v} ends{more}", run.tick);
         }
         let map = run.tick(&plan.table)?;
         if map != 0 {
-            println!("tick {}: starts {}", run.tick, steps(map));
+            println!("tick {}: starts {}", run.tick, members(map));
         }
     }
     Ok(())

@@ -10,8 +10,11 @@
  * Threads: calls are safe from several threads at once, unless one writes to memory that another has lent at that time. So a plan may be
  * shared by any number of runs; a run is held by one thread at a time.
  *
- * Stack, measured on x86-64 Linux (docs/GUIDE.md has the command), at most: judge and waits 71 kB, plan and starts 73 kB, begin, tick and finish 3 kB.
+ * Stack, measured on x86-64 Linux (docs/GUIDE.md has the command), at most: judge and waits 72 kB, plan and starts 74 kB, steps 18 kB, begin, tick and finish 4 kB.
  * STANDPLAN_STACK bytes are enough for any call; the least stack that a thread may have (PTHREAD_STACK_MIN) is not.
+ *
+ * Version 2.0.0 changed the runner's calls (request L6): standplan_begin is lent the least durations, the state has them, and standplan_steps is new; it gives
+ * what a run of a sheet is begun with. A program for an earlier version that runs plans has to be changed and compiled anew.
  *
  * The functions that are declared are proved; what is written out in this header (static inline) is not: it hands on its arguments. */
 #ifndef STANDPLAN_H
@@ -25,9 +28,9 @@
 extern "C" {
 #endif
 
-#define STANDPLAN_VERSION "1.5.0"
-#define STANDPLAN_VERSION_MAJOR 1
-#define STANDPLAN_VERSION_MINOR 5
+#define STANDPLAN_VERSION "2.0.0"
+#define STANDPLAN_VERSION_MAJOR 2
+#define STANDPLAN_VERSION_MINOR 0
 #define STANDPLAN_VERSION_PATCH 0
 
 /* The most that there can be: steps and link records of a sheet, bytes of a sheet, numbers of a plan, ticks in a list of durations. */
@@ -67,6 +70,7 @@ enum standplan_refusal {
     STANDPLAN_HAS_BEGUN = 16,
     STANDPLAN_CANNOT_FINISH = 17,
     STANDPLAN_CLOCK_END = 18,
+    STANDPLAN_TOO_EARLY = 20,
     STANDPLAN_LIMIT_WITHOUT_AFTER = 26,
     STANDPLAN_WAITS_CLASH = 28
 };
@@ -96,17 +100,18 @@ static inline const char *standplan_sentence(uint32_t verdict) {
     case STANDPLAN_TRAILING: return "bytes follow the last record";
     case STANDPLAN_CIRCLE: return "forward links close a circle";
     case STANDPLAN_UNREACHED: return "retired: no sheet is refused so";
-    case STANDPLAN_NEVER_KEPT: return "with all open durations 0, no start times keep every link";
+    case STANDPLAN_NEVER_KEPT: return "with each open step at its least, no start times keep every link";
     case STANDPLAN_NOT_ALWAYS_KEPT: return "for some list of durations no start times keep every link";
     case STANDPLAN_WAITS_NEEDED: return "waits are needed and the caller did not allow them";
-    case STANDPLAN_BAD_DURATION: return "a duration is above 16,777,215, or is not 0 and belongs to step 0 or to a fixed step";
+    case STANDPLAN_BAD_DURATION: return "a duration is above 16,777,215 or below its step's least duration, or is not 0 and belongs to step 0 or to a fixed step";
     case STANDPLAN_TOO_SHORT: return "a lent table or list is too short";
     case STANDPLAN_NOT_BEGUN: return "no run has begun, or the state's step count is not 1 to 64";
     case STANDPLAN_HAS_BEGUN: return "Begin on a run that has begun";
     case STANDPLAN_CANNOT_FINISH: return "Finish of a step that is not open, is 0, has not started, or has finished";
     case STANDPLAN_CLOCK_END: return "Tick when the tick is 4,294,967,295";
+    case STANDPLAN_TOO_EARLY: return "Finish at a tick below its start tick plus its least duration";
     case STANDPLAN_LIMIT_WITHOUT_AFTER: return "a link map with bit 4, at most from the finish, and without bit 0, after";
-    case STANDPLAN_WAITS_CLASH: return "the waits close a circle of forward links, or leave no start times with all open durations 0";
+    case STANDPLAN_WAITS_CLASH: return "the waits close a circle of forward links, or leave no start times with each open step at its least";
     default: return "a number that no call returns";
     }
 }
@@ -123,42 +128,50 @@ STANDPLAN_CHECKED uint32_t standplan_waits(const uint8_t *sheet, size_t sheet_le
 STANDPLAN_CHECKED uint32_t standplan_plan(const uint8_t *sheet, size_t sheet_len, bool allow_waits, uint32_t *table, size_t table_len);
 
 /* Works out the start times of a sheet of N steps for a list of durations: the first N numbers of out become the starts, and the rest stays as lent.
- * On a refusal, 1 to 8, 10 to 12, 26, 28, 13 (a duration that the list may not have) or 14 (list or out is shorter than N), all stay as lent. */
+ * On a refusal, 1 to 8, 10 to 12, 26, 28, 13 (a duration that the list may not have, one below its step's least among them) or 14 (list or out is shorter than N), all stay as lent. */
 STANDPLAN_CHECKED uint32_t standplan_starts(const uint8_t *sheet, size_t sheet_len, bool allow_waits, const uint32_t *list, size_t list_len, uint32_t *out, size_t out_len);
+
+/* What a run of a sheet of N steps is begun with: *n becomes N, *open the map of its open steps, step 0 among them, and the first N numbers of leasts the least
+ * durations, 0 for a step without one; the rest stays as lent. A sheet that judging would refuse 8, 10 to 12 or 28 is answered too.
+ * On a refusal, 1 to 7, 26 or 14 (fewer than N numbers are lent), all stay as lent. STANDPLAN_MAX_STEPS numbers are enough for any sheet. */
+STANDPLAN_CHECKED uint32_t standplan_steps(const uint8_t *sheet, size_t sheet_len, size_t *n, uint64_t *open, uint16_t *leasts, size_t leasts_len);
 
 /* The runner. Its state is held by the caller, in memory of fixed size.
  * words: the step count, the map of open steps, the map of steps that have started, the map of those that have finished.
- * start and finish: the tick at which each step started and finished. All zeros is the state of no run; any other state is answered too. */
+ * start and finish: the tick at which each step started and finished. least: the least duration of each step.
+ * All zeros is the state of no run; any other state is answered too. */
 typedef struct standplan_run {
     uint64_t words[4];
     uint32_t tick;
     uint32_t start[64];
     uint32_t finish[64];
+    uint16_t least[64];
 } standplan_run;
 
 /* The places in words. */
 enum { STANDPLAN_STEPS, STANDPLAN_OPEN, STANDPLAN_STARTED, STANDPLAN_FINISHED };
 
-/* table is the plan of the sheet, as lent at each call. A call returns 0 and puts the map of the steps that it started into *map,
- * or returns 256 + k, a refusal: then *map and the state stay as lent.
+/* n, open and leasts are what standplan_steps gives of the sheet, table is its plan, as lent at each call. A call returns 0 and puts the map of the steps that it
+ * started into *map, or returns 256 + k, a refusal: then *map and the state stay as lent.
  * The state in parts: for those who hold it otherwise than as a standplan_run. */
-STANDPLAN_CHECKED uint32_t standplan_begin(uint64_t words[4], uint32_t *tick, uint32_t start[64], uint32_t finish[64], uint64_t *map, size_t n, uint64_t open, const uint32_t *table, size_t table_len);
-STANDPLAN_CHECKED uint32_t standplan_tick(uint64_t words[4], uint32_t *tick, uint32_t start[64], uint32_t finish[64], uint64_t *map, const uint32_t *table, size_t table_len);
-STANDPLAN_CHECKED uint32_t standplan_finish(uint64_t words[4], uint32_t *tick, uint32_t start[64], uint32_t finish[64], uint64_t *map, size_t s, const uint32_t *table, size_t table_len);
+STANDPLAN_CHECKED uint32_t standplan_begin(uint64_t words[4], uint32_t *tick, uint32_t start[64], uint32_t finish[64], uint16_t least[64], uint64_t *map, size_t n, uint64_t open, const uint16_t *leasts, size_t leasts_len, const uint32_t *table, size_t table_len);
+STANDPLAN_CHECKED uint32_t standplan_tick(uint64_t words[4], uint32_t *tick, uint32_t start[64], uint32_t finish[64], uint16_t least[64], uint64_t *map, const uint32_t *table, size_t table_len);
+STANDPLAN_CHECKED uint32_t standplan_finish(uint64_t words[4], uint32_t *tick, uint32_t start[64], uint32_t finish[64], uint16_t least[64], uint64_t *map, size_t s, const uint32_t *table, size_t table_len);
 
-/* Begins a run of n steps with the map of the open ones. Refusals 16 (a run has begun), 2 (n is not 1 to 64), 14 (the table is too short). */
-STANDPLAN_CHECKED static inline uint32_t standplan_run_begin(standplan_run *run, size_t n, uint64_t open, const uint32_t *table, size_t table_len, uint64_t *map) {
-    return standplan_begin(run->words, &run->tick, run->start, run->finish, map, n, open, table, table_len);
+/* Begins a run of n steps with the map of the open ones and the first n of the least durations; the state's least is 0 past them.
+ * Refusals 16 (a run has begun), 2 (n is not 1 to 64), 14 (the table has fewer than n * n numbers, or leasts fewer than n). */
+STANDPLAN_CHECKED static inline uint32_t standplan_run_begin(standplan_run *run, size_t n, uint64_t open, const uint16_t *leasts, size_t leasts_len, const uint32_t *table, size_t table_len, uint64_t *map) {
+    return standplan_begin(run->words, &run->tick, run->start, run->finish, run->least, map, n, open, leasts, leasts_len, table, table_len);
 }
 
 /* The tick grows by one. Refusals 15 (no run has begun), 14, 18 (the clock's end). */
 STANDPLAN_CHECKED static inline uint32_t standplan_run_tick(standplan_run *run, const uint32_t *table, size_t table_len, uint64_t *map) {
-    return standplan_tick(run->words, &run->tick, run->start, run->finish, map, table, table_len);
+    return standplan_tick(run->words, &run->tick, run->start, run->finish, run->least, map, table, table_len);
 }
 
-/* Open step s ends at this tick. Refusals 15, 14, 17 (s cannot finish now). */
+/* Open step s ends at this tick. Refusals 15, 14, 17 (s cannot finish now), 20 (it has not lasted its least duration). */
 STANDPLAN_CHECKED static inline uint32_t standplan_run_finish(standplan_run *run, size_t s, const uint32_t *table, size_t table_len, uint64_t *map) {
-    return standplan_finish(run->words, &run->tick, run->start, run->finish, map, s, table, table_len);
+    return standplan_finish(run->words, &run->tick, run->start, run->finish, run->least, map, s, table, table_len);
 }
 
 #ifdef __cplusplus

@@ -26,6 +26,7 @@ class Sheet:
     steps: list[str | int] = field(default_factory=list)
     links: dict[tuple[int, int], dict[str, int | None]] = field(default_factory=dict)
     kept: set[int] = field(default_factory=set)                      # steps whose duration of 0 has a field in the bytes
+    leasts: dict[int, int] = field(default_factory=dict)             # the least durations of open steps that have the field; 0 is one too
     names: dict[int, str] = field(default_factory=dict)              # the comments behind steps; text alone has them
     places: dict[tuple[int, int], str] = field(default_factory=dict)  # where each link stands: its line, or its record and byte
 
@@ -82,10 +83,12 @@ def from_bytes(data: bytes) -> Sheet:
     for v in range(n):
         source.part = f"the record of step {v}"
         bits = source.number(1)
-        if bits > 2 or v == 0 and bits != 1:
-            allowed = "01 (open), for it is the start" if v == 0 else "01 (open), 02 (fixed) or 00 (fixed, duration 0)"
+        if bits not in (0, 1, 2, 5) or v == 0 and bits != 1:
+            allowed = "01 (open), for it is the start" if v == 0 else "01 (open), 05 (open, with a least), 02 (fixed) or 00 (fixed, duration 0)"
             raise source.fault(4, source.at - 1, f"the map of step {v} is {bits:02x}, and it can only be {allowed}")
-        sheet.steps.append("open" if bits == 1 else source.number(2) if bits == 2 else 0)
+        sheet.steps.append("open" if bits & 1 else source.number(2) if bits == 2 else 0)
+        if bits == 5:
+            sheet.leasts[v] = source.number(2)
         if bits == 2 and sheet.steps[v] == 0:
             sheet.kept.add(v)
     last = (-1, -1)
@@ -131,7 +134,9 @@ def pieces(sheet: Sheet) -> list[tuple[bytes, str]]:
     """The sheet piece by piece: its bytes, and its line of text. The first piece has the counts, and no line."""
     found = [(bytes([len(sheet.steps)]) + two(len(sheet.links)), "")]
     for v, step in enumerate(sheet.steps):
-        if step == "open":
+        if v in sheet.leasts:
+            found.append((b"\x05" + two(sheet.leasts[v]), f"step {v} open least {sheet.leasts[v]}"))
+        elif step == "open":
             found.append((b"\x01", f"step {v} open"))
         elif step or v in sheet.kept:
             found.append((b"\x02" + two(step), f"step {v} fixed {step}" + (" with-field" if not step else "")))
@@ -176,21 +181,31 @@ def _step_number(word: str) -> int:
     return _number(word, STEPS - 1, f"a sheet has at most {STEPS} steps, and their numbers are")
 
 
-def _step_line(words: list[str]) -> tuple[int, str | int, bool]:
-    """A step's number, what it is, and whether its duration of 0 has a field."""
+_FORMS = "'open', 'open least' and ticks, or 'fixed' and its ticks"
+
+
+def _step_line(words: list[str]) -> tuple[int, str | int, bool, int | None]:
+    """A step's number, what it is, whether its duration of 0 has a field, and its least, or None where it has none."""
     if len(words) < 2:
-        raise NoSheet("a step has a number, then 'open' or 'fixed' and its ticks")
+        raise NoSheet(f"a step has a number, then {_FORMS}")
     v, form = _step_number(words[0]), words[1:]
+    if "least" in form and (v == 0 or form[0] != "open"):
+        raise NoSheet("step 0 is the start and has no least" if v == 0 else "'least' stands only behind 'open' (refusal 4)")
     if v == 0 and form != ["open"]:
         raise NoSheet("step 0 is the start and has to be open")
     if form == ["open"]:
-        return v, "open", False
+        return v, "open", False, None
+    if form[:2] == ["open", "least"]:
+        if len(form) == 2:
+            raise NoSheet("'least' has no number behind it")
+        if len(form) == 3:
+            return v, "open", False, _number(form[2], LARGEST, "a least is")
     if form[0] != "fixed" or len(form) < 2 or form[2:] not in ([], ["with-field"]):
-        raise NoSheet("a step is 'open' or 'fixed' and its ticks")
+        raise NoSheet(f"a step is {_FORMS}")
     ticks = _number(form[1], LARGEST, "a duration is")
     if ticks and form[2:]:
         raise NoSheet("'with-field' stands behind a duration of 0 only; every other has its field")
-    return v, ticks, form[2:] != []
+    return v, ticks, form[2:] != [], None
 
 
 def _link_line(words: list[str]) -> tuple[tuple[int, int], dict[str, int | None]]:
@@ -237,12 +252,14 @@ def from_text(data: bytes) -> Sheet:
             if not words:
                 continue
             if words[0] == "step":
-                v, step, kept = _step_line(words[1:])
+                v, step, kept, least = _step_line(words[1:])
                 if v in steps:
                     raise NoSheet(f"step {v} stands in line {steps[v][0]} already")
                 steps[v] = line, step
                 if kept:
                     sheet.kept.add(v)
+                if least is not None:
+                    sheet.leasts[v] = least
                 if name := "".join(filter(str.isprintable, comment)).strip():
                     sheet.names[v] = name
             elif words[0] == "link":

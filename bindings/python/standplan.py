@@ -6,8 +6,9 @@
     plan = standplan.plan(sheet, True)
     plan.deciding(3)                                    # {0: 1, 2: 0}: step 3 starts 1 tick after step 0 ends or 0 after step 2 does, the later
     standplan.starts(sheet, True, [0, 0, 10, 0, 0])     # [0, 0, 0, 10, 12]
+    steps = standplan.steps(sheet)                      # Steps(n=5, open=[0, 2], leasts=[0, 0, 0, 0, 0]): what a run is begun with
     run = standplan.Run(plan)
-    run.begin({2})                                      # [0, 1, 2]: these steps start now; step 2 is open
+    run.begin(steps.open, steps.leasts)                 # [0, 1, 2]: these steps start now
     run.tick()                                          # []
     run.finish(2)                                       # [3]
 
@@ -24,10 +25,11 @@ import os
 from collections.abc import Iterable, Sequence
 from functools import cache
 from pathlib import Path
+from typing import NamedTuple
 
-__version__ = "1.5.0"
+__version__ = "2.0.0"
 __all__ = ["SOUND", "SOUND_WITH_WAITS", "UNDECIDED", "MAX_STEPS", "MAX_RECORDS", "MAX_SHEET", "MAX_TABLE", "MAX_DURATION", "STACK", "SENTENCES",
-           "Refused", "NoLibrary", "Plan", "Run", "judge", "waits", "plan", "starts"]
+           "Refused", "NoLibrary", "Plan", "Steps", "Run", "judge", "waits", "plan", "starts", "steps"]
 
 SOUND, SOUND_WITH_WAITS = 0, 1                          # the verdicts
 UNDECIDED = 4294967295                                  # the number in a plan where a step does not decide another
@@ -44,17 +46,18 @@ SENTENCES = {
     7: "bytes follow the last record",
     8: "forward links close a circle",
     9: "retired: no sheet is refused so",
-    10: "with all open durations 0, no start times keep every link",
+    10: "with each open step at its least, no start times keep every link",
     11: "for some list of durations no start times keep every link",
     12: "waits are needed and the caller did not allow them",
-    13: "a duration is above 16,777,215, or is not 0 and belongs to step 0 or to a fixed step",
+    13: "a duration is above 16,777,215 or below its step's least duration, or is not 0 and belongs to step 0 or to a fixed step",
     14: "a lent table or list is too short",
     15: "no run has begun, or the state's step count is not 1 to 64",
     16: "Begin on a run that has begun",
     17: "Finish of a step that is not open, is 0, has not started, or has finished",
     18: "Tick when the tick is 4,294,967,295",
+    20: "Finish at a tick below its start tick plus its least duration",
     26: "a link map with bit 4, at most from the finish, and without bit 0, after",
-    28: "the waits close a circle of forward links, or leave no start times with all open durations 0",
+    28: "the waits close a circle of forward links, or leave no start times with each open step at its least",
 }
 
 
@@ -75,14 +78,16 @@ class NoLibrary(OSError):
 
 # ---------------------------------------------------------------- the library
 
-_U8, _U32, _U64, _SIZE = ctypes.c_char_p, ctypes.POINTER(ctypes.c_uint32), ctypes.POINTER(ctypes.c_uint64), ctypes.c_size_t
-_SHEET, _STATE = [_U8, _SIZE], [_U64, _U32, _U32, _U32, _U64]
+_U8, _U16, _U32, _U64 = ctypes.c_char_p, *map(ctypes.POINTER, (ctypes.c_uint16, ctypes.c_uint32, ctypes.c_uint64))
+_SIZE = ctypes.c_size_t
+_SHEET, _STATE = [_U8, _SIZE], [_U64, _U32, _U32, _U32, _U16, _U64]
 _CALLS = {
     "judge": [*_SHEET, ctypes.c_bool],
     "waits": [*_SHEET, _U64, _U32],
     "plan": [*_SHEET, ctypes.c_bool, _U32, _SIZE],
     "starts": [*_SHEET, ctypes.c_bool, _U32, _SIZE, _U32, _SIZE],
-    "begin": [*_STATE, _SIZE, ctypes.c_uint64, _U32, _SIZE],
+    "steps": [*_SHEET, ctypes.POINTER(_SIZE), _U64, _U16, _SIZE],
+    "begin": [*_STATE, _SIZE, ctypes.c_uint64, _U16, _SIZE, _U32, _SIZE],
     "tick": [*_STATE, _U32, _SIZE],
     "finish": [*_STATE, _SIZE, _U32, _SIZE],
 }
@@ -131,7 +136,16 @@ def _numbers(numbers: Iterable[int]) -> ctypes.Array:
     return (ctypes.c_uint32 * len(given))(*given)
 
 
-def _steps(map_: int) -> list[int]:
+def _leasts(numbers: Iterable[int]) -> ctypes.Array:
+    """Least durations. A larger number cannot be lent as the largest, which the library takes."""
+    given = list(numbers)
+    for number in given:
+        if not 0 <= number <= 65535:
+            raise ValueError(f"{number} is no least duration: these are 0 to 65535")
+    return (ctypes.c_uint16 * len(given))(*given)
+
+
+def _members(map_: int) -> list[int]:
     return [v for v in range(64) if map_ >> v & 1]
 
 
@@ -146,7 +160,7 @@ def waits(sheet: bytes) -> list[tuple[int, int]]:
     """The waits of a sheet: pairs (a, i), step i waits for the end of step a, by a, then by i. Refusals 1 to 8, 10, 11, 26 and 28."""
     maps, count = (ctypes.c_uint64 * 64)(), ctypes.c_uint32()
     _called("waits", *_lent(sheet), maps, ctypes.byref(count))
-    return sorted((a, i) for i, map_ in enumerate(maps) for a in _steps(map_))
+    return sorted((a, i) for i, map_ in enumerate(maps) for a in _members(map_))
 
 
 class Plan:
@@ -173,7 +187,8 @@ def plan(sheet: bytes, allow: bool) -> Plan:
 
 
 def starts(sheet: bytes, allow: bool, durations: Sequence[int]) -> list[int]:
-    """The start times of a sheet for a list of durations, one for each step, 0 for step 0 and for fixed steps. Refusals 1 to 8, 10 to 14, 26 and 28."""
+    """The start times of a sheet for a list of durations, one for each step, 0 for step 0 and for fixed steps, for an open
+    step no less than its least. Refusals 1 to 8, 10 to 14, 26 and 28."""
     data, size = _lent(sheet)
     given, out = _numbers(durations), (ctypes.c_uint32 * MAX_STEPS)()
     _called("starts", data, size, allow, given, len(given), out, MAX_STEPS)
@@ -182,34 +197,50 @@ def starts(sheet: bytes, allow: bool, durations: Sequence[int]) -> list[int]:
 
 # ---------------------------------------------------------------- the runner
 
+class Steps(NamedTuple):
+    """What a run of a sheet is begun with: the number of steps, the open ones, step 0 among them, and the least durations, 0 for a step without one."""
+
+    n: int
+    open: list[int]
+    leasts: list[int]
+
+
+def steps(sheet: bytes) -> Steps:
+    """What a run of a sheet is begun with, of any sheet that can be read. Refusals 1 to 7 and 26."""
+    n, open_, leasts = _SIZE(), ctypes.c_uint64(), (ctypes.c_uint16 * MAX_STEPS)()
+    _called("steps", *_lent(sheet), ctypes.byref(n), ctypes.byref(open_), leasts, MAX_STEPS)
+    return Steps(n.value, _members(open_.value), leasts[:n.value])
+
+
 class Run:
     """A run of a plan. Its calls return the steps that start now. The state is that of the library's runner."""
 
     def __init__(self, plan: Plan) -> None:
         self.plan = plan
         self._words, self._tick = (ctypes.c_uint64 * 4)(), ctypes.c_uint32()
-        self._start, self._finish = (ctypes.c_uint32 * 64)(), (ctypes.c_uint32 * 64)()
+        self._start, self._finish, self._least = (ctypes.c_uint32 * 64)(), (ctypes.c_uint32 * 64)(), (ctypes.c_uint16 * 64)()
 
-    def _call(self, name: str, *arguments: int) -> list[int]:
+    def _call(self, name: str, *arguments) -> list[int]:
         map_, table = ctypes.c_uint64(), self.plan.table
-        _called(name, self._words, ctypes.byref(self._tick), self._start, self._finish, ctypes.byref(map_), *arguments, table, len(table))
-        return _steps(map_.value)
+        _called(name, self._words, ctypes.byref(self._tick), self._start, self._finish, self._least, ctypes.byref(map_), *arguments, table, len(table))
+        return _members(map_.value)
 
-    def begin(self, open_steps: Iterable[int]) -> list[int]:
-        """Begins the run; open_steps are the open steps of the sheet (step 0 need not be among them). Refusals 16, 2, 14."""
-        map_ = 0
+    def begin(self, open_steps: Iterable[int], leasts: Iterable[int]) -> list[int]:
+        """Begins the run, with the open steps of the sheet (step 0 need not be among them) and its least durations, as `steps` gives both.
+        Refusals 16, 2, 14."""
+        map_, given = 0, _leasts(leasts)
         for v in open_steps:
             if not 0 <= v < 64:
                 raise ValueError(f"no step has the number {v}")
             map_ |= 1 << v
-        return self._call("begin", _number(self.plan.n, 64), map_)
+        return self._call("begin", _number(self.plan.n, 64), map_, given, len(given))
 
     def tick(self) -> list[int]:
         """The tick grows by one. Refusals 15, 14, 18."""
         return self._call("tick")
 
     def finish(self, step: int) -> list[int]:
-        """An open step ends at this tick. Refusals 15, 14, 17."""
+        """An open step ends at this tick. Refusals 15, 14, 17, and 20 where it has not lasted its least duration."""
         return self._call("finish", _number(step, 64))
 
     @property
@@ -220,9 +251,9 @@ class Run:
     @property
     def started(self) -> dict[int, int]:
         """The steps that have started, each with its tick."""
-        return {v: self._start[v] for v in _steps(self._words[2])}
+        return {v: self._start[v] for v in _members(self._words[2])}
 
     @property
     def finished(self) -> dict[int, int]:
         """The open steps that have finished, and step 0, each with its tick."""
-        return {v: self._finish[v] for v in _steps(self._words[3])}
+        return {v: self._finish[v] for v in _members(self._words[3])}

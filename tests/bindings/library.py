@@ -17,7 +17,7 @@ HERE, BUILT = Path(__file__).parent, ROOT / "target/staticlib"
 HEADER = (ROOT / "include/standplan.h").read_text("ascii")
 CRATE = (ROOT / "bindings/rust/src/lib.rs").read_text("utf-8")
 RETIRED = "retired: no sheet is refused so"
-CALLS = {f"standplan_{call}" for call in ("judge", "waits", "plan", "starts", "begin", "tick", "finish")}
+CALLS = {f"standplan_{call}" for call in ("judge", "waits", "plan", "starts", "steps", "begin", "tick", "finish")}
 
 
 def check(found, wanted, what):
@@ -59,12 +59,16 @@ def header():
             good, said = compiles(taken, f"-std={standard}", compiler=compiler, kind=kind)
             assert good, said
     lines = {"judge": "standplan_judge(s, 1, true)", "waits": "standplan_waits(s, 1, w, t)", "plan": "standplan_plan(s, 1, true, t, 1)",
-             "starts": "standplan_starts(s, 1, true, t, 1, t, 1)", "begin": "standplan_begin(w, t, t, t, w, 1, 0, t, 1)", "tick": "standplan_tick(w, t, t, t, w, t, 1)",
-             "finish": "standplan_finish(w, t, t, t, w, 1, t, 1)", "run_begin": "standplan_run_begin(r, 1, 0, t, 1, w)", "run_tick": "standplan_run_tick(r, t, 1, w)",
-             "run_finish": "standplan_run_finish(r, 1, t, 1, w)"}
+             "starts": "standplan_starts(s, 1, true, t, 1, t, 1)", "steps": "standplan_steps(s, 1, n, w, l, 1)", "begin": "standplan_begin(w, t, t, t, l, w, 1, 0, l, 1, t, 1)",
+             "tick": "standplan_tick(w, t, t, t, l, w, t, 1)", "finish": "standplan_finish(w, t, t, t, l, w, 1, t, 1)",
+             "run_begin": "standplan_run_begin(r, 1, 0, l, 1, t, 1, w)", "run_tick": "standplan_run_tick(r, t, 1, w)", "run_finish": "standplan_run_finish(r, 1, t, 1, w)"}
+    check({f"standplan_{call}" for call in lines}, CALLS | set(re.findall(r"standplan_run_\w+(?=\()", HEADER)), "calls that are tried")
+    lent = "uint8_t *s, uint64_t *w, uint32_t *t, uint16_t *l, size_t *n, standplan_run *r"
     for call in lines.values():
-        good, said = compiles(f'#include "standplan.h"\nvoid f(uint8_t *s, uint64_t *w, uint32_t *t, standplan_run *r);\n'
-                              f"void f(uint8_t *s, uint64_t *w, uint32_t *t, standplan_run *r) {{ (void)s; (void)w; (void)t; (void)r; {call}; }}\n")
+        body = f"(void)s; (void)w; (void)t; (void)l; (void)n; (void)r; "
+        looked_at, said = compiles(f'#include "standplan.h"\nuint32_t f({lent});\nuint32_t f({lent}) {{ {body}return {call}; }}\n')
+        assert looked_at, f"{call}: {said}"
+        good, said = compiles(f'#include "standplan.h"\nvoid f({lent});\nvoid f({lent}) {{ {body}{call}; }}\n')
         assert not good and "unused-result" in said, f"{call}: {said}"
 
 
@@ -134,8 +138,9 @@ def installed(place):
 
 def stack(place):
     """The stack of each call, on 64 steps with waits, is not above what the header says."""
-    said = re.search(r"at most: judge and waits (\d+) kB, plan and starts (\d+) kB, begin, tick and finish (\d+) kB", HEADER)
-    most = dict(zip(("judge", "waits", "plan", "starts", "begin", "tick", "finish"), (int(said[group]) for group in (1, 1, 2, 2, 3, 3, 3))))
+    said = re.search(r"at most: judge and waits (\d+) kB, plan and starts (\d+) kB, steps (\d+) kB, begin, tick and finish (\d+) kB", HEADER)
+    assert said, "the header does not say how much stack each call needs"
+    most = dict(zip(("judge", "waits", "plan", "starts", "steps", "begin", "tick", "finish"), (int(said[group]) for group in (1, 1, 2, 2, 3, 4, 4, 4))))
     ran("cc", "-std=c11", "-O2", "-Wall", "-Wextra", "-I", ROOT / "include", HERE / "stack.c", BUILT / "libstandplan.a", "-o", place / "stack")
     found = dict(line.split() for line in ran(place / "stack", ROOT / "bench/sets/small.bin", ROOT / "bench/sets/large.bin", ROOT / "bench/sets/worst.bin").splitlines())
     check(list(found), list(most), "calls whose stack was measured")

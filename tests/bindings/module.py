@@ -49,6 +49,10 @@ def answers():
         elif kind == "waits":
             pairs = [(a, i) for a in range(64) for i, word in enumerate(fields[2]) if int(word, 16) >> a & 1]
             check(answer(standplan.waits, sheet), wanted if refused else pairs, what)
+        elif kind == "steps" and wanted != ("refused", 14):
+            count_, open_ = map(int, fields[1])
+            given = count_, [v for v in range(64) if open_ >> v & 1], numbers(fields[2])[:n]
+            check(answer(standplan.steps, sheet), wanted if refused else given, what)
         elif kind == "plan" and wanted != ("refused", 14):
             made = answer(standplan.plan, sheet, rest == ["1"])
             if not refused:
@@ -79,23 +83,22 @@ def runs():
             table = numbers(fields[0])
             continue
         if kind == "state":
-            words, tick, start, finish = state_of(fields)
-            run._words[:], run._tick.value, run._start[:], run._finish[:] = words, tick, start, finish
+            run._words[:], run._tick.value, run._start[:], run._finish[:], run._least[:] = state_of(fields)
             continue
         size, *more = map(int, rest)
         run.plan = Plan(more[0] if kind == "begin" else 0, table[:size])
         if kind == "begin":
-            found = answer(run.begin, [v for v in range(64) if more[1] >> v & 1])
+            found = answer(run.begin, [v for v in range(64) if more[1] >> v & 1], more[2:])
         else:
             found = answer(getattr(run, kind), *more)
         wanted = verdict_of(fields[0])
         check(found, wanted if isinstance(wanted, tuple) else [v for v in range(64) if wanted >> v & 1], line)
-        check((run._words[:], run.now, run._start[:], run._finish[:]), state_of(fields[1:]), line)
+        check((run._words[:], run.now, run._start[:], run._finish[:], run._least[:]), state_of(fields[1:]), line)
         check(run.started, {v: run._start[v] for v in range(64) if run._words[2] >> v & 1}, line)
         check(run.finished, {v: run._finish[v] for v in range(64) if run._words[3] >> v & 1}, line)
         seen.add((kind, wanted if isinstance(wanted, tuple) else "ok"))
         count += 1
-    assert count > 300 and len(seen) == 12, (count, seen)
+    assert count > 300 and len(seen) == 13, (count, seen)      # each call goes through and is refused in each of its three ways, Finish in four
     return count
 
 
@@ -132,10 +135,26 @@ def borders():
     check(raised(made.deciding, 5), IndexError, "a row that is not there")
     run = Run(made)
     check(answer(run.finish, 2), ("refused", 15), "no run")
-    check(raised(run.begin, [64]), ValueError, "a step that no map has")
-    check((run.begin([2]), answer(run.finish, 2**64 + 2), answer(run.begin, [2])), ([0, 1, 2], ("refused", 17), ("refused", 16)), "the run")
+    given = standplan.steps(stand)
+    check(given, (5, [0, 2], [0, 0, 0, 0, 0]), "what a run of the stand sheet is begun with")
+    check((given.n, given.open, given.leasts), tuple(given), "its parts by name")
+    check(raised(run.begin, [64], given.leasts), ValueError, "a step that no map has")
+    for wrong, kind in ([-1, 0, 0, 0, 0], ValueError), ([65536, 0, 0, 0, 0], ValueError), ([0.5, 0, 0, 0, 0], TypeError):
+        check(raised(run.begin, [2], wrong), kind, f"leasts {wrong}")
+    check((answer(run.begin, [2], [0, 0, 0, 0]), run.started), (("refused", 14), {}), "too few leasts")
+    check((run.begin(given.open, given.leasts), answer(run.finish, 2**64 + 2), answer(run.begin, [2], given.leasts)), ([0, 1, 2], ("refused", 17), ("refused", 16)), "the run")
     check(raised(run.finish, -1), ValueError, "a step below 0")
     check((run.finish(2), run.tick(), run.now, run.started, run.finished), ([], [3], 1, {0: 0, 1: 0, 2: 0, 3: 1}, {0: 0, 2: 0}), "the run goes on")
+
+    least = (ROOT / "examples/least.sheet").read_bytes()
+    run, given = Run(standplan.plan(least, True)), standplan.steps(least)
+    check(given, (5, [0, 2], [0, 0, 8, 0, 0]), "what a run with a least is begun with")
+    check(answer(standplan.starts, least, True, [0, 0, 7, 0, 0]), ("refused", 13), "a duration below its least")
+    check((run.begin(given.open, given.leasts), run._least[:6]), ([0, 1, 2], [*given.leasts, 0]), "the run with a least")
+    for _ in range(8):
+        check((answer(run.finish, 2), run.finished, run.tick()), (("refused", 20), {0: 0}, []), "a finish below the least")
+    check((run.finish(2), run.now), ([3], 8), "a finish at the least")
+    check(answer(standplan.steps, bytes([2, 1, 0, 1, 1, 1, 1, 0])), (2, [0, 1], [0, 0]), "a sheet that is refused 8")
 
     def elsewhere(folder, library):
         """What the module says where it stands alone."""

@@ -1,4 +1,4 @@
-"""tools/explain on stored sheets of each verdict, with gaps and without, with loose steps and without, beside the reference planner (tests/reference): what is
+"""tools/explain on stored sheets of each verdict, with gaps and without, with loose steps and without, with leasts and without, beside the reference planner (tests/reference): what is
 said is of the sheet's verdict; the records that clash are refused still, and not without any one of them; a circle is one, with a step that hangs from the
 start where it leads through there; plans are those of ./standplan, and each wait has a limit."""
 import importlib.machinery
@@ -89,13 +89,16 @@ def planned(data, said):
     hanging = [re.findall(r"step (\d+)", line) for line in said if "from the start" in line]
     loose = [str(v) for v in range(1, len(sheet.steps)) if v not in entered(sheet)]
     assert hanging == ([loose] if loose else []), said
+    leasts = [(str(v), str(least)) for v, least in sorted(sheet.leasts.items()) if least]
+    found = [re.findall(r"step (\d+) lasts at least (\d+) tick", line) for line in said if "lasts at least" in line]
+    assert found == ([leasts] if leasts else []) and ("from their least on" in said[0]) == bool(leasts), said
     return len(loose)
 
 
 if __name__ == "__main__":
     seen, counts = Counter(), Counter()
     for data, verdict in stored.sheets():
-        kind = verdict, stored.has_gap(data), stored.has_loose(data)
+        kind = verdict, stored.has_gap(data), stored.has_loose(data), stored.has_least(data)
         if seen[kind] == EACH:
             continue
         seen[kind] += 1
@@ -114,7 +117,7 @@ if __name__ == "__main__":
             assert status == 0, said
             counts["loose"] += planned(data, said)
     assert {verdict for verdict, *_ in seen} == {"0", *(f"refused {k}" for k in (*range(1, 9), *range(10, 13), 26, 28))}, seen
-    with_gaps = sum(count for (_, gap, _), count in seen.items() if gap)
-    assert with_gaps and counts["loose"] and counts["hanging"], (seen, counts)
-    print(f"{seen.total()} stored sheets explained, {with_gaps} of them with gaps; {counts['records']} records clash in {counts['sheets']} of them, "
+    with_gaps, with_leasts = (sum(count for kind, count in seen.items() if kind[at]) for at in (1, 3))
+    assert with_gaps and with_leasts and counts["loose"] and counts["hanging"], (seen, counts)
+    print(f"{seen.total()} stored sheets explained, {with_gaps} of them with gaps, {with_leasts} with leasts; {counts['records']} records clash in {counts['sheets']} of them, "
           f"{counts['hanging']} of these by a step that hangs from the start; of plans {counts['loose']} such steps are named")

@@ -16,7 +16,11 @@ BYTES = [
     ("01 01 02 01", "refused 3: R is above 512\nbyte 1: R is 513, and a sheet has at most 512 link records\n"),
     ("01 00 00 02", "refused 4: a map that is not allowed or has an unknown bit\nbyte 3: the map of step 0 is 02, and it can only be 01 (open), for it is the start\n"),
     ("02 00 00 01 03", "refused 4: a map that is not allowed or has an unknown bit\n"
-     "byte 4: the map of step 1 is 03, and it can only be 01 (open), 02 (fixed) or 00 (fixed, duration 0)\n"),
+     "byte 4: the map of step 1 is 03, and it can only be 01 (open), 05 (open, with a least), 02 (fixed) or 00 (fixed, duration 0)\n"),
+    ("01 00 00 05 08 00", "refused 4: a map that is not allowed or has an unknown bit\nbyte 3: the map of step 0 is 05, and it can only be 01 (open), for it is the start\n"),
+    ("02 00 00 01 06 08 00 03 00", "refused 4: a map that is not allowed or has an unknown bit\n"
+     "byte 4: the map of step 1 is 06, and it can only be 01 (open), 05 (open, with a least), 02 (fixed) or 00 (fixed, duration 0)\n"),
+    ("02 00 00 01 05 08", "refused 1: the bytes end before a field is complete\nbyte 6: the sheet has 6 bytes, and its end is inside the record of step 1\n"),
     ("02 01 00 01 01 00 00 01", "refused 4: a map that is not allowed or has an unknown bit\nbyte 5: the map of link record 0 is 00, an empty map\n"),
     ("02 01 00 01 01 21 00 01", "refused 4: a map that is not allowed or has an unknown bit\nbyte 5: the map of link record 0 is 21, a bit that no link map has\n"),
     ("02 01 00 01 01 0a 00 01", "refused 4: a map that is not allowed or has an unknown bit\nbyte 5: the map of link record 0 is 0a: bit 3, a gap, without bit 0, after\n"),
@@ -32,6 +36,7 @@ BYTES = [
 ]
 
 STEPS = "step 0 open # start\nstep 1 fixed 3 # lamps\nstep 2 open # hand\nstep 3 fixed 2 # glass down\nstep 4 fixed 1 # exposure\n"
+LEASTS = STEPS.replace("step 2 open", "step 2 open least 8")
 LINKS = "link 0 1 after\nlink 0 2 after\nlink 1 4 after\nlink 2 3 after\n"
 CLASH = "These records clash; without any one of them the others do not:\n"
 # Sheets as text: the words behind the file, the text, the status and what is said.
@@ -133,7 +138,7 @@ Where hand (1) lasts 4 ticks:
   exposure (3) starts at tick 6 and ends at 7
 """),
     # such a step in what cannot be kept: behind a limit from the start, of a fixed step and of an open one; not where the circle goes another way
-    ([], STEPS + "link 0 4 at-most 4\nlink 1 3 at-least 3\nlink 3 4 after\n", 1, """refused 10: with all open durations 0, no start times keep every link
+    ([], STEPS + "link 0 4 at-most 4\nlink 1 3 at-least 3\nlink 3 4 after\n", 1, """refused 10: with each open step at its least, no start times keep every link
 """ + CLASH + """  line 6, link 0 4 at-most 4
     exposure (4) starts at tick 4 or before
   line 7, link 1 3 at-least 3
@@ -163,7 +168,7 @@ hand (2) is open and may last more than the 2 ticks that these limits leave.
     exposure (4) starts after glass down (3) ends, which lasts 2 ticks
 hand (2) is open and may last more than the 7 ticks that these limits leave.
 """),
-    ([], STEPS + "link 3 4 after at-most 1\n", 1, """refused 10: with all open durations 0, no start times keep every link
+    ([], STEPS + "link 3 4 after at-most 1\n", 1, """refused 10: with each open step at its least, no start times keep every link
 This record alone cannot be kept:
   line 6, link 3 4 after at-most 1
     exposure (4) starts after glass down (3) ends, which lasts 2 ticks
@@ -171,14 +176,14 @@ This record alone cannot be kept:
 Added up, 2 ticks are needed where 1 is allowed.
 """),
     # records that clash, open durations 0: one record; a chain that leads through step 0; a limit from the finish
-    ([], STEPS + LINKS + "link 3 4 after at-most 1\n", 1, """refused 10: with all open durations 0, no start times keep every link
+    ([], STEPS + LINKS + "link 3 4 after at-most 1\n", 1, """refused 10: with each open step at its least, no start times keep every link
 This record alone cannot be kept:
   line 10, link 3 4 after at-most 1
     exposure (4) starts after glass down (3) ends, which lasts 2 ticks
     exposure (4) starts at most 1 tick after glass down (3) starts
 Added up, 2 ticks are needed where 1 is allowed.
 """),
-    ([], STEPS + LINKS + "link 0 4 at-most 4\nlink 1 3 at-least 3\nlink 3 4 after\n", 1, """refused 10: with all open durations 0, no start times keep every link
+    ([], STEPS + LINKS + "link 0 4 at-most 4\nlink 1 3 at-least 3\nlink 3 4 after\n", 1, """refused 10: with each open step at its least, no start times keep every link
 """ + CLASH + """  line 10, link 0 4 at-most 4
     exposure (4) starts at tick 4 or before
   line 11, link 1 3 at-least 3
@@ -187,7 +192,7 @@ Added up, 2 ticks are needed where 1 is allowed.
     exposure (4) starts after glass down (3) ends, which lasts 2 ticks
 Added up, 5 ticks are needed where 4 are allowed.
 """),
-    ([], STEPS + LINKS + "link 1 3 after at-most-from-finish 1\nlink 1 2 at-least 5\n", 1, """refused 10: with all open durations 0, no start times keep every link
+    ([], STEPS + LINKS + "link 1 3 after at-most-from-finish 1\nlink 1 2 at-least 5\n", 1, """refused 10: with each open step at its least, no start times keep every link
 """ + CLASH + """  line 11, link 1 2 at-least 5
     hand (2) starts at least 5 ticks after lamps (1) starts
   line 10, link 1 3 after at-most-from-finish 1
@@ -197,7 +202,7 @@ Added up, 5 ticks are needed where 4 are allowed.
 Added up, 5 ticks are needed where 4 are allowed, with open steps at 0.
 """),
     # gaps: in a chain; above a limit from the finish of an open step, of a fixed one, of the start; beside one that an at-least link breaks
-    ([], STEPS + LINKS.replace("2 3 after", "2 3 after gap 6") + "link 0 4 at-most 7\nlink 3 4 after\n", 1, """refused 10: with all open durations 0, no start times keep every link
+    ([], STEPS + LINKS.replace("2 3 after", "2 3 after gap 6") + "link 0 4 at-most 7\nlink 3 4 after\n", 1, """refused 10: with each open step at its least, no start times keep every link
 """ + CLASH + """  line 10, link 0 4 at-most 7
     exposure (4) starts at tick 7 or before
   line 9, link 2 3 after gap 6
@@ -207,14 +212,14 @@ Added up, 5 ticks are needed where 4 are allowed, with open steps at 0.
 Added up, 8 ticks are needed where 7 are allowed, with open steps at 0.
 """),
     ([], STEPS + LINKS.replace("2 3 after", "2 3 after gap 6 at-most-from-finish 5") + "link 3 4 after\n", 1,
-     """refused 10: with all open durations 0, no start times keep every link
+     """refused 10: with each open step at its least, no start times keep every link
 This record alone cannot be kept:
   line 9, link 2 3 after gap 6 at-most-from-finish 5
     glass down (3) starts at least 6 ticks after hand (2) ends, which is open
     glass down (3) starts at most 5 ticks after hand (2) ends
 Added up, 6 ticks are needed where 5 are allowed.
 """),
-    ([], STEPS + LINKS + "link 3 4 after gap 6 at-least 1 at-most 9 at-most-from-finish 5\n", 1, """refused 10: with all open durations 0, no start times keep every link
+    ([], STEPS + LINKS + "link 3 4 after gap 6 at-least 1 at-most 9 at-most-from-finish 5\n", 1, """refused 10: with each open step at its least, no start times keep every link
 This record alone cannot be kept:
   line 10, link 3 4 after gap 6 at-least 1 at-most 9 at-most-from-finish 5
     exposure (4) starts at least 6 ticks after glass down (3) ends, which lasts 2 ticks
@@ -222,14 +227,14 @@ This record alone cannot be kept:
 Added up, 8 ticks are needed where 7 are allowed.
 """),
     ([], STEPS + LINKS.replace("0 1 after", "0 1 after gap 6 at-most-from-finish 5") + "link 3 4 after\n", 1,
-     """refused 10: with all open durations 0, no start times keep every link
+     """refused 10: with each open step at its least, no start times keep every link
 This record alone cannot be kept:
   line 6, link 0 1 after gap 6 at-most-from-finish 5
     lamps (1) starts at tick 6 or later
     lamps (1) starts at tick 5 or before
 Added up, 6 ticks are needed where 5 are allowed.
 """),
-    ([], STEPS + LINKS + "link 3 4 after gap 5 at-least 9 at-most-from-finish 5\n", 1, """refused 10: with all open durations 0, no start times keep every link
+    ([], STEPS + LINKS + "link 3 4 after gap 5 at-least 9 at-most-from-finish 5\n", 1, """refused 10: with each open step at its least, no start times keep every link
 This record alone cannot be kept:
   line 10, link 3 4 after gap 5 at-least 9 at-most-from-finish 5
     exposure (4) starts at least 9 ticks after glass down (3) starts
@@ -237,7 +242,7 @@ This record alone cannot be kept:
 Added up, 9 ticks are needed where 7 are allowed.
 """),
     # a limit from the finish beside one that breaks: neither it nor its after link has a part
-    ([], STEPS + LINKS + "link 3 4 after at-least 9 at-most 4 at-most-from-finish 60\n", 1, """refused 10: with all open durations 0, no start times keep every link
+    ([], STEPS + LINKS + "link 3 4 after at-least 9 at-most 4 at-most-from-finish 60\n", 1, """refused 10: with each open step at its least, no start times keep every link
 This record alone cannot be kept:
   line 10, link 3 4 after at-least 9 at-most 4 at-most-from-finish 60
     exposure (4) starts at least 9 ticks after glass down (3) starts
@@ -294,7 +299,7 @@ one (1) and two (2) are open and together may last more than the 5 ticks that th
     step 3 starts after two (2) ends, which is open
 two (2) is open and may last longer than these limits leave.
 """),
-    ([], STEPS + LINKS + "link 0 3 at-most 9\nlink 3 4 after at-most 1\n", 1, """refused 10: with all open durations 0, no start times keep every link
+    ([], STEPS + LINKS + "link 0 3 at-most 9\nlink 3 4 after at-most 1\n", 1, """refused 10: with each open step at its least, no start times keep every link
 """ + CLASH + """  line 10, link 0 3 at-most 9
     glass down (3) starts at tick 9 or before
   line 9, link 2 3 after
@@ -305,7 +310,7 @@ hand (2) is open and may last more than the 9 ticks that these limits leave.
     # waits that cannot be put in
     ([], "step 0 open\nstep 1 open # left hand\nstep 2 open # right hand\nstep 3 fixed 1 # left clamp\nstep 4 fixed 1 # right clamp\nlink 0 1 after\nlink 0 2 after\n"
      "link 1 3 after at-most-from-finish 5\nlink 2 3 after\nlink 1 4 after\nlink 2 4 after at-most-from-finish 6\nlink 3 4 at-least 0\n", 1,
-     """refused 28: the waits close a circle of forward links, or leave no start times with all open durations 0
+     """refused 28: the waits close a circle of forward links, or leave no start times with each open step at its least
 """ + CLASH + """  line 8, link 1 3 after at-most-from-finish 5
     left clamp (3) starts after left hand (1) ends, which is open
     left clamp (3) starts at most 5 ticks after left hand (1) ends
@@ -325,7 +330,7 @@ Waits that cannot all be put in:
     # the same, with gaps
     ([], "step 0 open\nstep 1 open # left hand\nstep 2 open # right hand\nstep 3 fixed 1 # clamp\nlink 0 1 after\nlink 0 2 after gap 2\n"
      "link 1 3 after gap 6 at-most-from-finish 7\nlink 2 3 after gap 1 at-most-from-finish 2\n", 1,
-     """refused 28: the waits close a circle of forward links, or leave no start times with all open durations 0
+     """refused 28: the waits close a circle of forward links, or leave no start times with each open step at its least
 """ + CLASH + """  line 7, link 1 3 after gap 6 at-most-from-finish 7
     clamp (3) starts at least 6 ticks after left hand (1) ends, which is open
     clamp (3) starts at most 7 ticks after left hand (1) ends
@@ -340,7 +345,7 @@ Waits that cannot all be put in:
 """),
     # the same, of hands that nothing leads into: the waits are between them
     ([], "step 0 open\nstep 1 open # left hand\nstep 2 open # right hand\nstep 3 fixed 0 # clamp\nlink 1 3 after at-most-from-finish 0\n"
-     "link 2 3 after at-most-from-finish 0\n", 1, """refused 28: the waits close a circle of forward links, or leave no start times with all open durations 0
+     "link 2 3 after at-most-from-finish 0\n", 1, """refused 28: the waits close a circle of forward links, or leave no start times with each open step at its least
 """ + CLASH + """  line 5, link 1 3 after at-most-from-finish 0
     clamp (3) starts after left hand (1) ends, which is open
     clamp (3) starts at most 0 ticks after left hand (1) ends
@@ -353,9 +358,91 @@ Waits that cannot all be put in:
   left hand (1) waits for the end of right hand (2)
     for line 5, link 1 3 after at-most-from-finish 0: clamp (3) starts at most 0 ticks after left hand (1) ends
 """),
+    # leasts: in 10, between a start and an end, beside one of 0, taken and needed alike; in 11, the ticks that are left; in a circle; in a wait
+    ([], LEASTS + LINKS + "link 2 4 at-most 9\nlink 3 4 after\n", 1, """refused 10: with each open step at its least, no start times keep every link
+""" + CLASH + """  line 9, link 2 3 after
+    glass down (3) starts after hand (2) ends, which is open and lasts at least 8 ticks
+  line 10, link 2 4 at-most 9
+    exposure (4) starts at most 9 ticks after hand (2) starts
+  line 11, link 3 4 after
+    exposure (4) starts after glass down (3) ends, which lasts 2 ticks
+Added up, 10 ticks are needed where 9 are allowed, with open steps at their least.
+"""),
+    ([], LEASTS + LINKS + "link 2 4 at-most 12\nlink 3 4 after\n", 1, """refused 11: for some list of durations no start times keep every link
+""" + CLASH + """  line 9, link 2 3 after
+    glass down (3) starts after hand (2) ends, which is open and lasts at least 8 ticks
+  line 10, link 2 4 at-most 12
+    exposure (4) starts at most 12 ticks after hand (2) starts
+  line 11, link 3 4 after
+    exposure (4) starts after glass down (3) ends, which lasts 2 ticks
+hand (2) is open and may last more than the 10 ticks that these limits leave.
+"""),
+    ([], LEASTS + LINKS.replace("2 3 after", "2 3 after gap 6 at-most-from-finish 5") + "link 3 4 after\n", 1,
+     """refused 10: with each open step at its least, no start times keep every link
+This record alone cannot be kept:
+  line 9, link 2 3 after gap 6 at-most-from-finish 5
+    glass down (3) starts at least 6 ticks after hand (2) ends, which is open and lasts at least 8 ticks
+    glass down (3) starts at most 5 ticks after hand (2) ends
+Added up, 6 ticks are needed where 5 are allowed.
+"""),
+    # a limit from the finish allows the least too: 8 + 5, and 14 are needed from the start of the hand
+    ([], LEASTS + LINKS.replace("2 3 after", "2 3 after at-least 14 at-most-from-finish 5") + "link 3 4 after\n", 1,
+     """refused 10: with each open step at its least, no start times keep every link
+This record alone cannot be kept:
+  line 9, link 2 3 after at-least 14 at-most-from-finish 5
+    glass down (3) starts at least 14 ticks after hand (2) starts
+    glass down (3) starts at most 5 ticks after hand (2) ends
+Added up, 14 ticks are needed where 13 are allowed, with open steps at their least.
+"""),
+    ([], "step 0 open\nstep 1 open least 2\nstep 2 open least 3\nstep 3 fixed 0\nlink 1 2 after\nlink 1 3 at-most 9\nlink 2 3 after gap 1\n", 1,
+     """refused 11: for some list of durations no start times keep every link
+""" + CLASH + """  line 5, link 1 2 after
+    step 2 starts after step 1 ends, which is open and lasts at least 2 ticks
+  line 6, link 1 3 at-most 9
+    step 3 starts at most 9 ticks after step 1 starts
+  line 7, link 2 3 after gap 1
+    step 3 starts at least 1 tick after step 2 ends, which is open and lasts at least 3 ticks
+step 1 and step 2 are open and together may last more than the 8 ticks that these limits leave.
+"""),
+    ([], "step 0 open\nstep 1 open least 1\nstep 2 open least 0\nlink 0 1 after\nlink 1 2 after\nlink 2 1 after\n", 1, """refused 8: forward links close a circle
+The circle: step 1, then step 2, then step 1. Its links:
+  line 5, link 1 2 after
+    step 2 starts after step 1 ends, which is open and lasts at least 1 tick
+  line 6, link 2 1 after
+    step 1 starts after step 2 ends, which is open
+"""),
+    # a plan with leasts: offsets count from the end; open steps that are not named last their least
+    (["right hand=9"], "step 0 open\nstep 1 open least 4 # left hand\nstep 2 open least 6 # right hand\nstep 3 fixed 2 # left clamp\nstep 4 fixed 1 # right clamp\n"
+     "link 1 3 after\nlink 2 4 after gap 1\nlink 3 4 at-most 5\n", 0,
+     """verdict 1     sound with waits: it can be kept whatever time its open steps take, from their least on, if steps wait as listed
+waits 1
+wait 2 3      left clamp (3) waits for the end of right hand (2)
+                for line 8, link 3 4 at-most 5: right clamp (4) starts at most 5 ticks after left clamp (3) starts
+              left hand (1) lasts at least 4 ticks and right hand (2) lasts at least 6 ticks
+              left hand (1) and right hand (2) hang from the start: no after or at-least link leads into them
+start 0 0 0   step 0 starts at tick 0
+start 1 0 0   left hand (1) starts at tick 0
+start 2 0 0   right hand (2) starts at tick 0
+start 3 1 0   left clamp (3) starts when left hand (1) ends,
+start 3 2 0     or when right hand (2) ends, whichever is later
+start 4 2 1   right clamp (4) starts 1 tick after right hand (2) ends
+
+Where left hand (1) lasts 4 ticks and right hand (2) lasts 9 ticks:
+  step 0 starts at tick 0
+  left hand (1) starts at tick 0 and ends at 4
+  right hand (2) starts at tick 0 and ends at 9
+  left clamp (3) starts at tick 9 and ends at 11
+  right clamp (4) starts at tick 10 and ends at 11
+"""),
+    # entries below a least
+    (["hand=7", "exposure=1"], LEASTS + LINKS + "link 3 4 after at-most 2\n", 1,
+     """refused 13: a duration is above 16,777,215 or below its step's least duration, or is not 0 and belongs to step 0 or to a fixed step
+hand (2) is open and lasts at least 8 ticks: its entry can be 8 to 16777215, and is 7.
+exposure (4) lasts 1 tick, as the sheet says: its entry can only be 0, and is 1.
+"""),
     # entries of a list
     (["0=1", "hand=16777216", "3=4294967296", "exposure=0"], STEPS + LINKS + "link 3 4 after at-most 2\n", 1,
-     """refused 13: a duration is above 16,777,215, or is not 0 and belongs to step 0 or to a fixed step
+     """refused 13: a duration is above 16,777,215 or below its step's least duration, or is not 0 and belongs to step 0 or to a fixed step
 start (0) is the start and has ended at tick 0: its entry can only be 0, and is 1.
 hand (2) is open: its entry can be at most 16777215, and is 16777216.
 glass down (3) lasts 2 ticks, as the sheet says: its entry can only be 0, and is 4294967296.

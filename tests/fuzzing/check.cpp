@@ -95,6 +95,8 @@ template <class Element> const Element *address(const std::vector<Element> &elem
 
 uint32_t *numbers_at(Lent &lent) { return reinterpret_cast<uint32_t *>(lent.lent()); }
 uint64_t *words_at(Lent &lent) { return reinterpret_cast<uint64_t *>(lent.lent()); }
+uint16_t *leasts_at(Lent &lent) { return reinterpret_cast<uint16_t *>(lent.lent()); }
+size_t *size_at(Lent &lent) { return reinterpret_cast<size_t *>(lent.lent()); }
 
 template <class Element> void lend(Lent &lent, const std::vector<Element> &elements) { lent.lend(elements.data(), elements.size() * sizeof(Element)); }
 
@@ -114,7 +116,7 @@ void need_verdict(uint32_t got, uint32_t expected) {
 }
 
 // The rule of the interface: a refusal changes nothing, an answer nothing past its end.
-void need_rule(uint32_t verdict, const Numbers &before, const Numbers &afterwards, size_t answer) {
+template <class Number> void need_rule(uint32_t verdict, const std::vector<Number> &before, const std::vector<Number> &afterwards, size_t answer) {
     size_t from = verdict < 256 ? answer : 0;
     need(std::equal(before.begin() + long(std::min(from, before.size())), before.end(), afterwards.begin() + long(std::min(from, before.size()))), "the second planner wrote outside its answer");
 }
@@ -172,6 +174,8 @@ void Examiner::sheet(const Bytes &bytes, Random &random) {
         met.largest += largest;
         met.loose += loose;
         met.large_loose += largest && loose;
+        met.leasts += has_leasts(bytes);
+        met.large_leasts += largest && has_leasts(bytes);
         met.longest = std::max(met.longest, length);
     }
 
@@ -221,6 +225,7 @@ void Examiner::sheet(const Bytes &bytes, Random &random) {
         Numbers list = draw_list(random, bytes), before = draw_numbers(random, draw_length(random, n, longest_list)), out = before;
         uint32_t expected = second_starts(at, length, allow, address(list), list.size(), address(out), out.size());
         need_rule(expected, before, out, n);
+        met.below_least += expected == 256 + 13 && only_below_least(bytes, list);
         each_side(
             starts, "starts", expected,
             [&](Side &side) {
@@ -234,6 +239,33 @@ void Examiner::sheet(const Bytes &bytes, Random &random) {
             },
             [&] { return std::string("waits ") + (allow ? "allowed" : "not allowed") + ", list " + list_of(list.data(), list.size()) + ", out of " + std::to_string(before.size()) + "\n  expected " + list_of(out.data(), out.size()); });
     }
+
+    {
+        Leasts before(draw_length(random, n, longest_leasts)), leasts;
+        for (uint16_t &least : before) least = uint16_t(random.next());
+        leasts = before;
+        const size_t n_before = size_t(random.next());
+        const uint64_t open_before = random.next();
+        size_t steps_n = n_before;
+        uint64_t open = open_before;
+        uint32_t expected = second_steps(at, length, &steps_n, &open, address(leasts), leasts.size());
+        need_rule(expected, before, leasts, n);
+        need(expected < 256 ? steps_n == n && open & 1 : steps_n == n_before && open == open_before, "the second planner's step count or open map is out of place");
+        each_side(
+            steps, "steps", expected,
+            [&](Side &side) {
+                side.n.lend(&n_before, sizeof n_before);
+                side.open.lend(&open_before, sizeof open_before);
+                lend(side.leasts, before);
+                return calls.steps(side.sheet.lent(), length, size_at(side.n), words_at(side.open), leasts_at(side.leasts), before.size());
+            },
+            [&](Side &side) {
+                need_lent(side.n, &steps_n, "step count");
+                need_lent(side.open, &open, "open map");
+                need_lent(side.leasts, leasts.data(), "leasts");
+            },
+            [&] { return "leasts of " + std::to_string(before.size()) + "\n  expected " + list_of(leasts.data(), leasts.size()); });
+    }
 }
 
 // A run as the second runner has it, and on each side as the library has it.
@@ -242,6 +274,7 @@ class Examiner::Run {
     Random &random;
     Numbers table;
     size_t table_len = 0;
+    Leasts leasts; // as lent to the last begin
 
     void look_at_tables() {
         for (Side &side : examiner.sides) need_lent(side.table, table.data(), "table");
@@ -252,10 +285,11 @@ class Examiner::Run {
         need_lent(side.tick, &state.tick, "tick");
         need_lent(side.start, state.start, "start ticks");
         need_lent(side.finish, state.finish, "finish ticks");
+        need_lent(side.least, state.least, "least durations");
     }
 
     std::string tell(const standplan_run &before) const {
-        return "words " + list_of(before.words, 4) + "\n  tick " + std::to_string(before.tick) + "\n  start " + list_of(before.start, 64) + "\n  finish " + list_of(before.finish, 64) + "\n  table of " + std::to_string(table_len) + ": " +
+        return "words " + list_of(before.words, 4) + "\n  tick " + std::to_string(before.tick) + "\n  start " + list_of(before.start, 64) + "\n  finish " + list_of(before.finish, 64) + "\n  least " + list_of(before.least, 64) + "\n  table of " + std::to_string(table_len) + ": " +
                list_of(table.data(), table_len);
     }
 
@@ -270,7 +304,7 @@ class Examiner::Run {
         for (Side &side : examiner.sides) {
             try {
                 side.map.lend(&map_before, sizeof map_before);
-                need_verdict(guarded([&] { return ours(side, words_at(side.words), numbers_at(side.tick), numbers_at(side.start), numbers_at(side.finish), words_at(side.map)); }), expected);
+                need_verdict(guarded([&] { return ours(side, words_at(side.words), numbers_at(side.tick), numbers_at(side.start), numbers_at(side.finish), leasts_at(side.least), words_at(side.map)); }), expected);
                 need_lent(side.map, &map, "map");
                 look_at_state(side);
             } catch (Failure &failure) {
@@ -296,6 +330,7 @@ public:
             side.tick.lend(&state.tick, sizeof state.tick);
             side.start.lend(state.start, sizeof state.start);
             side.finish.lend(state.finish, sizeof state.finish);
+            side.least.lend(state.least, sizeof state.least);
         }
     }
 
@@ -306,19 +341,24 @@ public:
         for (Side &side : examiner.sides) side.table.lend(table.data(), length * sizeof(uint32_t));
     }
 
-    uint32_t begin(size_t n, uint64_t open) {
-        return call(
-            ::begin, "begin " + std::to_string(n) + " " + std::to_string(open), [&] { return second_begin(state.words, &state.tick, state.start, state.finish, &map, n, open, address(table), table_len); },
-            [&](Side &side, auto... lent) { return examiner.calls.begin(lent..., n, open, numbers_at(side.table), table_len); });
+    uint32_t begin(size_t n, uint64_t open, const Leasts &lent_leasts) {
+        leasts = lent_leasts;
+        for (Side &side : examiner.sides) lend(side.leasts, leasts);
+        const uint32_t verdict = call(
+            ::begin, "begin " + std::to_string(n) + " " + std::to_string(open) + ", leasts " + list_of(leasts.data(), leasts.size()),
+            [&] { return second_begin(state.words, &state.tick, state.start, state.finish, state.least, &map, n, open, address(leasts), leasts.size(), address(table), table_len); },
+            [&](Side &side, auto... lent) { return examiner.calls.begin(lent..., n, open, leasts_at(side.leasts), leasts.size(), numbers_at(side.table), table_len); });
+        for (Side &side : examiner.sides) need_lent(side.leasts, leasts.data(), "leasts");
+        return verdict;
     }
     uint32_t tick() {
         return call(
-            ::tick, "tick", [&] { return second_tick(state.words, &state.tick, state.start, state.finish, &map, address(table), table_len); },
+            ::tick, "tick", [&] { return second_tick(state.words, &state.tick, state.start, state.finish, state.least, &map, address(table), table_len); },
             [&](Side &side, auto... lent) { return examiner.calls.tick(lent..., numbers_at(side.table), table_len); });
     }
     uint32_t finish(size_t s) {
         return call(
-            ::finish, "finish " + std::to_string(s), [&] { return second_finish(state.words, &state.tick, state.start, state.finish, &map, s, address(table), table_len); },
+            ::finish, "finish " + std::to_string(s), [&] { return second_finish(state.words, &state.tick, state.start, state.finish, state.least, &map, s, address(table), table_len); },
             [&](Side &side, auto... lent) { return examiner.calls.finish(lent..., s, numbers_at(side.table), table_len); });
     }
 
@@ -371,21 +411,27 @@ standplan_run any_state(Random &random, size_t n) {
     state.tick = random.chance(10) ? 4294967295u - random.below(3) : random.chance(70) ? number() : uint32_t(random.next());
     for (uint32_t &tick : state.start) tick = wild ? uint32_t(random.next()) : number();
     for (uint32_t &tick : state.finish) tick = wild ? uint32_t(random.next()) : number();
+    const Leasts leasts = draw_leasts(random, 64);
+    std::copy(leasts.begin(), leasts.end(), state.least);
     return state;
 }
 
 } // namespace
 
-// A run of an accepted sheet's plan. Steps finish when it pleases; some calls between are wrong. In the end every step has started exactly if
-// its start for the durations that happened has come, and at that tick.
+// A run of an accepted sheet's plan, begun with what the library says of the sheet. Steps finish when it pleases, from their leasts on; some calls between are wrong,
+// some finishes too early. In the end every step has started exactly if its start for the durations that happened has come, and at that tick.
 void Examiner::proper_run(Random &random) {
-    constexpr uint32_t longest = 16777215;
+    constexpr uint32_t longest = longest_duration;
     const bool short_run = random.chance(70);
     Numbers plan;
     const Bytes sheet = accepted_sheet(random, short_run, calls.plan, plan);
     const Current current(sheet);
     const size_t n = sheet[0];
-    const uint64_t open = open_steps(sheet) & ~uint64_t(1);
+    size_t steps_n = 0;
+    uint64_t open = 0;
+    Leasts leasts = draw_leasts(random, n + (random.chance(20) ? random.below(65) : 0));
+    if (calls.steps(sheet.data(), sheet.size(), &steps_n, &open, leasts.data(), leasts.size()) != 0 || steps_n != n) throw Failure{"steps: not those of a sheet that the second planner accepts\n  sheet " + hex(sheet.data(), sheet.size())};
+    open &= ~uint64_t(1);
     const uint64_t all = ~uint64_t(0) >> (64 - n);
     if (random.chance(20)) {
         Numbers more = draw_numbers(random, random.below(64));
@@ -394,27 +440,39 @@ void Examiner::proper_run(Random &random) {
     Run run(*this, random, plan);
     const standplan_run &state = run.state;
 
-    // The starts for the durations that happened; an open step that has not finished lasts `more` longer, or `more` in all.
+    // The starts for the durations that happened; an open step that has not finished lasts `more` longer, or `more` in all, but no less than its least.
     auto starts_now = [&](auto more, Numbers &starts) {
         Numbers list(n, 0);
         starts.assign(n, 0);
         for (size_t a = 1; a < n; a++) {
             if (!has(open, a)) continue;
-            uint64_t lasted = has(state.words[3], a) ? state.finish[a] - state.start[a] : has(state.words[2], a) ? uint64_t(state.tick - state.start[a]) + more() : more();
+            uint64_t lasted = has(state.words[3], a) ? state.finish[a] - state.start[a] : std::max<uint64_t>(leasts[a], has(state.words[2], a) ? uint64_t(state.tick - state.start[a]) + more() : more());
             list[a] = uint32_t(std::min<uint64_t>(lasted, longest));
         }
         return second_starts(sheet.data(), sheet.size(), true, list.data(), n, starts.data(), n) < 256;
     };
 
     try {
-        run.begin(n, (open | (random.chance(50) ? 1 : 0)) | (n < 64 && random.chance(20) ? random.next() << n : 0));
-        const uint32_t finishes = random.from(5, 60);
+        if (random.chance(10)) run.begin(n, open, Leasts(leasts.begin(), leasts.begin() + long(random.chance(50) ? n - 1 : random.below(uint32_t(n))))); // too short
+        run.begin(n, (open | (random.chance(50) ? 1 : 0)) | (n < 64 && random.chance(20) ? random.next() << n : 0), leasts);
+        const uint32_t finishes = random.from(5, 60), too_early = random.chance(50) ? 0 : random.from(5, 50);
         for (uint32_t turns = random.from(10, 250); turns > 0 && state.tick < longest / 2; turns--) {
             const uint64_t busy = open & state.words[2] & ~state.words[3];
             if ((state.words[2] & all) == all && busy == 0) break;
+            uint64_t early = 0, just_now = 0; // those of them below their least, and at it
+            for (size_t a = 1; a < n; a++) {
+                const uint64_t ripe = uint64_t(state.start[a]) + leasts[a];
+                if (has(busy, a) && ripe > state.tick) early |= uint64_t(1) << a;
+                if (has(busy, a) && leasts[a] > 0 && ripe == state.tick) just_now |= uint64_t(1) << a;
+            }
+            auto finish_one_of = [&](uint64_t steps) {
+                size_t s = random.below(64);
+                while (!has(steps, s)) s = (s + 1) % 64;
+                met.just_long += run.finish(s) == 0 && has(just_now, s);
+            };
             if (random.chance(4)) { // a call out of place
                 switch (random.below(3)) {
-                case 0: run.begin(random.chance(50) ? n : any_step(random), random.next()); break;
+                case 0: run.begin(random.chance(50) ? n : any_step(random), random.next(), draw_leasts(random, draw_length(random, n, longest_leasts))); break;
                 case 1: run.finish(any_step(random)); break;
                 default:
                     run.end();
@@ -424,16 +482,19 @@ void Examiner::proper_run(Random &random) {
                     run.end();
                     run.lend_table(plan, plan.size());
                 }
-            } else if (busy && random.chance(finishes)) {
-                size_t s = random.below(64);
-                while (!has(busy, s)) s = (s + 1) % 64;
-                run.finish(s);
-            } else if (!short_run && random.chance(30)) { // nothing starts before the next planned tick: the clock is set to just before it
+            } else if (early && random.chance(too_early)) {
+                finish_one_of(early);
+            } else if (just_now && random.chance(40)) {
+                finish_one_of(just_now);
+            } else if (busy & ~early && random.chance(finishes)) {
+                finish_one_of(busy & ~early);
+            } else if (!short_run && random.chance(30)) { // nothing starts before the next planned tick: the clock is set to just before it, or before a step has lasted its least
                 Numbers planned;
                 if (!starts_now([] { return longest; }, planned)) break;
                 uint32_t next = longest;
                 for (size_t v = 0; v < n; v++)
                     if (!has(state.words[2], v)) next = std::min(next, planned[v]);
+                    else if (has(early, v)) next = std::min(next, state.start[v] + leasts[v]);
                 if (next < longest && next - 1 > state.tick) {
                     run.state.tick = next - 1;
                     run.lend_state();
@@ -445,6 +506,7 @@ void Examiner::proper_run(Random &random) {
         }
         run.end();
         met.proper_runs++;
+        met.least_runs += has_leasts(sheet);
         if ((state.words[2] & all) == all && (open & ~state.words[3]) == 0) met.ended_runs++;
 
         Numbers planned;
@@ -479,7 +541,7 @@ void Examiner::any_run(Random &random) {
     }
     for (uint32_t turns = random.from(1, 40); turns > 0; turns--) {
         uint32_t kind = random.below(100);
-        if (kind < 12) run.begin(random.chance(70) ? n : any_step(random), random.next() | random.next());
+        if (kind < 12) run.begin(random.chance(70) ? n : any_step(random), random.next() | random.next(), draw_leasts(random, random.chance(70) ? n : draw_length(random, n, longest_leasts)));
         else if (kind < 52) run.tick();
         else if (kind < 90) run.finish(random.chance(80) ? random.below(uint32_t(n) + 1) : any_step(random));
         else if (kind < 94) {
@@ -490,11 +552,22 @@ void Examiner::any_run(Random &random) {
             }
             run.lend_table(table, length());
         } else {
-            switch (random.below(5)) {
+            switch (random.below(7)) {
             case 0: run.state = any_state(random, n); break;
             case 1: run.state = {}; break;
             case 2: run.state.tick = 4294967295u - random.below(3); break;
             case 3: run.state.words[random.below(4)] ^= uint64_t(1) << random.below(64); break;
+            case 4: run.state.least[random.below(64)] = uint16_t(random.chance(50) ? 65535 : random.next()); break;
+            case 5: { // a step that runs is about to have lasted its least, or has just
+                const size_t s = random.below(uint32_t(n));
+                for (size_t k : {1, 2}) run.state.words[k] |= uint64_t(1) << s;
+                run.state.words[3] &= ~(uint64_t(1) << s);
+                const uint64_t ripe = uint64_t(run.state.start[s]) + run.state.least[s] + random.below(3);
+                run.state.tick = uint32_t(std::min<uint64_t>(ripe > 0 ? ripe - 1 : 0, 4294967295u));
+                run.lend_state();
+                run.finish(s);
+                break;
+            }
             default: run.state.words[random.below(4)] = random.chance(50) ? random.below(70) : random.next();
             }
             run.lend_state();

@@ -15,6 +15,7 @@ struct Calls {
     decltype(&standplan_waits) waits = standplan_waits;
     decltype(&standplan_plan) plan = standplan_plan;
     decltype(&standplan_starts) starts = standplan_starts;
+    decltype(&standplan_steps) steps = standplan_steps;
     decltype(&standplan_begin) begin = standplan_begin;
     decltype(&standplan_tick) tick = standplan_tick;
     decltype(&standplan_finish) finish = standplan_finish;
@@ -25,7 +26,7 @@ struct Failure {
     std::string what;
 };
 
-enum Call { judge, waits, plan, starts, begin, tick, finish, call_count };
+enum Call { judge, waits, plan, starts, steps, begin, tick, finish, call_count };
 
 // What was met.
 struct Met {
@@ -33,9 +34,14 @@ struct Met {
     uint64_t largest = 0;      // accepted sheets with N = 64 and R = 512
     uint64_t loose = 0;        // accepted sheets with steps that follow nothing
     uint64_t large_loose = 0;  // those that are both
+    uint64_t leasts = 0;       // accepted sheets with leasts above 0
+    uint64_t large_leasts = 0; // those with N = 64 and R = 512
+    uint64_t below_least = 0;  // lists refused by entries below their leasts alone
     size_t longest = 0;        // bytes of an accepted sheet
     uint32_t heaviest = 0;     // the largest offset of a plan
     uint64_t proper_runs = 0;  // runs of an accepted sheet's plan
+    uint64_t least_runs = 0;   // those of a sheet with leasts above 0
+    uint64_t just_long = 0;    // steps of theirs that finished at exactly their least above 0
     uint64_t ended_runs = 0;   // those in which every step started and every open one finished
     uint64_t started = 0;      // steps whose start was compared with the second planner's
     uint64_t fullest = 0;      // most calls in one run
@@ -48,8 +54,8 @@ void case_begins(uint64_t seed, const char *kind, uint64_t number);
 class Examiner {
     struct Side {
         Guard guard;
-        Lent sheet{guard, Lent::pages_for(longest_input)}, table{guard, Lent::pages_for(longest_table * sizeof(uint32_t))}, list{guard, 1}, out{guard, 1}, maps{guard, 1}, count{guard, 1};
-        Lent words{guard, 1}, tick{guard, 1}, start{guard, 1}, finish{guard, 1}, map{guard, 1};
+        Lent sheet{guard, Lent::pages_for(longest_input)}, table{guard, Lent::pages_for(longest_table * sizeof(uint32_t))}, list{guard, 1}, out{guard, 1}, maps{guard, 1}, count{guard, 1}, leasts{guard, 1}, n{guard, 1}, open{guard, 1};
+        Lent words{guard, 1}, tick{guard, 1}, start{guard, 1}, finish{guard, 1}, least{guard, 1}, map{guard, 1};
     };
     class Run;
 
@@ -64,7 +70,7 @@ public:
 
     explicit Examiner(const Calls &calls = {}) : calls(calls) {}
 
-    // Judges, lists the waits of, plans and works out starts of one input, on both sides of a guard page.
+    // Judges, lists the waits of, plans, works out starts of and says what begins a run of one input, on both sides of a guard page.
     void sheet(const Bytes &bytes, Random &random);
 
     // One run: of an accepted sheet's plan, or of states and tables from anywhere.

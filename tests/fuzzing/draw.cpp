@@ -13,8 +13,10 @@ enum : uint8_t { after = 1, at_least = 2, at_most = 4, with_gap = 8, from_finish
 
 struct Step {
     bool open = false;
-    bool field = false; // whether a duration is written; else it is 0
-    uint16_t duration = 0;
+    bool field = false; // whether a duration is written, of an open step the least one; else it is 0
+    uint16_t duration = 0; // of an open step the least one
+
+    uint8_t map() const { return uint8_t((open ? 1 : 0) | (!field ? 0 : open ? 4 : 2)); }
 };
 
 struct Link {
@@ -25,6 +27,8 @@ struct Link {
 struct Sheet {
     std::vector<Step> steps;
     std::map<std::pair<uint8_t, uint8_t>, Link> links;
+    size_t odd_step = most_steps; // a step that gets another map than its own, with a field for each bit that has one
+    uint8_t odd_map = 0;
 
     Bytes bytes() const {
         Bytes out{uint8_t(steps.size()), uint8_t(links.size()), uint8_t(links.size() >> 8)};
@@ -32,9 +36,10 @@ struct Sheet {
             out.push_back(uint8_t(number));
             out.push_back(uint8_t(number >> 8));
         };
-        for (const Step &step : steps) {
-            out.push_back(step.open ? 1 : step.field ? 2 : 0);
-            if (!step.open && step.field) two(step.duration);
+        for (size_t v = 0; v < steps.size(); v++) {
+            const uint8_t map = v == odd_step ? odd_map : steps[v].map();
+            out.push_back(map);
+            for (int fields = __builtin_popcount(map & step_field_bits); fields > 0; fields--) two(steps[v].duration);
         }
         for (const auto &[pair, link] : links) {
             out.insert(out.end(), {link.map, pair.first, pair.second});
@@ -56,10 +61,13 @@ struct Aim {
     uint32_t gaps;       // of a hundred after links, those with a gap
     uint32_t widest;     // gaps
     uint32_t open;       // how many of a hundred steps are open
+    uint32_t leasts;     // of a hundred open steps, those with a least duration
+    uint32_t longest;    // leasts
     uint32_t contained;  // of a hundred limits, those on pairs where the start set of j is in that of i
     uint32_t waiting;    // of a hundred of the others, those on pairs where a wait of i for the rest of that set closes no circle
     uint32_t too_tight;  // of a hundred limits, those that the drawn start times break
     uint32_t too_wide;   // of a hundred sheets, those in which one gap is wider than the drawn start times leave it
+    uint32_t too_long;   // of a hundred sheets, those in which one least is longer than they leave it
     uint32_t finish;     // of a hundred limits, those from the finish
     uint32_t circle;     // of a hundred sheets, those with a forward link against the order
     uint32_t into_start; // of a hundred sheets, those with a forward link into step 0
@@ -95,10 +103,13 @@ Aim draw_aim(Random &random) {
     aim.gaps = any_of(random, {0, 0, 30, 70, 100});
     aim.widest = any_of(random, {0, 1, 6, aim.heaviest, aim.heaviest, heaviest_field});
     aim.open = any_of(random, {0, 15, 15, 35, 35, 60, 100});
+    aim.leasts = any_of(random, {0, 0, 40, 100});
+    aim.longest = any_of(random, {1, 8, aim.heaviest, aim.heaviest, aim.heaviest, heaviest_field});
     aim.contained = any_of(random, {100, 100, 60, 0, 0, 0});
     aim.waiting = any_of(random, {100, 100, 95, 0, 0});
     aim.too_tight = any_of(random, {0, 0, 0, 0, 10, 40});
     aim.too_wide = any_of(random, {0, 0, 0, 50});
+    aim.too_long = any_of(random, {0, 0, 0, 50});
     aim.finish = any_of(random, {0, 0, 30, 70, 100});
     aim.circle = any_of(random, {0, 0, 0, 0, 50});
     aim.into_start = any_of(random, {0, 0, 0, 0, 0, 0, 20});
@@ -109,7 +120,7 @@ Aim draw_aim(Random &random) {
     aim.afters = aim.full = false;
     if (random.chance(1)) { // the heaviest walks that there are
         aim.steps = most_steps;
-        aim.heaviest = aim.widest = heaviest_field;
+        aim.heaviest = aim.widest = aim.longest = heaviest_field;
         aim.gaps = any_of(random, {100, 100, 0});
         aim.open = any_of(random, {0, 5});
         aim.loose = 0;
@@ -136,12 +147,19 @@ void put_gap(Link &link, uint32_t gap) {
 
 // Every field in every record. What is added asks for little.
 void fill(Sheet &sheet) {
-    for (Step &step : sheet.steps) step.field = true;
+    for (Step &step : sheet.steps)
+        if (!step.open) step.field = true;
     for (auto &[pair, link] : sheet.links) {
         if (!(link.map & at_most)) link.most = heaviest_field;
         if (!(link.map & from_finish)) link.finish = heaviest_field;
         link.map = all_fields;
     }
+}
+
+// A least duration: often the longest, or one that sheets often have.
+uint16_t draw_least(Random &random, const Aim &aim) {
+    if (aim.extremes || random.chance(15)) return uint16_t(aim.longest);
+    return uint16_t(random.chance(40) ? std::min(aim.longest, any_of(random, {0, 1, 1, 8})) : random.below(aim.longest + 1));
 }
 
 Sheet draw_sheet(Random &random, const Aim &aim) {
@@ -154,8 +172,8 @@ Sheet draw_sheet(Random &random, const Aim &aim) {
     for (uint32_t v = 1; v < n; v++) {
         Step &step = sheet.steps[v];
         step.open = random.chance(aim.open);
-        step.field = aim.extremes || random.chance(90);
-        if (!step.open && step.field) step.duration = weight();
+        step.field = step.open ? random.chance(aim.leasts) : aim.extremes || random.chance(90);
+        if (step.field) step.duration = step.open ? draw_least(random, aim) : weight();
     }
 
     // Forward links run along an order of the steps, step 0 first.
@@ -190,7 +208,7 @@ Sheet draw_sheet(Random &random, const Aim &aim) {
         if (!is_loose(order[to])) link_forward(order[random.below(to)], order[to]);
     }
 
-    // Start times that keep them with all open durations 0, some later than they need to be; the start sets; and which steps each leads to.
+    // Start times that keep them with each open step at its least, some later than they need to be; the start sets; and which steps each leads to.
     // What no forward link enters comes after step 0.
     std::vector<uint32_t> time(n, 0), place(n);
     std::vector<uint64_t> set(n, 1), leads(n);
@@ -210,7 +228,7 @@ Sheet draw_sheet(Random &random, const Aim &aim) {
         place[v] = k;
         for (auto [i, link] : into[v]) {
             uint32_t least = time[i];
-            if (link->map & after) least += link->gap + (sheet.steps[i].open ? 0 : sheet.steps[i].duration);
+            if (link->map & after) least += link->gap + sheet.steps[i].duration;
             if (link->map & at_least) least = std::max(least, time[i] + link->least);
             time[v] = std::max(time[v], least);
             set[v] |= set[i];
@@ -246,7 +264,7 @@ Sheet draw_sheet(Random &random, const Aim &aim) {
             }
             uint64_t missing = needed_set & ~allowed;
             if (contained ? missing != 0 : waiting && (missing == 0 || (leads[i] & missing))) continue;
-            uint32_t end = time[i] + (finish && !sheet.steps[i].open ? sheet.steps[i].duration : 0);
+            uint32_t end = time[i] + (finish ? sheet.steps[i].duration : 0);
             uint32_t needed = time[j] > end ? time[j] - end : 0;
             if (needed > heaviest_field) continue;
             uint32_t limit = tight ? needed - std::min(needed, 1 + random.below(3)) : limited(needed + random.below(slack + 1));
@@ -268,6 +286,10 @@ Sheet draw_sheet(Random &random, const Aim &aim) {
         Link &link = any_link(random, sheet);
         if (link.map & after) put_gap(link, limited(link.gap + random.from(1, 3)));
     }
+    if (random.chance(aim.too_long) && n > 1) {
+        Step &step = sheet.steps[random.from(1, n - 1)];
+        if (step.open && step.field) step.duration = uint16_t(limited(step.duration + random.from(1, 3)));
+    }
 
     if (random.chance(aim.circle) && n > 2) {
         uint32_t to = random.from(1, n - 2);
@@ -278,12 +300,13 @@ Sheet draw_sheet(Random &random, const Aim &aim) {
     return sheet;
 }
 
-// Five steps more. Hand b has to wait for hand a, and what it leads to comes soon after a: a tick of a gap decides between a wait and 28, or 10.
+// Five steps more. Hand b has to wait for hand a, and what it leads to comes soon after a: a tick of a gap decides between a wait and 28, or 10, or one of the least of b.
 void add_crossed_hands(Random &random, Sheet &sheet) {
     if (sheet.steps.size() + 5 > most_steps || sheet.links.size() + 7 > most_links) return;
     auto few = [&] { return uint16_t(random.below(10)); };
     auto add_step = [&](bool open) {
-        sheet.steps.push_back({open, true, open ? uint16_t(0) : few()});
+        const bool field = !open || random.chance(50);
+        sheet.steps.push_back({open, field, field ? few() : uint16_t(0)});
         return uint8_t(sheet.steps.size() - 1);
     };
     const uint8_t a = add_step(true), b = add_step(true), on_the_way = add_step(false), last = add_step(false), joint = add_step(false);
@@ -310,7 +333,7 @@ void add_crossed_hands(Random &random, Sheet &sheet) {
 
 // Bytes that are often met in a sheet.
 uint8_t usual_byte(Random &random) {
-    static const uint8_t usual[] = {0, 0, 0, 1, 1, 1, 1, 2, 2, 3, 3, 4, 5, 6, 7, 8, 9, 9, 10, 11, 12, 13, 14, 15, 16, 17, 18, 19, 20, 21, 22, 23, 24, 25, 27, 29, 31, 63, 64, 65, 255};
+    static const uint8_t usual[] = {0, 0, 0, 1, 1, 1, 1, 2, 2, 3, 3, 4, 5, 5, 6, 7, 8, 9, 9, 10, 11, 12, 13, 14, 15, 16, 17, 18, 19, 20, 21, 22, 23, 24, 25, 27, 29, 31, 63, 64, 65, 255};
     return random.chance(85) ? usual[random.below(sizeof usual)] : uint8_t(random.next());
 }
 
@@ -348,6 +371,12 @@ Bytes draw_input(Random &random) {
         uint32_t map = link.map, fields = 2 * random.below(4);
         link.map = uint8_t(any_of(random, {0, 8 | fields, 16 | fields, 16 | fields, 24 | fields, map & 254, map | 32u << random.below(3), 32u << random.below(3)}));
     }
+    if (kind >= 64 && kind < 66) { // a step map that is not allowed, all else whole: a least on step 0, without bit 0, beside bit 1, an unknown bit
+        sheet.odd_step = random.chance(40) ? 0 : random.below(uint32_t(sheet.steps.size()));
+        const uint32_t map = sheet.steps[sheet.odd_step].map();
+        sheet.odd_map = uint8_t(any_of(random, {3, 4, 4, 5, 5, 6, 7, 7, map | 4, map ^ 1, map | 8u << random.below(5), 5 | 8u << random.below(5)}));
+        if (random.chance(50)) sheet.steps[sheet.odd_step].duration = uint16_t(any_of(random, {1, 8, heaviest_field}));
+    }
     Bytes bytes = sheet.bytes();
     if (kind < 69) return bytes;
     if (kind < 84) {
@@ -377,30 +406,26 @@ Bytes draw_good_sheet(Random &random, bool short_run) {
     if (short_run) {
         aim.heaviest = random.from(1, 9);
         aim.widest = std::min(aim.widest, aim.heaviest);
+        aim.longest = std::min(aim.longest, random.from(1, 9));
     }
     aim.open = any_of(random, {20, 40, 60});
     aim.contained = any_of(random, {100, 100, 80, 0});
     aim.waiting = any_of(random, {100, 90});
-    aim.too_tight = aim.too_wide = aim.circle = aim.into_start = 0;
+    aim.too_tight = aim.too_wide = aim.too_long = aim.circle = aim.into_start = 0;
     aim.full = false;
     if (short_run) aim.extremes = false;
     return draw_sheet(random, aim).bytes();
 }
 
-uint64_t open_steps(const Bytes &sheet) {
-    uint64_t map = 0;
-    size_t at = 3;
-    for (uint32_t v = 0; v < sheet.at(0); v++) {
-        uint8_t kind = sheet.at(at);
-        if (kind == 1) map |= uint64_t(1) << v;
-        at += kind == 2 ? 3 : 1;
-    }
-    return map;
+std::vector<size_t> steps_of(const Bytes &sheet) {
+    std::vector<size_t> steps;
+    for (size_t at = 3; at < sheet.size() && steps.size() < sheet[0]; at += step_size(sheet[at])) steps.push_back(at);
+    return steps;
 }
 
 std::vector<size_t> records_of(const Bytes &sheet) {
-    size_t at = 3;
-    for (uint32_t v = 0; at < sheet.size() && v < sheet[0]; v++) at += sheet[at] == 2 ? 3 : 1;
+    const std::vector<size_t> steps = steps_of(sheet);
+    size_t at = steps.empty() ? 3 : steps.back() + step_size(sheet[steps.back()]);
     std::vector<size_t> records;
     for (; at < sheet.size(); at += 3 + 2 * size_t(__builtin_popcount(sheet[at] & field_bits))) records.push_back(at);
     return records;
@@ -413,21 +438,45 @@ uint64_t loose_steps(const Bytes &sheet) {
     return ~entered & ~uint64_t(0) >> (64 - sheet.at(0));
 }
 
+bool has_leasts(const Bytes &sheet) {
+    for (size_t at : steps_of(sheet))
+        if (sheet[at] == 5 && (sheet.at(at + 1) || sheet.at(at + 2))) return true;
+    return false;
+}
+
+bool only_below_least(const Bytes &sheet, const Numbers &list) {
+    const std::vector<size_t> steps = steps_of(sheet);
+    bool below = false;
+    for (size_t v = 0; v < std::min(steps.size(), list.size()); v++) {
+        const uint8_t *step = &sheet[steps[v]];
+        if (v == 0 || !(step[0] & 1) ? list[v] != 0 : list[v] > longest_duration) return false;
+        if (step[0] == 5 && list[v] < uint32_t(step[1] | step[2] << 8)) below = true;
+    }
+    return below;
+}
+
 Numbers draw_list(Random &random, const Bytes &sheet) {
-    constexpr uint32_t longest = 16777215;
+    constexpr uint32_t longest = longest_duration;
     size_t n = sheet.empty() || sheet[0] > 64 ? random.below(65) : sheet[0];
     Numbers list(draw_length(random, n, longest_list));
     uint32_t scale = any_of(random, {0, 5, 50, 1000, 65535, longest});
+    const bool at_leasts = random.chance(20), below = random.chance(12);
+    std::vector<std::pair<size_t, uint32_t>> with_least;
     // step records from the front, as far as they go
-    size_t at = 3;
+    const std::vector<size_t> steps = steps_of(sheet);
     for (size_t v = 0; v < list.size(); v++) {
-        bool open = false;
-        if (v < n && at < sheet.size()) {
-            open = sheet[at] == 1;
-            at += sheet[at] == 2 ? 3 : 1;
-        }
         if (v >= n) list[v] = uint32_t(random.next()); // past the list: means nothing
-        else if (v > 0 && open) list[v] = random.chance(5) ? longest : random.chance(10) ? 0 : random.below(scale + 1);
+        if (v == 0 || v >= std::min(n, steps.size()) || !(sheet[steps[v]] & 1)) continue;
+        const size_t at = steps[v];
+        const uint32_t least = sheet[at] == 5 && at + 2 < sheet.size() ? sheet[at + 1] | sheet[at + 2] << 8 : 0;
+        if (least) with_least.push_back({v, least});
+        list[v] = random.chance(5) ? longest : random.chance(10) ? 0 : random.below(scale + 1);
+        if (at_leasts || random.chance(10)) list[v] = least;
+        else if (list[v] < least) list[v] = random.chance(50) ? least : std::min(longest, least + list[v]);
+    }
+    if (below && !with_least.empty()) {
+        const auto [v, least] = with_least[random.below(uint32_t(with_least.size()))];
+        list[v] = random.chance(60) ? least - 1 : random.below(least);
     }
     if (random.chance(15) && !list.empty()) {
         uint32_t wrong = any_of(random, {1, longest, longest + 1, 4294967295u, uint32_t(random.next())});
@@ -456,6 +505,13 @@ Numbers draw_numbers(Random &random, size_t count) {
         if (k + 1 < count) numbers[k + 1] = uint32_t(two >> 32);
     }
     return numbers;
+}
+
+Leasts draw_leasts(Random &random, size_t count) {
+    Leasts leasts(count);
+    const uint32_t scale = any_of(random, {0, 3, 12, 65535});
+    for (uint16_t &least : leasts) least = uint16_t(random.chance(5) ? 65535 : random.below(scale + 1));
+    return leasts;
 }
 
 Numbers draw_table(Random &random, size_t n) {

@@ -31,14 +31,17 @@ public:
 
 using Bytes = std::vector<uint8_t>;
 using Numbers = std::vector<uint32_t>;
+using Leasts = std::vector<uint16_t>;
 
 constexpr size_t most_steps = 64, most_links = 512, longest_record = 11;
 constexpr size_t longest_sheet = 3 + 3 * most_steps - 2 + longest_record * most_links; // step 0 has no field
 constexpr size_t longest_input = longest_sheet + 1200;                                // sheets with bytes that follow
 constexpr uint8_t forward_bits = 3, field_bits = 30; // of a link map: after and at least; those with a field of two bytes
+constexpr uint8_t step_field_bits = 6;               // of a step map: those with a field of two bytes
 constexpr size_t longest_table = most_steps * most_steps + 64;
 constexpr size_t longest_list = most_steps + 64;
-constexpr uint32_t heaviest_field = 65535;
+constexpr size_t longest_leasts = most_steps + 64;
+constexpr uint32_t heaviest_field = 65535, longest_duration = 16777215;
 constexpr uint32_t largest_offset = heaviest_field + (most_steps - 2) * 2 * heaviest_field; // a gap after step 0, then a duration and a gap at each link
 
 // A sheet of any kind: whole, damaged, cut, with bytes that follow, or bytes from anywhere.
@@ -47,8 +50,17 @@ Bytes draw_input(Random &random);
 // A whole sheet that is likely to be accepted; of few ticks where short_run stands.
 Bytes draw_good_sheet(Random &random, bool short_run);
 
-// The map of the open steps of a sheet that is whole.
-uint64_t open_steps(const Bytes &sheet);
+// The bytes of a step record, by its map.
+inline size_t step_size(uint8_t map) { return 1 + 2 * size_t(__builtin_popcount(map & step_field_bits)); }
+
+// Where the step records of a sheet begin, as far as they go.
+std::vector<size_t> steps_of(const Bytes &sheet);
+
+// Whether a step of a whole sheet has a least duration above 0.
+bool has_leasts(const Bytes &sheet);
+
+// Whether a list of durations for a whole sheet is wrong by entries below their leasts alone.
+bool only_below_least(const Bytes &sheet, const Numbers &list);
 
 // The map of the steps of a whole sheet that no forward link enters, without step 0.
 uint64_t loose_steps(const Bytes &sheet);
@@ -56,7 +68,7 @@ uint64_t loose_steps(const Bytes &sheet);
 // Where the link records of a sheet begin.
 std::vector<size_t> records_of(const Bytes &sheet);
 
-// A list of durations for the sheet, mostly a good one; all of it from anywhere where the sheet is not whole.
+// A list of durations for the sheet, mostly a good one, entries at, above and now and then below their leasts; all of it from anywhere where the sheet is not whole.
 Numbers draw_list(Random &random, const Bytes &sheet);
 
 // How many numbers are lent for an answer of `answer` numbers: mostly enough, at most `most`.
@@ -64,6 +76,9 @@ size_t draw_length(Random &random, size_t answer, size_t most);
 
 // Numbers as they lie in lent memory before a call.
 Numbers draw_numbers(Random &random, size_t count);
+
+// Least durations from anywhere.
+Leasts draw_leasts(Random &random, size_t count);
 
 // A table of n by n numbers from anywhere.
 Numbers draw_table(Random &random, size_t n);

@@ -48,10 +48,27 @@ bool second_runs_as_told() {
     if (second_plan(sheet.data(), sheet.size(), true, plan.data(), plan.size()) != 0) return false;
     standplan_run run{};
     uint64_t map = 0;
-    auto tick = [&] { return second_tick(run.words, &run.tick, run.start, run.finish, &map, plan.data(), plan.size()); };
-    auto finish = [&] { return second_finish(run.words, &run.tick, run.start, run.finish, &map, 2, plan.data(), plan.size()); };
-    return second_begin(run.words, &run.tick, run.start, run.finish, &map, 5, 4, plan.data(), plan.size()) == 0 && map == 7 && finish() == 0 && map == 0 && tick() == 0 && map == 8 && tick() == 0 && map == 0 && tick() == 0 && map == 16 &&
+    const Leasts leasts(5, 0);
+    auto tick = [&] { return second_tick(run.words, &run.tick, run.start, run.finish, run.least, &map, plan.data(), plan.size()); };
+    auto finish = [&] { return second_finish(run.words, &run.tick, run.start, run.finish, run.least, &map, 2, plan.data(), plan.size()); };
+    return second_begin(run.words, &run.tick, run.start, run.finish, run.least, &map, 5, 4, leasts.data(), leasts.size(), plan.data(), plan.size()) == 0 && map == 7 && finish() == 0 && map == 0 && tick() == 0 && map == 8 && tick() == 0 && map == 0 && tick() == 0 && map == 16 &&
            finish() == 256 + 17 && map == 16; // a refusal leaves the map as it was
+}
+
+// A run of the stand sheet, its hand with a least of 8: it is refused 20 up to tick 7, ends at tick 8, and what hangs on it starts then.
+bool second_keeps_least() {
+    const Bytes sheet{5, 5, 0, 1, 2, 3, 0, 5, 8, 0, 2, 2, 0, 2, 1, 0, 1, 0, 1, 1, 0, 2, 1, 1, 4, 1, 2, 3, 5, 3, 4, 2, 0};
+    Numbers plan(25);
+    Leasts leasts(5);
+    size_t n = 0;
+    uint64_t open = 0, map = 0;
+    standplan_run run{};
+    if (second_plan(sheet.data(), sheet.size(), true, plan.data(), plan.size()) != 0 || second_steps(sheet.data(), sheet.size(), &n, &open, leasts.data(), leasts.size()) != 0) return false;
+    auto finish = [&] { return second_finish(run.words, &run.tick, run.start, run.finish, run.least, &map, 2, plan.data(), plan.size()); };
+    if (second_begin(run.words, &run.tick, run.start, run.finish, run.least, &map, n, open, leasts.data(), leasts.size(), plan.data(), plan.size()) != 0 || map != 7) return false;
+    for (int tick = 0; tick < 8; tick++)
+        if (finish() != 256 + 20 || second_tick(run.words, &run.tick, run.start, run.finish, run.least, &map, plan.data(), plan.size()) != 0 || map != 0) return false;
+    return finish() == 0 && map == 8 && run.finish[2] == 8;
 }
 
 // Each planted fault has to be noticed for what it is within so many cases, and none in the library as it is.
@@ -59,6 +76,10 @@ int self_test(uint64_t seed) {
     constexpr uint64_t cases = 2000;
     if (!second_runs_as_told()) {
         std::cout << "self-test: the second runner's run of the stand sheet is not document 01's\n";
+        return 1;
+    }
+    if (!second_keeps_least()) {
+        std::cout << "self-test: the second runner does not keep the least of 8\n";
         return 1;
     }
     // The number of the first failure, or as many as there are cases.
@@ -102,9 +123,10 @@ const struct {
     {"waits", {1, 2, 3, 4, 26, 5, 6, 7, 8, 10, 11, 28}, true},
     {"plan", {1, 2, 3, 4, 26, 5, 6, 7, 8, 10, 11, 28, 12, 14}, true},
     {"starts", {1, 2, 3, 4, 26, 5, 6, 7, 8, 10, 11, 28, 12, 13, 14}, true},
+    {"steps", {1, 2, 3, 4, 26, 5, 6, 7, 14}, false},
     {"begin", {16, 2, 14}, false},
     {"tick", {15, 14, 18}, false},
-    {"finish", {15, 14, 17}, false},
+    {"finish", {15, 14, 17, 20}, false},
 };
 
 // Prints what was met. Whether every verdict was met that a call can give, of those that have to be.
@@ -128,9 +150,11 @@ bool report(const Met &met, bool all_sheets, bool all_runs) {
         if (!line.empty()) std::cout << expected.name << ":" << line << "\n";
     }
     std::cout << "accepted sheets with N = 64 and R = 512: " << met.largest << ", with steps that follow nothing: " << met.loose << ", both: " << met.large_loose << "; the longest: " << met.longest << " bytes; the largest offset: " << met.heaviest << "\n";
-    std::cout << "runs of a plan: " << met.proper_runs << ", to their end: " << met.ended_runs << ", starts compared: " << met.started << "; most calls in one run: " << met.fullest << "\n";
+    std::cout << "accepted sheets with leasts: " << met.leasts << ", of these with N = 64 and R = 512: " << met.large_leasts << "; lists refused 13 only by entries below their leasts: " << met.below_least << "\n";
+    std::cout << "runs of a plan: " << met.proper_runs << ", with leasts: " << met.least_runs << ", steps of these that finished at exactly their least: " << met.just_long << "; to their end: " << met.ended_runs << ", starts compared: " << met.started << "; most calls in one run: " << met.fullest << "\n";
     if (all_sheets && (met.large_loose == 0 || met.longest != longest_sheet || met.heaviest != largest_offset)) all = false;
-    if (all_runs && met.ended_runs == 0) all = false;
+    if (all_sheets && (met.large_leasts == 0 || met.below_least == 0)) all = false;
+    if (all_runs && (met.ended_runs == 0 || met.least_runs == 0 || met.just_long == 0)) all = false;
     return all;
 }
 
@@ -157,7 +181,7 @@ int fuzz(const Options &options) {
     std::cout << "seed " << options.seed;
     if (options.parts > 1) std::cout << ", part " << options.part << " of " << options.parts;
     std::cout << ": " << tried[sheet_kind] << " sheets and " << tried[run_kind] << " runs, each with the guard pages past the end and before the start: ";
-    std::cout << (all ? "no difference" : "no difference, but not every verdict or not the largest answers were met");
+    std::cout << (all ? "no difference" : "no difference, but not every verdict, not the largest answers or nothing at a least was met");
     std::cout << ", " << int(seconds() + 0.5) << " s" << std::endl;
     return all ? 0 : 1;
 }

@@ -1,5 +1,7 @@
 #include "planted.hpp"
 
+#include <algorithm>
+
 namespace {
 
 // Kept by the compiler though nothing is done with it.
@@ -26,11 +28,30 @@ Bytes without_gaps(Bytes sheet) {
     return sheet;
 }
 
+Bytes without_leasts(Bytes sheet) {
+    for (size_t at : steps_of(sheet))
+        if (sheet[at] == 5) sheet[at + 1] = sheet[at + 2] = 0;
+    return sheet;
+}
+
+// The least duration of each step of a whole sheet.
+Numbers leasts_of(const Bytes &sheet) {
+    Numbers leasts;
+    for (size_t at : steps_of(sheet)) leasts.push_back(sheet[at] == 5 ? sheet[at + 1] | sheet[at + 2] << 8 : 0);
+    return leasts;
+}
+
 // Whether a record has a gap and a limit from the finish, and is no after link.
 bool gap_and_limit_alone(const Bytes &sheet) {
     for (size_t at : records_of(sheet))
         if ((sheet[at] & 0xf9) == 24) return true;
     return false;
+}
+
+// Whether a finish of step s is refused neither 15, 14 nor 17.
+bool can_finish(const uint64_t *words, size_t s, size_t table_len) {
+    if (!(words[2] & 1) || words[0] < 1 || words[0] > 64 || table_len < words[0] * words[0]) return false;
+    return s > 0 && s < words[0] && (words[1] & words[2] & ~words[3]) >> s & 1;
 }
 
 // The sheet without the records of forward links into step 0.
@@ -189,6 +210,86 @@ std::vector<Planted> planted_faults() {
                 return verdict == 256 + 13 && out_len < sheet[0] ? uint32_t(256 + 14) : verdict;
             };
         }),
+        in_sheets("a plan without the leasts", "other numbers in the table", [](Calls &calls) {
+            calls.plan = [](const uint8_t *sheet, size_t sheet_len, bool allow_waits, uint32_t *table, size_t table_len) {
+                const Bytes bare = without_leasts({sheet, sheet + sheet_len});
+                Numbers other(table, table + table_len);
+                other.resize(std::max<size_t>(table_len, 1));
+                const bool planned = standplan_plan(bare.data(), sheet_len, allow_waits, other.data(), table_len) < 256;
+                uint32_t verdict = standplan_plan(sheet, sheet_len, allow_waits, table, table_len);
+                if (verdict < 256 && planned) std::copy(other.begin(), other.begin() + long(table_len), table);
+                return verdict;
+            };
+        }),
+        in_sheets("offsets that add the least of their step", "other numbers in the table", [](Calls &calls) {
+            calls.plan = [](const uint8_t *sheet, size_t sheet_len, bool allow_waits, uint32_t *table, size_t table_len) {
+                uint32_t verdict = standplan_plan(sheet, sheet_len, allow_waits, table, table_len);
+                if (verdict >= 256) return verdict;
+                const Numbers leasts = leasts_of({sheet, sheet + sheet_len});
+                for (size_t k = 0; k < leasts.size() * leasts.size(); k++)
+                    if (table[k] != STANDPLAN_UNDECIDED) table[k] += leasts[k % leasts.size()];
+                return verdict;
+            };
+        }),
+        in_sheets("an entry below its least taken", ", expected 269", [](Calls &calls) {
+            calls.starts = [](const uint8_t *sheet, size_t sheet_len, bool allow_waits, const uint32_t *list, size_t list_len, uint32_t *out, size_t out_len) {
+                uint32_t verdict = standplan_starts(sheet, sheet_len, allow_waits, list, list_len, out, out_len);
+                const Bytes bytes(sheet, sheet + sheet_len);
+                Numbers other(list, list + list_len);
+                if (verdict != 256 + 13 || !only_below_least(bytes, other)) return verdict;
+                const Numbers leasts = leasts_of(bytes);
+                for (size_t v = 0; v < std::min(list_len, leasts.size()); v++) other[v] = std::max(other[v], leasts[v]);
+                return standplan_starts(sheet, sheet_len, allow_waits, other.data(), list_len, out, out_len);
+            };
+        }),
+        in_sheets("a list at its leasts refused", "verdict 269, expected", [](Calls &calls) {
+            calls.starts = [](const uint8_t *sheet, size_t sheet_len, bool allow_waits, const uint32_t *list, size_t list_len, uint32_t *out, size_t out_len) {
+                if (standplan_judge(sheet, sheet_len, allow_waits) < 256) {
+                    const Numbers leasts = leasts_of({sheet, sheet + sheet_len});
+                    for (size_t v = 0; v < std::min(list_len, leasts.size()); v++)
+                        if (leasts[v] > 0 && list[v] == leasts[v]) return uint32_t(256 + 13);
+                }
+                return standplan_starts(sheet, sheet_len, allow_waits, list, list_len, out, out_len);
+            };
+        }),
+        in_sheets("a least on step 0 taken", ", expected 260", [](Calls &calls) {
+            calls.judge = [](const uint8_t *sheet, size_t sheet_len, bool allow_waits) {
+                uint32_t verdict = standplan_judge(sheet, sheet_len, allow_waits);
+                if (verdict != 256 + 4 || sheet_len < 6 || sheet[3] != 5) return verdict;
+                Bytes rest(sheet, sheet + sheet_len);
+                rest.erase(rest.begin() + 4, rest.begin() + 6);
+                rest[3] = 1;
+                return standplan_judge(rest.data(), rest.size(), allow_waits);
+            };
+        }),
+        in_sheets("writes one number past the leasts", "signal 11", [](Calls &calls) {
+            calls.steps = [](const uint8_t *sheet, size_t sheet_len, size_t *n, uint64_t *open, uint16_t *leasts, size_t leasts_len) {
+                uint32_t verdict = standplan_steps(sheet, sheet_len, n, open, leasts, leasts_len);
+                if (verdict == 0) leasts[leasts_len] = 0;
+                return verdict;
+            };
+        }),
+        in_sheets("writes one number past the last step's least, in lent memory", "other numbers in the leasts", [](Calls &calls) {
+            calls.steps = [](const uint8_t *sheet, size_t sheet_len, size_t *n, uint64_t *open, uint16_t *leasts, size_t leasts_len) {
+                uint32_t verdict = standplan_steps(sheet, sheet_len, n, open, leasts, leasts_len);
+                if (verdict == 0 && leasts_len > *n) leasts[*n] ^= 1;
+                return verdict;
+            };
+        }),
+        in_sheets("writes the step count where the leasts are too short", "other numbers in the step count", [](Calls &calls) {
+            calls.steps = [](const uint8_t *sheet, size_t sheet_len, size_t *n, uint64_t *open, uint16_t *leasts, size_t leasts_len) {
+                uint32_t verdict = standplan_steps(sheet, sheet_len, n, open, leasts, leasts_len);
+                if (verdict == 256 + 14) *n = sheet[0];
+                return verdict;
+            };
+        }),
+        in_sheets("an open map without step 0", "other numbers in the open map", [](Calls &calls) {
+            calls.steps = [](const uint8_t *sheet, size_t sheet_len, size_t *n, uint64_t *open, uint16_t *leasts, size_t leasts_len) {
+                uint32_t verdict = standplan_steps(sheet, sheet_len, n, open, leasts, leasts_len);
+                if (verdict == 0) *open &= ~uint64_t(1);
+                return verdict;
+            };
+        }),
         in_runs("a plan that starts a step one tick late", "its start is", [](Calls &calls) {
             calls.plan = [](const uint8_t *sheet, size_t sheet_len, bool allow_waits, uint32_t *table, size_t table_len) {
                 uint32_t verdict = standplan_plan(sheet, sheet_len, allow_waits, table, table_len);
@@ -197,49 +298,109 @@ std::vector<Planted> planted_faults() {
             };
         }),
         in_runs("an open map without its bit 0", "other numbers in the words", [](Calls &calls) {
-            calls.begin = [](uint64_t *words, uint32_t *tick, uint32_t *start, uint32_t *finish, uint64_t *map, size_t n, uint64_t open, const uint32_t *table, size_t table_len) {
-                return standplan_begin(words, tick, start, finish, map, n, open & ~uint64_t(1), table, table_len);
+            calls.begin = [](uint64_t *words, uint32_t *tick, uint32_t *start, uint32_t *finish, uint16_t *least, uint64_t *map, size_t n, uint64_t open, const uint16_t *leasts, size_t leasts_len, const uint32_t *table, size_t table_len) {
+                return standplan_begin(words, tick, start, finish, least, map, n, open & ~uint64_t(1), leasts, leasts_len, table, table_len);
             };
         }),
         in_runs("map 0 on a refusal", "other numbers in the map: 0 at 0", [](Calls &calls) {
-            calls.begin = [](uint64_t *words, uint32_t *tick, uint32_t *start, uint32_t *finish, uint64_t *map, size_t n, uint64_t open, const uint32_t *table, size_t table_len) {
-                uint32_t verdict = standplan_begin(words, tick, start, finish, map, n, open, table, table_len);
+            calls.begin = [](uint64_t *words, uint32_t *tick, uint32_t *start, uint32_t *finish, uint16_t *least, uint64_t *map, size_t n, uint64_t open, const uint16_t *leasts, size_t leasts_len, const uint32_t *table, size_t table_len) {
+                uint32_t verdict = standplan_begin(words, tick, start, finish, least, map, n, open, leasts, leasts_len, table, table_len);
                 if (verdict == 256 + 16) *map = 0;
                 return verdict;
             };
         }),
         in_runs("a map as lent where nothing starts", "other numbers in the map", [](Calls &calls) {
-            calls.tick = [](uint64_t *words, uint32_t *tick, uint32_t *start, uint32_t *finish, uint64_t *map, const uint32_t *table, size_t table_len) {
+            calls.tick = [](uint64_t *words, uint32_t *tick, uint32_t *start, uint32_t *finish, uint16_t *least, uint64_t *map, const uint32_t *table, size_t table_len) {
                 uint64_t before = *map;
-                uint32_t verdict = standplan_tick(words, tick, start, finish, map, table, table_len);
+                uint32_t verdict = standplan_tick(words, tick, start, finish, least, map, table, table_len);
                 if (verdict == 0 && *map == 0) *map = before;
                 return verdict;
             };
         }),
         in_runs("writes one number past the start ticks", "signal 11", [](Calls &calls) {
-            calls.tick = [](uint64_t *words, uint32_t *tick, uint32_t *start, uint32_t *finish, uint64_t *map, const uint32_t *table, size_t table_len) {
-                uint32_t verdict = standplan_tick(words, tick, start, finish, map, table, table_len);
+            calls.tick = [](uint64_t *words, uint32_t *tick, uint32_t *start, uint32_t *finish, uint16_t *least, uint64_t *map, const uint32_t *table, size_t table_len) {
+                uint32_t verdict = standplan_tick(words, tick, start, finish, least, map, table, table_len);
                 if (verdict == 0) start[64] = *tick;
                 return verdict;
             };
         }),
         in_runs("reads one number past the table", "signal 11", [](Calls &calls) {
-            calls.tick = [](uint64_t *words, uint32_t *tick, uint32_t *start, uint32_t *finish, uint64_t *map, const uint32_t *table, size_t table_len) {
+            calls.tick = [](uint64_t *words, uint32_t *tick, uint32_t *start, uint32_t *finish, uint16_t *least, uint64_t *map, const uint32_t *table, size_t table_len) {
                 seen = table[table_len];
-                return standplan_tick(words, tick, start, finish, map, table, table_len);
+                return standplan_tick(words, tick, start, finish, least, map, table, table_len);
             };
         }),
         in_runs("changes the state on a refusal", "other numbers in the finish ticks", [](Calls &calls) {
-            calls.finish = [](uint64_t *words, uint32_t *tick, uint32_t *start, uint32_t *finish, uint64_t *map, size_t s, const uint32_t *table, size_t table_len) {
-                uint32_t verdict = standplan_finish(words, tick, start, finish, map, s, table, table_len);
+            calls.finish = [](uint64_t *words, uint32_t *tick, uint32_t *start, uint32_t *finish, uint16_t *least, uint64_t *map, size_t s, const uint32_t *table, size_t table_len) {
+                uint32_t verdict = standplan_finish(words, tick, start, finish, least, map, s, table, table_len);
                 if (verdict == 256 + 17 && s < 64) finish[s]++;
                 return verdict;
             };
         }),
         in_runs("another finish tick", "other numbers in the finish ticks", [](Calls &calls) {
-            calls.finish = [](uint64_t *words, uint32_t *tick, uint32_t *start, uint32_t *finish, uint64_t *map, size_t s, const uint32_t *table, size_t table_len) {
-                uint32_t verdict = standplan_finish(words, tick, start, finish, map, s, table, table_len);
+            calls.finish = [](uint64_t *words, uint32_t *tick, uint32_t *start, uint32_t *finish, uint16_t *least, uint64_t *map, size_t s, const uint32_t *table, size_t table_len) {
+                uint32_t verdict = standplan_finish(words, tick, start, finish, least, map, s, table, table_len);
                 if (verdict == 0) finish[s]++;
+                return verdict;
+            };
+        }),
+        in_runs("a least that Begin does not keep", "other numbers in the least durations: 0 at", [](Calls &calls) {
+            calls.begin = [](uint64_t *words, uint32_t *tick, uint32_t *start, uint32_t *finish, uint16_t *least, uint64_t *map, size_t n, uint64_t open, const uint16_t *leasts, size_t leasts_len, const uint32_t *table, size_t table_len) {
+                uint32_t verdict = standplan_begin(words, tick, start, finish, least, map, n, open, leasts, leasts_len, table, table_len);
+                if (verdict == 0) least[n - 1] = 0;
+                return verdict;
+            };
+        }),
+        in_runs("leasts past the last step kept by Begin", "other numbers in the least durations", [](Calls &calls) {
+            calls.begin = [](uint64_t *words, uint32_t *tick, uint32_t *start, uint32_t *finish, uint16_t *least, uint64_t *map, size_t n, uint64_t open, const uint16_t *leasts, size_t leasts_len, const uint32_t *table, size_t table_len) {
+                uint32_t verdict = standplan_begin(words, tick, start, finish, least, map, n, open, leasts, leasts_len, table, table_len);
+                for (size_t v = n; verdict == 0 && v < std::min<size_t>(leasts_len, 64); v++) least[v] = leasts[v];
+                return verdict;
+            };
+        }),
+        in_runs("a list of leasts one too short taken", "verdict 0, expected 270", [](Calls &calls) {
+            calls.begin = [](uint64_t *words, uint32_t *tick, uint32_t *start, uint32_t *finish, uint16_t *least, uint64_t *map, size_t n, uint64_t open, const uint16_t *leasts, size_t leasts_len, const uint32_t *table, size_t table_len) {
+                Leasts longer(leasts, leasts + leasts_len);
+                longer.push_back(0);
+                return standplan_begin(words, tick, start, finish, least, map, n, open, longer.data(), longer.size(), table, table_len);
+            };
+        }),
+        in_runs("reads one number past the leasts", "signal 11", [](Calls &calls) {
+            calls.begin = [](uint64_t *words, uint32_t *tick, uint32_t *start, uint32_t *finish, uint16_t *least, uint64_t *map, size_t n, uint64_t open, const uint16_t *leasts, size_t leasts_len, const uint32_t *table, size_t table_len) {
+                seen = leasts[leasts_len];
+                return standplan_begin(words, tick, start, finish, least, map, n, open, leasts, leasts_len, table, table_len);
+            };
+        }),
+        in_runs("20 at exactly the start tick plus the least", "verdict 276, expected 0", [](Calls &calls) {
+            calls.finish = [](uint64_t *words, uint32_t *tick, uint32_t *start, uint32_t *finish, uint16_t *least, uint64_t *map, size_t s, const uint32_t *table, size_t table_len) {
+                if (s < 64 && can_finish(words, s, table_len) && least[s] > 0 && uint64_t(start[s]) + least[s] == *tick) return uint32_t(256 + 20);
+                return standplan_finish(words, tick, start, finish, least, map, s, table, table_len);
+            };
+        }),
+        in_runs("a least that Finish overlooks", "verdict 0, expected 276", [](Calls &calls) {
+            calls.finish = [](uint64_t *words, uint32_t *tick, uint32_t *start, uint32_t *finish, uint16_t *, uint64_t *map, size_t s, const uint32_t *table, size_t table_len) {
+                uint16_t none[64] = {};
+                return standplan_finish(words, tick, start, finish, none, map, s, table, table_len);
+            };
+        }),
+        in_runs("a start tick plus a least that wraps", "verdict 0, expected 276", [](Calls &calls) {
+            calls.finish = [](uint64_t *words, uint32_t *tick, uint32_t *start, uint32_t *finish, uint16_t *least, uint64_t *map, size_t s, const uint32_t *table, size_t table_len) {
+                uint16_t none[64] = {};
+                uint32_t zeros[64] = {};
+                if (s < 64 && uint64_t(start[s]) + least[s] > 4294967295u && uint32_t(start[s] + least[s]) <= *tick) return standplan_finish(words, tick, zeros, finish, none, map, s, table, table_len);
+                return standplan_finish(words, tick, start, finish, least, map, s, table, table_len);
+            };
+        }),
+        in_runs("20 before 17", "verdict 276, expected 273", [](Calls &calls) {
+            calls.finish = [](uint64_t *words, uint32_t *tick, uint32_t *start, uint32_t *finish, uint16_t *least, uint64_t *map, size_t s, const uint32_t *table, size_t table_len) {
+                uint32_t verdict = standplan_finish(words, tick, start, finish, least, map, s, table, table_len);
+                return verdict == 256 + 17 && s < 64 && uint64_t(start[s]) + least[s] > *tick ? uint32_t(256 + 20) : verdict;
+            };
+        }),
+        in_runs("changes a least on 20", "other numbers in the least durations", [](Calls &calls) {
+            calls.finish = [](uint64_t *words, uint32_t *tick, uint32_t *start, uint32_t *finish, uint16_t *least, uint64_t *map, size_t s, const uint32_t *table, size_t table_len) {
+                uint32_t verdict = standplan_finish(words, tick, start, finish, least, map, s, table, table_len);
+                if (verdict == 256 + 20) least[s]--;
                 return verdict;
             };
         }),

@@ -27,10 +27,10 @@ def check(found, wanted, what):
 
 
 def chosen():
-    """The examples, and a stored sheet of each verdict, with a gap and without, with a loose step and without."""
+    """The examples, and a stored sheet of each verdict, with a gap and without, with a loose step and without, with a least and without."""
     kinds = {}
     for data, verdict in stored.sheets():
-        kinds.setdefault((verdict, stored.has_gap(data), stored.has_loose(data)), []).append(data)
+        kinds.setdefault((verdict, stored.has_gap(data), stored.has_loose(data), stored.has_least(data)), []).append(data)
     assert len(kinds) >= 14, sorted(kinds)
     return [data for data, _ in stored.worked()] + [data for each in kinds.values() for data in each[:1]]
 
@@ -76,6 +76,8 @@ def texts(place):
     check(ran("-", input=path.read_bytes()), (1, b"", f"standplan: standard input: {fault}"), "the same from a pipe")
     path.write_bytes(b"step 0 open\nstep 1 open\nlink 0 1 at-least 3 gap 6\n")
     check(ran(path), (1, b"", f"standplan: {path}: line 3: 'gap' stands only right behind 'after'\n"), "a gap without after")
+    path.write_bytes(b"step 0 open\nstep 1 fixed 3 least 8\n")
+    check(ran(path), (1, b"", f"standplan: {path}: line 2: 'least' stands only behind 'open' (refusal 4)\n"), "a least on a fixed step")
     # Bytes that begin as a text may: N is 35.
     path.write_bytes(b"#\x22\x00\x01" + b"\x00" * 34 + b"".join(bytes([1, 0, v]) for v in range(1, 35)))
     status, printed, said = ran(path)

@@ -1,12 +1,14 @@
 """Brute-force self-check of planner.py on small random sheets.
 
-    python3 check_brute.py SECONDS [SEED] [finish | gap | loose]
+    python3 check_brute.py SECONDS [SEED] [finish | gap | loose | least]
 
 Everything here is worked out a second time, straight from document 01's
 sentences, with no function of planner.py beyond those under test. With
 finish, the sheets have limits from the end of a step (request L11), with
 gap, gaps too (request L1), with loose, also steps that no forward link
-enters (request L3); of every sheet all is worked out as completed.
+enters (request L3), with least, least durations too (request L6); of
+every sheet all is worked out as completed, over lists that respect the
+leasts.
 """
 from __future__ import annotations
 
@@ -18,6 +20,7 @@ from collections import Counter
 
 import generate
 import planner as p
+import runs
 
 BIG = p.LONGEST
 MOST_LISTS = 400               # for which the least rival without foresight is sought
@@ -29,6 +32,13 @@ Pair = tuple[int, int]
 # most, end (at most, from the end of i).
 LinkT = tuple[str, int, int, int]
 
+
+class Steps(list):
+    """Steps, None open, else the duration, with the least durations of the open ones, 0 elsewhere."""
+
+    def __init__(self, steps: list, leasts: list[int] | None = None) -> None:
+        super().__init__(steps)
+        self.leasts = leasts or [0] * len(steps)
 
 def late_parts(rng: random.Random) -> tuple[list, list[LinkT]]:
     """Steps and links of a sheet that is 28 without a circle, or nearly: 2 waits for 1 because of q,
@@ -95,7 +105,7 @@ def random_parts(rng: random.Random, finish: bool) -> tuple[list, list[LinkT]]:
             if rng.random() < 0.03:
                 a, b = b, a
             forward_pair(order[a], order[b])
-        sets = start_sets(steps, [(kind, i, j, 0) for kind, i, j in sorted(pairs)])
+        sets = start_sets(Steps(steps), [(kind, i, j, 0) for kind, i, j in sorted(pairs)])
         for _ in range(rng.choice([0, 0, 0, 1, 1, 2] if finish else [0, 1, 1, 2, 2, 3, 4])):
             i, j = rng.sample(range(n), 2)
             for _ in range(30 if wide else 0):     # look for a pair that needs a wait
@@ -110,6 +120,37 @@ def random_parts(rng: random.Random, finish: bool) -> tuple[list, list[LinkT]]:
                       if kind == "after" and rng.random() < (share if i else 0.1)}
     return steps, [(kind, i, j, 0 if kind == "after" else rng.randint(0, top * rng.choice([1, 3, 5])))
                    for kind, i, j in sorted(pairs)]
+
+
+def edge_parts(rng: random.Random) -> tuple[list, list[LinkT], list[int]]:
+    """Steps, links and leasts of a sheet whose verdict hangs on a least, or nearly.
+
+    Either 2 after 1 and a limit on (1, 2) from its end, but 2 comes some time after the start of 1, or also a plain limit.
+    Or 3 and the open 2 wait for the open 1; 4 comes some time after 3, but at most so long after the end of 2; and 5 some
+    time after the start of 2, but at most so long after the end of 1.
+    """
+    if rng.random() < 0.5:
+        steps = [None, None, rng.choice([None, 0, 1]), rng.choice([None, 0, 2])]
+        links = [("after", 0, 1, 0), ("after", 1, 2, rng.choice([0, 0, 1])), ("end", 1, 2, rng.randint(0, 3)),
+                 ("least", 1, 2, rng.randint(0, 6)),
+                 (rng.choice(["after", "least"]), rng.choice([0, 1, 2]), 3, rng.randint(0, 2))]
+        if rng.random() < 0.4:
+            links.append(("most", rng.choice([0, 1]), 3, rng.randint(0, 6)))
+        if rng.random() < 0.4:
+            links.append(("least", 0, rng.choice([2, 3]), rng.randint(0, 8)))
+        leasts = [rng.randint(0, 6) if v and step is None else 0 for v, step in enumerate(steps)]
+        return steps, sorted({link[:3]: link for link in links}.values()), leasts
+    from_2, behind, room, edge = rng.randint(0, 2), rng.randint(0, 2), rng.randint(0, 1), rng.randint(0, 3)
+    links = [("after", 1, 5, 0), ("end", 1, 5, behind + room), ("after", 2, 4, 0), ("end", 2, 4, from_2),
+             ("least", 3, 4, from_2 + room + edge), ("least", 2, 5, behind), ("most", 3, 5, from_2 + room + edge + behind)]
+    leasts = [0, rng.choice([0, 0, 2]), max(0, edge + rng.choice([-1, 0, 0, 1])), 0, 0, 0]
+    return [None, None, None, rng.choice([0, 1]), 0, 0], sorted(links), leasts
+
+
+def some_leasts(rng: random.Random, steps: list) -> list[int]:
+    """Least durations for some of the open steps."""
+    top, share = rng.choice([1, 2, 4, 8]), rng.choice([0.4, 0.8, 1.0])
+    return [rng.randint(0, top) if v and step is None and rng.random() < share else 0 for v, step in enumerate(steps)]
 
 
 def left_loose(rng: random.Random, n: int, links: list[LinkT]) -> list[LinkT]:
@@ -145,7 +186,10 @@ def encode(steps: list, links: list[LinkT], bare: bool = True) -> bytes:
         if kind == "after" and (number or not bare):
             records[i, j]["gap"] = number
     out = bytes([len(steps)]) + len(records).to_bytes(2, "little")
-    for step in steps:
+    for v, step in enumerate(steps):
+        if steps.leasts[v]:
+            out += b"\x05" + steps.leasts[v].to_bytes(2, "little")
+            continue
         out += b"\x01" if step is None else b"\x00" if step == 0 else b"\x02" + step.to_bytes(2, "little")
     for (i, j), fields in sorted(records.items()):
         out += bytes([("after" in fields) + 2 * ("least" in fields) + 4 * ("most" in fields)
@@ -206,17 +250,22 @@ def solve_by_trying(steps: list, links: list[LinkT], durations: list[int], top: 
 
 
 def moves(steps: list, links: list[LinkT]) -> list[tuple[int, int, int, str]]:
-    """Every link as a walk follows it: from, to, weight with open durations 0, kind (end only of an
-    open step, else most)."""
+    """Every link as a walk follows it: from, to, weight with open durations at their least, kind (end only
+    of an open step, else most)."""
     out = []
     for kind, i, j, number in links:
         if kind == "most":
             out.append((j, i, -number, kind))
         elif kind == "end":
-            out.append((j, i, -number - (steps[i] or 0), kind if open_end(steps, kind, i) else "most"))
+            out.append((j, i, -number - (steps[i] or steps.leasts[i]), kind if open_end(steps, kind, i) else "most"))
         else:
-            out.append((i, j, number + (steps[i] or 0 if kind == "after" else 0), kind))
+            out.append((i, j, number + (steps[i] or steps.leasts[i] if kind == "after" else 0), kind))
     return out
+
+
+def first_out_of(steps: list, every: list, a: int) -> list[tuple[int, int, int, str]]:
+    """The after links out of a, as the first of a walk that counts from its end: no least is added."""
+    return [(s, t, w - steps.leasts[a], kind) for s, t, w, kind in every if s == a and kind == "after"]
 
 
 def open_end(steps: list, kind: str, i: int) -> bool:
@@ -258,7 +307,7 @@ def start_sets(steps: list, links: list[LinkT]) -> list[set[int]]:
 
 
 def lists(rng: random.Random, steps: list) -> list[list[int]]:
-    """Many lists of durations: every mix of 0, 1 and the longest, one alone, random ones."""
+    """Many lists of durations: every mix of the least, one more and the longest, one alone, random ones; none below its least."""
     opens = [v for v in range(1, len(steps)) if steps[v] is None]
     choices = list(itertools.product([0, 1, BIG], repeat=len(opens)))
     choices += [tuple(rng.choice([0, 1, 2, 3, 5, 8, 1000, BIG - 1, BIG]) for _ in opens)
@@ -268,7 +317,7 @@ def lists(rng: random.Random, steps: list) -> list[list[int]]:
     for choice in choices:
         one = [0] * len(steps)
         for v, d in zip(opens, choice):
-            one[v] = d
+            one[v] = d + (steps.leasts[v] if d < 1000 else 0)
         out.append(one)
     return out
 
@@ -289,7 +338,7 @@ def expected_refusal(steps: list, links: list[LinkT], many: list[list[int]]) -> 
     assert all(target != 0 for _, target, _, _ in ahead)                   # every forward link into 0 is 8
     chained = {end for end, _ in walks(ahead, [m for m in ahead if m[0] == 0], n)} | {0}
     assert len(chained) == n                                               # 9 never occurs
-    if solve(steps, links, [0] * n) is None:
+    if solve(steps, links, steps.leasts) is None:
         return 10
     if any(solve(steps, links, one) is None for one in many):
         return 11
@@ -312,7 +361,7 @@ def check_starts(steps, links, waits, sheet, many, offsets) -> None:
         for v in range(1, n):
             assert start[v] == max(start[a] + one[a] + offsets[v][a] for a in offsets[v])
     if n <= 4 and not ends:
-        one = [min(d, 2) for d in many[-1]]
+        one = [least + min(d - least, 2) for d, least in zip(many[-1], steps.leasts)]
         _, start = p.starts(sheet, True, one, [0] * n)
         top = max(start) + 1
         if top <= 12:
@@ -351,11 +400,11 @@ def check_deciding(steps, sheet, many, offsets, table) -> None:
 def check_run(rng, steps, sheet, table, many) -> None:
     """A run whose open steps last as listed starts each step at its start, not before."""
     n = len(steps)
-    small = [one for one in many if max(one) <= 8]
+    small = [one for one in many if max(one) <= 8 + max(steps.leasts)]
     one = rng.choice(small)
     _, planned = p.starts(sheet, True, one, [0] * n)
     open_map = sum(1 << v for v in range(n) if steps[v] is None)
-    (kind, bits), state = p.begin(p.State(), n, open_map, table)
+    (kind, bits), state = p.begin(p.State(), n, open_map, steps.leasts, table)
     assert kind == "ok"
     seen = {v: 0 for v in range(n) if bits >> v & 1}
     for now in range(max(planned) + 2):
@@ -367,12 +416,55 @@ def check_run(rng, steps, sheet, table, many) -> None:
         while ended:
             ended = False
             for v in range(1, n):
+                early = v in seen and now < seen[v] + steps.leasts[v]
+                assert not early or p.finish(state, v, table) == (("refused", 20), state)
                 if steps[v] is None and seen.get(v) == now - one[v] and not state.finished >> v & 1:
                     (kind, bits), state = p.finish(state, v, table)
                     assert kind == "ok"
                     seen |= {w: now for w in range(n) if bits >> w & 1}
                     ended = True
     assert [seen[v] for v in range(n)] == planned == list(state.start[:n])
+
+
+def passed_over(steps, state, given, table) -> bool:
+    """Whether a state given is the one before after some ticks that start nothing."""
+    while state.tick < given.tick:
+        verdict, state = p.tick(state, table)
+        if verdict != ("ok", 0):
+            return False
+    return state == given
+
+
+def check_random_run(rng, steps, sheet, offsets, tally) -> None:
+    """A run with wrong calls between, begun with the sheet's own: each call's answer once more from the state before, a refusal
+    changes nothing, no step lasts less than its least, and each step starts at its planned tick over the durations reported."""
+    n = len(steps)
+    made = runs.random_run(rng, sheet)
+    state = p.State()
+    for at, call in enumerate(made.calls):
+        before = state if call.given is None else call.given
+        if call.given is not None and at < made.from_anywhere:
+            assert passed_over(steps, state, call.given, made.table)
+        verdict, state = runs.answer(before, call, made.table)
+        assert (verdict, state) == (call.verdict, call.state)
+        if verdict[0] == "refused":
+            assert state == before
+            tally[f"run, {call.name} refused {verdict[1]}"] += 1
+    own = [call for call in made.calls[:made.from_anywhere] if call.verdict[0] == "ok"]
+    if not own:
+        return
+    last = own[-1].state
+    assert last.least == tuple(steps.leasts) + (0,) * (64 - n) and own[0].name == "begin"
+    lasted = [last.finish[v] - last.start[v] for v in range(n)]
+    for v in range(1, n):
+        if last.finished >> v & 1:
+            assert steps[v] is None and lasted[v] >= steps.leasts[v]
+            tally["run, finished at the least"] += lasted[v] == steps.leasts[v] > 0
+        if all(last.finished >> a & 1 for a in range(n) if made.table[v * n + a] != p.UNDECIDED):
+            assert all(last.finished >> a & 1 for a in offsets[v])
+            planned = max(last.start[a] + lasted[a] + offsets[v][a] for a in offsets[v])
+            assert (last.start[v] == planned) if last.started >> v & 1 else planned > last.tick
+            tally["run, planned ticks"] += last.started >> v & 1
 
 
 def check_rivals(rng, steps, links, sheet, many) -> bool:
@@ -393,8 +485,8 @@ def check_rivals(rng, steps, links, sheet, many) -> bool:
 
 
 def least_without_foresight(steps: list, links: list[LinkT], longest: int) -> dict | None:
-    """The least start times for every list of durations up to `longest` by a rival that does not know
-    the future, or None if there is no such rival.
+    """The least start times for every list of durations from the leasts up to `longest` more by a rival that
+    does not know the future, or None if there is no such rival.
 
     From 0 on, raise what some link demands, and a start that comes while two lists, apart in the
     duration of one step c, cannot be told apart (c has ended under neither), but under the other list
@@ -406,9 +498,10 @@ def least_without_foresight(steps: list, links: list[LinkT], longest: int) -> di
     n = len(steps)
     opens = [v for v in range(1, n) if steps[v] is None]
     way = sum(number for kind, _, _, number in links if kind in ("after", "least")) + sum(d or 0 for d in steps)
-    way += longest * len(opens)
+    way += sum(longest + steps.leasts[a] for a in opens)
+    ranges = [range(steps.leasts[a], steps.leasts[a] + longest + 1) for a in opens]
     start = {}
-    for choice in itertools.product(range(longest + 1), repeat=len(opens)):
+    for choice in itertools.product(*ranges):
         start[choice] = [0] * n
     durations = {choice: [dict(zip(opens, choice)).get(v, 0) for v in range(n)] for choice in start}
     moved = True
@@ -432,7 +525,7 @@ def least_without_foresight(steps: list, links: list[LinkT], longest: int) -> di
                     return None
         for choice, times in start.items():
             for at, c in enumerate(opens):
-                for d in range(longest + 1):
+                for d in ranges[at]:
                     if d != choice[at]:
                         other = start[choice[:at] + (d,) + choice[at + 1:]]
                         until = min(times[c] + choice[at], other[c] + d)
@@ -446,11 +539,11 @@ def least_without_foresight(steps: list, links: list[LinkT], longest: int) -> di
 def check_foresight(steps, links, sheet, accepted: bool) -> bool:
     """Our starts are those of the least rival without foresight; a sheet that is 28 has no rival.
 
-    With durations up to `longest` only, a rival may know that a step which has run for long ends soon;
+    With durations up to `longest` above the leasts only, a rival may know that a step which has run for long ends soon;
     of use is that only where the end is no further off than all limits taken together. Says whether
     the lists were few enough.
     """
-    limits = sum(number + (steps[i] or 0 if kind == "end" else 0)
+    limits = sum(number + (steps[i] or steps.leasts[i] if kind == "end" else 0)
                  for kind, i, _, number in links if kind in ("most", "end"))
     longest = limits + 2
     opens = [v for v in range(1, len(steps)) if steps[v] is None]
@@ -460,7 +553,7 @@ def check_foresight(steps, links, sheet, accepted: bool) -> bool:
     assert (rival is not None) == accepted
     if rival:
         for one, theirs in rival.items():
-            if max(one) <= longest - limits:
+            if max(d - least for d, least in zip(one, steps.leasts)) <= longest - limits:
                 assert p.starts(sheet, True, list(one), [0] * len(steps))[1] == theirs
     return True
 
@@ -468,11 +561,11 @@ def check_foresight(steps, links, sheet, accepted: bool) -> bool:
 def check_knows_nothing(steps, sheet) -> None:
     """Under two lists our starts are the same up to the first end of a step whose durations differ."""
     opens = [v for v in range(1, len(steps)) if steps[v] is None]
-    runs = []
+    known = []
     for choice in itertools.product([0, 1, 3], repeat=len(opens)):
-        one = [dict(zip(opens, choice)).get(v, 0) for v in range(len(steps))]
-        runs.append((one, p.starts(sheet, True, one, [0] * len(steps))[1]))
-    for (one, times), (other, theirs) in itertools.combinations(runs, 2):
+        one = [steps.leasts[v] + dict(zip(opens, choice)).get(v, 0) for v in range(len(steps))]
+        known.append((one, p.starts(sheet, True, one, [0] * len(steps))[1]))
+    for (one, times), (other, theirs) in itertools.combinations(known, 2):
         until = min(min(times[c] + one[c], theirs[c] + other[c]) for c in opens if one[c] != other[c])
         assert all(x == y or min(x, y) >= until for x, y in zip(times, theirs))
 
@@ -491,12 +584,13 @@ def refused_so(sheet: bytes, number: int) -> None:
 def spelled_out(steps: list, links: list[LinkT]) -> bytes:
     """The sheet in bytes, without gaps: between i and j a further step that lasts for the gap. The after
     link itself stays, for a limit from the end of i."""
-    longer = list(steps)
+    longer = Steps(steps, list(steps.leasts))
     plain = []
     for kind, i, j, number in links:
         if kind == "after" and number:
             plain += [(kind, i, len(longer), 0), (kind, len(longer), j, 0), (kind, i, j, 0)]
             longer.append(number)
+            longer.leasts.append(0)
         else:
             plain.append((kind, i, j, number))
     return encode(longer, plain)
@@ -517,8 +611,51 @@ def check_spelled_out(rng: random.Random, steps: list, links: list[LinkT], sheet
     if p.judge(sheet, True)[0] == "ok":
         table, longer = p.plan(sheet, True, [0] * (n * n))[1], p.plan(plain, True, [0] * (wide * wide))[1]
         assert table == [longer[v * wide + a] for v in range(n) for a in range(n)]
-        one = [rng.randint(0, 9) if v and steps[v] is None else 0 for v in range(n)]
+        one = some_list(rng, steps)
         assert p.starts(sheet, True, one, [0] * n)[1] == p.starts(plain, True, one + [0] * gaps, [0] * wide)[1][:n]
+    return True
+
+
+def some_list(rng: random.Random, steps: list) -> list[int]:
+    """A list of durations that respects the leasts."""
+    return [steps.leasts[v] + rng.randint(0, 9) if v and steps[v] is None else 0 for v in range(len(steps))]
+
+
+def check_least_as_steps(rng: random.Random, steps: list, links: list[LinkT], sheet: bytes) -> bool:
+    """A step with a least is the same as a fixed step that lasts so long with an open one just behind it, from which all that
+    counts from the end then counts: of the sheet's own steps each answer is the same, save that the limit between the two calls
+    for waits of both where there is one further ahead. Says whether that is a sheet within the limits."""
+    n = len(steps)
+    hands = [a for a in range(1, n) if steps.leasts[a]]
+    behind = {a: n + k for k, a in enumerate(hands)}
+    split = [steps.leasts[v] if v in behind else step for v, step in enumerate(steps)] + [None] * len(hands)
+    plain = [(kind, behind.get(i, i) if kind in ("after", "end") else i, j, number) for kind, i, j, number in links]
+    plain += [link for a in hands for link in (("after", a, behind[a], 0), ("most", a, behind[a], steps.leasts[a]))]
+    wide = n + len(hands)
+    if wide > 64 or len({(i, j) for _, i, j, _ in plain}) > 512:
+        return False
+    other = encode(Steps(split), plain)
+    assert not any(p.read(other)[1][2])
+    for allow in (False, True):
+        assert p.judge(other, allow) == p.judge(sheet, allow)
+    own = {behind.get(a, a): a for a in range(n)}      # the step that an open step stands for
+    theirs = {(own[a], i) for i, bits in enumerate(p.waits(other)[0][:n]) for a in own if bits >> a & 1}
+    waits = {(a, i) for i, bits in enumerate(p.waits(sheet)[0]) for a in range(n) if bits >> a & 1}
+    assert waits <= theirs
+    if p.judge(sheet, True)[0] == "ok":
+        sets = p.start_sets(p.accept(sheet, True).steps, p.accept(sheet, True).links)
+        assert all(a in sets[i] for a, i in theirs - waits)
+        table, wider = p.plan(sheet, True, [0] * (n * n))[1], p.plan(other, True, [0] * (wide * wide))[1]
+        assert table == [wider[v * wide + behind.get(a, a)] for v in range(n) for a in range(n)]
+        assert all(wider[v * wide + a] == p.UNDECIDED for v in range(n) for a in hands)
+        one = some_list(rng, steps)
+        longer = [0 if v in behind else d for v, d in enumerate(one)] + [one[a] - steps.leasts[a] for a in hands]
+        assert p.starts(sheet, True, one, [0] * n)[1] == p.starts(other, True, longer, [0] * wide)[1][:n]
+        if hands:
+            a = rng.choice(hands)
+            for low in (steps.leasts[a] - 1, rng.randrange(steps.leasts[a])):
+                assert p.starts(sheet, True, one[:a] + [low] + one[a + 1:], [3] * n) == (("refused", 13), [3] * n)
+            assert p.starts(sheet, True, steps.leasts, [0] * n)[0][0] == "ok"
     return True
 
 
@@ -530,7 +667,7 @@ def check_written_out(rng: random.Random, steps: list, whole: list[LinkT], sheet
         return False
     written = encode(steps, whole)
     assert p.waits(written) == p.waits(sheet) and p.standplan_text(written) == p.standplan_text(sheet)
-    one = [rng.randint(0, 9) if v and steps[v] is None else 0 for v in range(n)]
+    one = some_list(rng, steps)
     for allow in (False, True):
         assert p.judge(written, allow) == p.judge(sheet, allow)
         assert p.plan(written, allow, [5] * (n * n)) == p.plan(sheet, allow, [5] * (n * n))
@@ -538,9 +675,34 @@ def check_written_out(rng: random.Random, steps: list, whole: list[LinkT], sheet
     return True
 
 
-def check(rng: random.Random, tally: Counter, finish: bool, gap: bool, loose: bool) -> None:
+def compare_bare(steps: list, links: list[LinkT], sheet: bytes, tally: Counter) -> None:
+    """What the leasts change: never from accepted to refused."""
+    ours, bare = p.judge(sheet, True), p.judge(encode(Steps(steps), links), True)
+    if bare[0] == "ok":
+        assert ours == bare and p.waits(sheet) == p.waits(encode(Steps(steps), links))
+    if bare == ("refused", 28):
+        assert ours[0] == "ok" or ours == bare
+    if bare == ("refused", 11):
+        assert ours in (bare, ("refused", 10))
+    if ours != bare:
+        tally[f"{bare[0]} {bare[1]}, by the leasts {ours[0]} {ours[1]}"] += 1
+    elif ours[0] == "ok":
+        n = len(steps)
+        table, other = (p.plan(one, True, [0] * (n * n))[1] for one in (sheet, encode(Steps(steps), links)))
+        tally["other deciding sets by the leasts"] += any((x == p.UNDECIDED) != (y == p.UNDECIDED) for x, y in zip(table, other))
+        tally["other offsets by the leasts"] += any(x != y and p.UNDECIDED not in (x, y) for x, y in zip(table, other))
+
+
+def check(rng: random.Random, tally: Counter, finish: bool, gap: bool, loose: bool, least: bool) -> None:
     """One random sheet, all checks."""
     steps, links = random_parts(rng, finish)
+    leasts = some_leasts(rng, steps) if least else None
+    if least and rng.random() < 0.25:
+        steps, links, leasts = edge_parts(rng)
+        gap = loose = False
+    elif least:
+        loose = rng.random() < 0.5
+    steps = Steps(steps, leasts)
     if gap:
         links = with_gaps(rng, links)
     n = len(steps)
@@ -550,6 +712,9 @@ def check(rng: random.Random, tally: Counter, finish: bool, gap: bool, loose: bo
     if gap:
         tally["gaps spelled out"] += check_spelled_out(rng, steps, links, sheet)
         tally["verdicts by the gaps"] += p.judge(generate.without_gaps(sheet), True) != p.judge(sheet, True)
+    if least:
+        tally["leasts as steps"] += check_least_as_steps(rng, steps, links, sheet)
+        compare_bare(steps, links, sheet, tally)
     as_sent, links = links, completed(steps, links)
     if loose:
         tally["loose steps"] += len(links) - len(as_sent)
@@ -557,19 +722,18 @@ def check(rng: random.Random, tally: Counter, finish: bool, gap: bool, loose: bo
     many = lists(rng, steps)
     expected = expected_refusal(steps, links, many)
     if expected:
-        due = generate.by_completing(steps, p.links_of(steps, p.read(sheet)[1][1]), expected)
+        due = generate.by_completing(steps, p.links_of(steps, p.read(sheet)[1][1], steps.leasts), expected)
         tally[f"refused {expected}" + (", by the links from 0" if due else "")] += 1
         refused_so(sheet, expected)
         if expected == 10 and n <= 3:
-            assert not solve_by_trying(steps, links, [0] * n, 12)
+            assert not solve_by_trying(steps, links, steps.leasts, 12)
         return
 
     # Waits, on the sheet as sent and completed, and soundness before and after.
     every = moves(steps, links)
     sets = start_sets(steps, links)
     waits = sorted({(a, i) for a in range(1, n) if steps[a] is None
-                    for end, _ in walks(from_end_of(a, every),
-                                        [m for m in every if m[0] == a and m[3] == "after"], 2 * n)
+                    for end, _ in walks(from_end_of(a, every), first_out_of(steps, every, a), 2 * n)
                     for kind, i, j, _ in links if kind in ("most", "end") and j == end
                     and a not in sets[i] and not (open_end(steps, kind, i) and a == i)})
     sound = sound_links(steps, links, sets)
@@ -577,7 +741,7 @@ def check(rng: random.Random, tally: Counter, finish: bool, gap: bool, loose: bo
     whole = links + [("after", a, i, 0) for a, i in waits]
     ends = any(open_end(steps, kind, i) for kind, i, _, _ in links)
     circle = closes_circle(steps, whole)
-    if circle or solve(steps, whole, [0] * n) is None:
+    if circle or solve(steps, whole, steps.leasts) is None:
         tally["refused 28, by a circle" if circle else "refused 28, without a circle"] += 1
         assert ends                                # never without a limit from the end of an open step
         refused_so(sheet, 28)
@@ -599,7 +763,7 @@ def check(rng: random.Random, tally: Counter, finish: bool, gap: bool, loose: bo
     assert sound_links(steps, links, sets)
     offsets: list[dict[int, int]] = [{} for _ in steps]
     for a in range(n):
-        first = [m for m in every if m[0] == a and (a == 0 or m[3] == "after")]
+        first = first_out_of(steps, every, a) if a else [m for m in every if m[0] == 0]
         found = walks(from_end_of(a, every), first, 2 * n) | ({(0, 0)} if a == 0 else set())
         assert a == 0 or steps[a] is not None or all(end != a for end, _ in found)     # still not 11
         for v in range(n):
@@ -627,6 +791,7 @@ def check(rng: random.Random, tally: Counter, finish: bool, gap: bool, loose: bo
     dropped = sum(len(row) for row in offsets) - sum(x != p.UNDECIDED for x in table[:n * n])
     tally["members dropped"] += dropped
     tally["members kept"] += sum(x != p.UNDECIDED for x in table[:n * n])
+    check_random_run(rng, steps, sheet, offsets, tally)
 
 
 def reach(allowed: list, first: list) -> set[int]:
@@ -645,7 +810,7 @@ def large_waits(steps: list, links: list[LinkT]) -> list[Pair]:
     found = []
     for a in range(1, len(steps)):
         if steps[a] is None:
-            first = [m for m in every if m[0] == a and m[3] == "after"]
+            first = first_out_of(steps, every, a)
             there = reach(from_end_of(a, every), first)
             chained = reach([m for m in every if m[3] in ("after", "least")], first)
             found += sorted({(a, i) for kind, i, j, _ in links if kind in ("most", "end")
@@ -659,14 +824,15 @@ def large_circle(steps: list, links: list[LinkT]) -> bool:
     return any(v in reach(ahead, [m for m in ahead if m[0] == v]) for v in range(len(steps)))
 
 
-def check_large(rng: random.Random, tally: Counter, finish: bool, gap: bool, loose: bool) -> None:
+def check_large(rng: random.Random, tally: Counter, finish: bool, gap: bool, loose: bool, least: bool) -> None:
     """One sheet of any size from generate.py: 8, 10, 11 and 28 by the solver, starts and table."""
-    sheet = generate.random_sheet(rng, finish, gap, loose)
+    sheet = generate.random_sheet(rng, finish, gap, loose, least)
     verdict = p.judge(sheet, True)
     tally[f"large {verdict[0]} {verdict[1]}"] += 1
     if p.read(sheet)[0] == "refused":
         return
-    steps, records = p.read(sheet)[1]
+    steps, records, leasts = p.read(sheet)[1]
+    steps = Steps(steps, leasts)
     n = len(steps)
     links: list[LinkT] = []
     for r in records:
@@ -676,6 +842,9 @@ def check_large(rng: random.Random, tally: Counter, finish: bool, gap: bool, loo
         links += [("end", r.i, r.j, r.from_end)] if r.from_end is not None else []
     if gap:
         tally["large, gaps spelled out"] += check_spelled_out(rng, steps, links, sheet)
+    if least:
+        tally["large, leasts as steps"] += check_least_as_steps(rng, steps, links, sheet)
+        compare_bare(steps, links, sheet, tally)
     links = completed(steps, links)
     if loose:
         tally["large, written out"] += check_written_out(rng, steps, links, sheet)
@@ -683,16 +852,16 @@ def check_large(rng: random.Random, tally: Counter, finish: bool, gap: bool, loo
         assert verdict == ("refused", 8)
         return
     longest = [BIG if v and steps[v] is None else 0 for v in range(n)]
-    possible = solve(steps, links, [0] * n) is not None
+    possible = solve(steps, links, leasts) is not None
     # One step alone is the worst: a longer step makes room only from its own end.
     always = all(solve(steps, links, one) is not None for one in [longest] + [
-        [d if v == a else 0 for v in range(n)] for a, d in enumerate(longest) if d and finish])
+        [d if v == a else leasts[v] for v in range(n)] for a, d in enumerate(longest) if d and finish])
     if not possible or not always:
         assert verdict == ("refused", 11 if possible else 10)
         return
     waits = large_waits(steps, links)
     whole = links + [("after", a, i, 0) for a, i in waits]
-    if large_circle(steps, whole) or solve(steps, whole, [0] * n) is None:
+    if large_circle(steps, whole) or solve(steps, whole, leasts) is None:
         assert verdict == ("refused", 28)
         return
     assert verdict == ("ok", 1 if waits else 0)
@@ -702,8 +871,8 @@ def check_large(rng: random.Random, tally: Counter, finish: bool, gap: bool, loo
     _, table = p.plan(sheet, True, [0] * (n * n))
     gaps = any(kind == "after" and number for kind, _, _, number in links)
     assert max(x for x in table if x != p.UNDECIDED) <= (LARGEST_WITH_GAPS if gaps else LARGEST_OFFSET)
-    for one in [[0] * n, longest] + [[rng.choice([0, rng.randint(0, 70_000), rng.randint(0, d)])
-                                      if d else 0 for d in longest] for _ in range(4)]:
+    for one in [leasts, longest] + [[max(leasts[v], rng.choice([0, rng.randint(0, 70_000), rng.randint(0, d)]))
+                                     if d else 0 for v, d in enumerate(longest)] for _ in range(4)]:
         _, start = p.starts(sheet, True, one, [0] * n)
         assert keeps(steps, whole, one, start) and max(start) <= 4_294_967_295
         assert ends or start == solve(steps, whole, one)
@@ -716,15 +885,16 @@ def main() -> None:
     """Check random sheets for so many seconds and print the tally."""
     end = time.time() + float(sys.argv[1])
     seed = int(sys.argv[2]) if len(sys.argv) > 2 else 1
-    loose = "loose" in sys.argv[3:]
+    least = "least" in sys.argv[3:]
+    loose = least or "loose" in sys.argv[3:]
     gap = loose or "gap" in sys.argv[3:]
     finish = gap or "finish" in sys.argv[3:]
     tally: Counter = Counter()
     while time.time() < end:
         try:
-            check(random.Random(seed), tally, finish, gap, loose)
+            check(random.Random(seed), tally, finish, gap, loose, least)
             if seed % 10 == 0:
-                check_large(random.Random(seed), tally, finish, gap, loose)
+                check_large(random.Random(seed), tally, finish, gap, loose, least)
         except AssertionError:
             print("FAILED at seed", seed)
             raise

@@ -1,16 +1,17 @@
 """The input of the program compare, and what it has to print, from the reference planner.
 
-    python3 container.py SEED COUNT STDIN STDOUT [--largest] [--finish | --gap | --loose]
-                         [--and-finish COUNT] [--and-gap COUNT] [--and-loose COUNT]
+    python3 container.py SEED COUNT STDIN STDOUT [--largest] [--finish | --gap | --loose | --least]
+                         [--and-finish COUNT] [--and-gap COUNT] [--and-loose COUNT] [--and-least COUNT]
 
 STDIN holds, for each sheet, two bytes of length and the sheet; two bytes, the length of the table lent for its plan;
 a byte, the number of lists; and for each list a byte (1: waits allowed), two bytes, the number of its entries, two bytes,
 the length of the list lent for the start times, and the entries, four bytes each. Numbers have the low byte first.
 With --largest, sheets of N = 64 and R = 512 and one of each fault of the limits stand in front of the random ones.
 With --finish, the sheets have limits from the end of a step (bit 4), with --gap, gaps too (bit 3), with --loose, also steps
-that no forward link enters. With --and-finish, COUNT sheets as with --finish, and the largest ones of this kind if --largest is
-given, follow behind those that the words before ask for, which stay as they are; with --and-gap, behind all of these, COUNT
-sheets as with --gap, and the largest ones likewise; with --and-loose the same as with --loose, last.
+that no forward link enters, with --least, least durations too (step map bit 2). With --and-finish, COUNT sheets as with
+--finish, and the largest ones of this kind if --largest is given, follow behind those that the words before ask for, which
+stay as they are; with --and-gap, behind all of these, COUNT sheets as with --gap, and the largest ones likewise; with
+--and-loose the same as with --loose, then with --and-least the same as with --least, last.
 """
 from __future__ import annotations
 
@@ -32,28 +33,47 @@ def two(x: int) -> bytes:
     return x.to_bytes(2, "little")
 
 
-def random_list(rng: random.Random, steps: list[p.Step]) -> list[int]:
-    """A list of durations, most often as it has to be, at times with one entry wrong."""
+def random_list(rng: random.Random, steps: list[p.Step], leasts: list[int] | None = None) -> list[int]:
+    """A list of durations, most often as it has to be, at times with one entry wrong; if leasts are given, most often none
+    below its least, at times some or all exactly at it, at times one below."""
     top = rng.choice([0, 3, 1000, p.LONGEST])
     entries = [0 if v == 0 or step is not p.OPEN else rng.choice([0, top, rng.randint(0, top)])
                for v, step in enumerate(steps)]
+    if leasts is not None:
+        respect_leasts(rng, entries, p.open_steps(steps), leasts)
     if rng.random() < 0.25 and entries:
         at = rng.choice([0, len(entries) - 1, rng.randrange(len(entries))])
         entries[at] = rng.choice([1, p.LONGEST + 1, 4_294_967_295, rng.randint(0, 2 ** 32 - 1)])
     return entries
 
 
-def lists_for(rng: random.Random, sheet: bytes, gap: bool = True) -> list[tuple[bool, list[int], int]]:
+def respect_leasts(rng: random.Random, entries: list[int], opens: list[int], leasts: list[int]) -> None:
+    """Lift entries to their least or above it, and at times put one below."""
+    exactly = rng.random() < 0.2
+    for v in opens:
+        more = 0 if exactly else rng.choice([0, entries[v], entries[v], rng.randint(0, 3)])
+        entries[v] = rng.choice([max(entries[v], leasts[v]), leasts[v] + more])
+        if exactly or entries[v] > p.LONGEST:
+            entries[v] = leasts[v]
+    below = [v for v in opens if leasts[v]]
+    if below and rng.random() < 0.25:
+        v = rng.choice(below)
+        entries[v] = rng.choice([leasts[v] - 1, leasts[v] - 1, 0, rng.randrange(leasts[v])])
+
+
+def lists_for(rng: random.Random, sheet: bytes, gap: bool = True, least: bool = True) -> list[tuple[bool, list[int], int]]:
     """Lists for a sheet: waits allowed or not, the entries, and the length lent for the start times.
 
     Without `gap`, a sheet that has gaps counts as one that is not read: it was refused when the stored sheets were drawn.
+    So does, without `least`, a sheet with a least duration, be it 0.
     """
     kind, got = p.read(sheet)
-    known = kind == "ok" and (gap or all(link.gap is None for link in got[1]))
+    known = kind == "ok" and (gap or all(link.gap is None for link in got[1])) and (least or not g.least_fields(sheet))
     steps = got[0] if known else [p.OPEN] * rng.randint(0, 5)
+    leasts = None if not least else got[2] if known else [0] * len(steps)
     lists = []
     for _ in range(rng.choice([1, 2, 3])):
-        entries = random_list(rng, steps)
+        entries = random_list(rng, steps, leasts)
         if rng.random() < 0.15:                    # too short, or longer than need be
             entries = entries[:rng.randint(0, len(entries))]
         elif rng.random() < 0.15:
@@ -89,10 +109,10 @@ def row_lines(table: list[int], n: int) -> list[str]:
     return lines
 
 
-def record(rng: random.Random, sheet: bytes, gap: bool, verdicts: Counter) -> tuple[bytes, list[str]]:
+def record(rng: random.Random, sheet: bytes, gap: bool, least: bool, verdicts: Counter) -> tuple[bytes, list[str]]:
     """The bytes for a sheet, and the lines for it."""
     length = table_length(rng, sheet)
-    lists = lists_for(rng, sheet, gap)
+    lists = lists_for(rng, sheet, gap, least)
     data = two(len(sheet)) + sheet + two(length) + bytes([len(lists)])
     strict, free = p.judge(sheet, False), p.judge(sheet, True)
     maps, count, verdict = p.waits(sheet)
@@ -254,20 +274,92 @@ def largest_loose_sheets(rng: random.Random) -> list[bytes]:
     return full + [only_returns(rng), bare, chain_of_all(False), chain_of_all(True)]
 
 
+def full_least_sheet(rng: random.Random, wanted: p.Verdict) -> bytes:
+    """A sheet of N 64 and R 512 with loose steps, all leasts 65,535, and this verdict where waits are not allowed."""
+    while True:
+        draft = loose_draft(rng)
+        draft.leasts = [65535 if v and step is p.OPEN else 0 for v, step in enumerate(draft.steps)]
+        draft.return_part(0 if wanted == ("ok", 0) else 12)
+        fill_with_returns(draft)
+        sheet = whole_sheet(draft)
+        if len(draft.fields) == 512 and any(draft.leasts) and p.judge(sheet, False) == wanted:
+            return sheet
+
+
+def longest_least_sheets(rng: random.Random) -> list[bytes]:
+    """The longest sheets with leasts: one that is accepted, in which steps without links out of them are open, with a least;
+    and one with all steps open, leasts of 65,535 and every field in every record, all 65,535: 10."""
+    draft = g.Draft(rng, smallest=64)
+    pairs = rng.sample([(a, b) for a in range(64) for b in range(a + 1, 64)], 512)
+    draft.n, draft.steps, draft.leasts = 64, [p.OPEN] * 64, [0] + [65535] * 63
+    names = ("at_least", "at_most", "gap", "from_end")
+    draft.fields = {(draft.order[a], draft.order[b]): {"after": 1} | dict.fromkeys(names, 65535) for a, b in pairs}
+    accepted = bytearray(longest_sheet(rng, gap=True))
+    busy = {link.i for link in p.read(bytes(accepted))[1][1]}
+    for v in set(range(64)) - busy:
+        accepted[3 * v + 1] = 5                    # behind the 3 bytes of N and R, the one of step 0 and 3 of each other step
+    return [bytes(accepted), whole_sheet(draft)]
+
+
+def long_hands(gap: int, limit: int | None, last_open: bool = True) -> bytes:
+    """A chain of 63 open steps with leasts of 65,535, the last one fixed at times; gaps and limits from the end, if given."""
+    steps = b"\x01" + (b"\x05" + two(65535)) * 62 + (b"\x05" if last_open else b"\x02") + two(65535)
+    fields = two(gap) + (b"" if limit is None else two(limit))
+    bits = 9 if limit is None else 25
+    return bytes([64]) + two(63) + steps + b"".join(bytes([bits, v, v + 1]) + fields for v in range(63))
+
+
+def heaviest_before_least() -> bytes:
+    """The largest offset there can be, 8,191,875, on an open step with a least: a chain of fixed steps before it."""
+    steps = b"\x01" + (b"\x02" + two(65535)) * 62 + b"\x05" + two(65535)
+    return bytes([64]) + two(63) + steps + b"".join(bytes([9, v, v + 1]) + two(65535) for v in range(63))
+
+
+def each_waits() -> bytes:
+    """Open steps 1 to 62 with leasts of 65,535, and step 63 after each, 65,535 at most from the end of each, so that each waits
+    for each other one: 28."""
+    steps = b"\x01" + (b"\x05" + two(65535)) * 62 + b"\x00"
+    return bytes([64]) + two(62) + steps + b"".join(bytes([17, v, 63]) + two(65535) for v in range(1, 63))
+
+
+def hands_before(late: int) -> bytes:
+    """A chain of 63 - `late` open steps with leasts of 65,535, each at most 65,535 after the end of the one before, so that
+    returns of 131,070 add up; the last of them behind a chain of `late` fixed steps, each of 65,535 and a gap of 65,535."""
+    hands = 63 - late
+    steps = b"\x01" + (b"\x05" + two(65535)) * hands + (b"\x02" + two(65535)) * late
+    fixed = [0, *range(hands + 1, 64), hands] if late else []
+    links = {(v, v + 1): bytes([17, v, v + 1]) + two(65535) for v in range(1, hands)}
+    links |= {(i, j): bytes([9, i, j]) + two(65535) for i, j in zip(fixed, fixed[1:])}
+    return bytes([64]) + two(len(links)) + steps + b"".join(links[pair] for pair in sorted(links))
+
+
+def largest_least_sheets(rng: random.Random) -> list[bytes]:
+    """Sheets at the limits, with leasts: the longest, also a byte too long and too short; N 64 and R 512 without waits, with
+    waits, with waits that leave no times; chains of open steps, the last at 8,191,875 in the list of all leasts, with limits
+    from the ends that just hold, and just do not; the largest offset; and returns from the ends that add up."""
+    accepted, refused = longest_least_sheets(rng)
+    full = [full_least_sheet(rng, wanted) for wanted in (("ok", 0), ("refused", 12), ("refused", 28))]
+    hands = [long_hands(65535, None), long_hands(65535, None, False), long_hands(65535, 65535), long_hands(65535, 65534),
+             long_hands(0, 0)]
+    back = [each_waits()] + [hands_before(late) for late in (0, 1, 31, 62)]
+    return around(accepted) + [refused] + full + hands + [heaviest_before_least()] + back
+
+
 def make(seed: int, count: int, largest: bool, finish: bool = False, gap: bool = False,
-         loose: bool = False) -> tuple[bytes, str, Counter]:
+         loose: bool = False, least: bool = False) -> tuple[bytes, str, Counter]:
     """The input, what has to be printed, and how often each verdict is given."""
     rng = random.Random(seed)
+    loose = loose or least
     gap = gap or loose
-    at_limits = (largest_loose_sheets if loose else largest_gap_sheets if gap else
+    at_limits = (largest_least_sheets if least else largest_loose_sheets if loose else largest_gap_sheets if gap else
                  largest_finish_sheets if finish else largest_sheets)
-    sheets = (at_limits(rng) if largest else []) + g.generate(seed, count, finish, gap, loose)
+    sheets = (at_limits(rng) if largest else []) + g.generate(seed, count, finish, gap, loose, least)
     taken = LONGEST_SHEET + 1 if gap else 4802 if finish else 4095     # bytes; without gaps as the stored ones were taken
     verdicts: Counter = Counter()
     data, lines = [], []
     for sheet in sheets:
         if len(sheet) <= taken:
-            more, text = record(rng, sheet, gap, verdicts)
+            more, text = record(rng, sheet, gap, least, verdicts)
             data.append(more)
             lines += text
     return b"".join(data), "\n".join(lines) + "\n", verdicts
@@ -284,14 +376,17 @@ def main() -> None:
     words.add_argument("--finish", action="store_true")
     words.add_argument("--gap", action="store_true")
     words.add_argument("--loose", action="store_true")
+    words.add_argument("--least", action="store_true")
     words.add_argument("--and-finish", type=int, default=0, metavar="COUNT")
     words.add_argument("--and-gap", type=int, default=0, metavar="COUNT")
     words.add_argument("--and-loose", type=int, default=0, metavar="COUNT")
+    words.add_argument("--and-least", type=int, default=0, metavar="COUNT")
     asked = words.parse_args()
-    stdin, stdout, given = make(asked.seed, asked.count, asked.largest, asked.finish, asked.gap, asked.loose)
-    for count, gap, loose in ((asked.and_finish, False, False), (asked.and_gap, True, False), (asked.and_loose, True, True)):
+    stdin, stdout, given = make(asked.seed, asked.count, asked.largest, asked.finish, asked.gap, asked.loose, asked.least)
+    for count, *kinds in ((asked.and_finish, False, False, False), (asked.and_gap, True, False, False),
+                          (asked.and_loose, True, True, False), (asked.and_least, True, True, True)):
         if count:
-            more, lines, verdicts = make(asked.seed, count, asked.largest, True, gap, loose)
+            more, lines, verdicts = make(asked.seed, count, asked.largest, True, *kinds)
             stdin, stdout, given = stdin + more, stdout + lines, given + verdicts
     with open(asked.stdin, "wb") as file:
         file.write(stdin)

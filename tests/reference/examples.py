@@ -1,10 +1,15 @@
-"""The marked and unmarked examples of document 01 as tests, its order of refusals, and worked sheets of requests L1, L3 and L11."""
+"""The marked and unmarked examples of document 01 as tests, its order of refusals, and worked sheets of requests L1, L3, L6
+and L11."""
 from __future__ import annotations
+
+import random
 
 import container
 import planner as p
+import runs
 
 NO = p.UNDECIDED
+NONE = [0] * 64                # no least durations
 STAND = bytes.fromhex("05 05 00 01 02 03 00 01 02 02 00 02 01 00 01 00 01 01 00 02"
                       "01 01 04 01 02 03 05 03 04 02 00")
 STAND_TEXT = """verdict 0
@@ -19,11 +24,14 @@ start 4 2 2
 """
 
 
-def encode(steps: list[p.Step], records: dict[tuple[int, int], dict]) -> bytes:
-    """A sheet in bytes; records: pair -> any of after=True, at_least=m, at_most=u, gap=g, from_end=u."""
+def encode(steps: list[p.Step], records: dict[tuple[int, int], dict], leasts: dict[int, int] | None = None) -> bytes:
+    """A sheet in bytes; records: pair -> any of after=True, at_least=m, at_most=u, gap=g, from_end=u; leasts of open steps."""
     out = bytes([len(steps)]) + len(records).to_bytes(2, "little")
-    for step in steps:
-        out += b"\x01" if step is p.OPEN else b"\x02" + step.to_bytes(2, "little")
+    for v, step in enumerate(steps):
+        if leasts and v in leasts:
+            out += b"\x05" + leasts[v].to_bytes(2, "little")
+        else:
+            out += b"\x01" if step is p.OPEN else b"\x02" + step.to_bytes(2, "little")
     for (i, j), fields in sorted(records.items()):
         bits = (1 if fields.get("after") else 0) | (2 if "at_least" in fields else 0) \
             | (4 if "at_most" in fields else 0) | (8 if "gap" in fields else 0) | (16 if "from_end" in fields else 0)
@@ -77,7 +85,7 @@ def test_run() -> None:
     """Run of the stand sheet, and the runner's refusals in their order."""
     _, table = p.plan(STAND, True, [0] * 25)
     open_map = 1 | 1 << 2
-    verdict, state = p.begin(p.State(), 5, open_map, table)
+    verdict, state = p.begin(p.State(), 5, open_map, NONE, table)
     assert verdict == ("ok", 7)
     verdict, state = p.finish(state, 2, table)
     assert verdict == ("ok", 0)
@@ -88,10 +96,10 @@ def test_run() -> None:
     assert p.finish(state, 2, table) == (("refused", 17), state)
     for s in (0, 1, 3, 5, 64, 255):
         assert p.finish(state, s, table) == (("refused", 17), state)
-    assert p.begin(state, 65, 0, []) == (("refused", 16), state)
-    assert p.begin(p.State(), 65, 0, []) == (("refused", 2), p.State())
-    assert p.begin(p.State(), 0, 0, []) == (("refused", 2), p.State())
-    assert p.begin(p.State(), 5, 0, table[:24]) == (("refused", 14), p.State())
+    assert p.begin(state, 65, 0, [], []) == (("refused", 16), state)
+    assert p.begin(p.State(), 65, 0, [], []) == (("refused", 2), p.State())
+    assert p.begin(p.State(), 0, 0, [], []) == (("refused", 2), p.State())
+    assert p.begin(p.State(), 5, 0, NONE, table[:24]) == (("refused", 14), p.State())
     assert p.tick(p.State(), [])[0] == ("refused", 15)
     assert p.finish(p.State(), 9, [])[0] == ("refused", 15)
     late = p.replace(state, tick=p.LAST_TICK)
@@ -101,9 +109,9 @@ def test_run() -> None:
     for n in (0, 65):
         assert p.tick(p.replace(late, n=n), [])[0] == ("refused", 15)
     # A row that names none never starts; bit 0 of the open map counts for nothing.
-    assert p.begin(p.State(), 2, 0, [NO] * 4)[0] == ("ok", 1)
-    assert p.begin(p.State(), 1, 1, [NO])[0] == ("ok", 1)
-    assert p.finish(p.begin(p.State(), 1, 1, [NO])[1], 0, [NO])[0] == ("refused", 17)
+    assert p.begin(p.State(), 2, 0, NONE, [NO] * 4)[0] == ("ok", 1)
+    assert p.begin(p.State(), 1, 1, NONE, [NO])[0] == ("ok", 1)
+    assert p.finish(p.begin(p.State(), 1, 1, NONE, [NO])[1], 0, [NO])[0] == ("refused", 17)
 
 
 def test_limits() -> None:
@@ -145,7 +153,7 @@ def test_order() -> None:
     for bits in range(256):       # step 0, another step, a link record
         assert p.read(bytes([1, 0, 0, bits]))[0] == ("ok" if bits == 1 else "refused")
         assert p.read(bytes([2, 0, 0, 1, bits, 0, 0]))[1] == (
-            {0: 7, 1: 7}.get(bits, 4) if bits != 2 else ([None, 0], []))
+            {0: 7, 1: 7, 2: ([None, 0], [], [0, 0]), 5: ([None, None], [], [0, 0])}.get(bits, 4))
         expected = 1 if bits in (1, 2, 3, 4, 5, 6, 7, 9, 11, 13, 15, 17, 19, 21, 23, 25, 27, 29, 31) else \
             26 if bits in (16, 18, 20, 22) else 4
         assert p.read(bytes([2, 1, 0, 1, 0, bits])) == ("refused", expected)
@@ -280,7 +288,7 @@ def test_finish_known() -> None:
 def read_whole(bits: int, fields: list[int], record: p.Record) -> None:
     """A sheet of one record on (0, 1) with this map and these bytes is read so; a byte less is 1, one more 7."""
     whole = bytes([2, 1, 0, 1, 0, bits, 0, 1] + fields)
-    assert p.read(whole) == ("ok", ([None, 0], [record]))
+    assert p.read(whole) == ("ok", ([None, 0], [record], [0, 0]))
     for size in range(len(whole)):
         assert p.read(whole[:size]) == ("refused", 1)
     assert p.read(whole + b"\x00") == ("refused", 7)
@@ -315,7 +323,7 @@ def test_gap_accepted() -> None:
     assert p.standplan_text(LIP) == "verdict 0\nwaits 0\nstart 0 0 0\nstart 1 0 0\nstart 2 1 6\n"
     assert p.starts(LIP, False, [0, 7, 0], [1] * 4) == (("ok", 0), [0, 0, 13, 1])
     _, table = p.plan(LIP, False, [0] * 9)
-    verdict, state = p.begin(p.State(), 3, 3, table)
+    verdict, state = p.begin(p.State(), 3, 3, NONE, table)
     assert verdict == ("ok", 3)
     verdict, state = p.finish(state, 1, table)
     assert verdict == ("ok", 0)
@@ -403,8 +411,8 @@ LOOSE_CIRCLE = encode([None, None], {(1, 0): A})
 
 def loose(sheet: bytes) -> list[int]:
     """The steps of a sheet that an after link from 0 is put in for."""
-    steps, records = p.read(sheet)[1]
-    return p.loose_steps(len(steps), p.links_of(steps, records))
+    steps, records, leasts = p.read(sheet)[1]
+    return p.loose_steps(len(steps), p.links_of(steps, records, leasts))
 
 
 def test_loose_accepted() -> None:
@@ -485,6 +493,262 @@ def test_loose_bytes() -> None:
     """The bytes are judged as sent: the link put in stands for no bit 0."""
     assert p.judge(bytes([2, 1, 0, 1, 0, 0x10, 0, 1, 4, 0]), True) == ("refused", 26)
     assert p.judge(bytes([2, 1, 0, 1, 0, 0x08, 0, 1, 4, 0]), True) == ("refused", 4)
+
+
+# Request L6. The stand sheet, its hand, step 2, of at least eight ticks.
+HAND = bytes.fromhex("05 05 00 01 02 03 00 05 08 00 02 02 00 02 01 00 01 00 01 01 00 02"
+                     "01 01 04 01 02 03 05 03 04 02 00")
+
+
+def offsets(sheet: bytes, v: int) -> dict[int, int]:
+    """The offsets of v for all of its start set."""
+    return p.accept(sheet, True).offsets[v]
+
+
+def test_least_accepted() -> None:
+    """A hand of at least eight ticks; the offset counts from its end, walks through it take the eight ticks."""
+    assert p.read(HAND)[1][2] == [0, 0, 8, 0, 0] and p.judge(HAND, False) == ("ok", 0)
+    # Glass down not before tick 8, so exposure at 10 or later: the lamps' 3 no longer count.
+    assert p.standplan_text(HAND) == "verdict 0\nwaits 0\n" + "".join(
+        f"start {line}\n" for line in ("0 0 0", "1 0 0", "2 0 0", "3 2 0", "4 2 2"))
+    assert offsets(HAND, 3) == {0: 8, 2: 0} and offsets(HAND, 4) == {0: 10, 2: 2}
+    assert p.starts(HAND, False, [0, 0, 10, 0, 0], [1] * 7) == (("ok", 0), [0, 0, 0, 10, 12, 1, 1])
+    assert p.starts(HAND, False, [0, 0, 8, 0, 0], [1] * 5) == (("ok", 0), [0, 0, 0, 8, 10])
+    assert p.starts(HAND, False, [0, 0, 7, 0, 0], [1] * 5) == (("refused", 13), [1] * 5)
+    # At a least of 1 the hand reaches the lamps, at 0 it does not.
+    for least, lines in ((0, {0: 1, 2: 0}), (1, {2: 0}), (2, {2: 0})):
+        sheet = HAND[:8] + bytes([least, 0]) + HAND[10:]
+        assert start_lines(sheet, 3) == lines
+    assert p.standplan_text(HAND[:8] + b"\x00\x00" + HAND[10:]) == STAND_TEXT
+    # The lip: six ticks after the end of the hand, whatever its least.
+    lip = encode([None, None, 0], {(0, 1): A, (1, 2): gap(6)}, {1: 8})
+    assert start_lines(lip, 2) == {1: 6} and offsets(lip, 2) == {0: 14, 1: 6}
+    # Two hands in a row: from the end of the first, the least of the second alone.
+    row = encode([None, None, None, 0], {(1, 2): gap(1), (2, 3): gap(2)}, {1: 30, 2: 400})
+    assert offsets(row, 3) == {0: 433, 1: 403, 2: 2} and offsets(row, 2) == {0: 31, 1: 1} and start_lines(row, 3) == {2: 2}
+    # An at least counts from the start of the hand, without its least.
+    assert offsets(encode([None, None, 0], {(1, 2): {"at_least": 4}}, {1: 8}), 2) == {0: 4}
+
+
+def test_least_deciding() -> None:
+    """The least of b is added before the sums are compared."""
+    for least, lines in ((0, {0: 10, 1: 0}), (9, {0: 10, 1: 0}), (10, {1: 0}), (11, {1: 0})):
+        assert start_lines(encode([None, None, 0], {(0, 1): A, (1, 2): A | {"at_least": 10}}, {1: least}), 2) == lines
+    # With a gap, that and the least are to reach it.
+    for least, lines in ((3, {0: 10, 1: 6}), (4, {1: 6})):
+        assert start_lines(encode([None, None, 0], {(0, 1): A, (1, 2): gap(6) | {"at_least": 10}}, {1: least}), 2) == lines
+    # The wrong reading's sheet: 1 at 10, 1 to 2 at 0, 2 at 0. The least of 1 counts for nothing here, that of 2 does.
+    links = {(0, 1): A, (1, 2): A, (1, 3): A, (2, 4): A, (3, 4): A}
+    for leasts, lines in (({2: 9}, {1: 10, 2: 0}), ({2: 10}, {2: 0}), ({1: 50}, {1: 10, 2: 0}), ({1: 50, 2: 10}, {2: 0})):
+        assert start_lines(encode([None, None, None, 10, 0], links, leasts), 4) == lines
+
+
+def test_least_impossible() -> None:
+    """11 becomes 10 once the least alone is above the limit; from the end of the hand itself it makes room instead."""
+    for least, number in ((0, 11), (9, 11), (10, 10), (65535, 10)):
+        assert refused_everywhere(encode([None, None, 0], {(0, 1): A, (1, 2): A | {"at_most": 9}}, {1: least}), number)
+    for least, number in ((3, 11), (4, 10)):
+        assert refused_everywhere(encode([None, None, 0], {(0, 1): A, (1, 2): gap(6) | {"at_most": 9}}, {1: least}), number)
+        assert refused_everywhere(encode([None, None, 0], {(0, 2): A | {"from_end": 9}, (1, 2): gap(6)}, {1: least}), number)
+    # A second hand between the first and exposure, which has nine ticks from the end of the first.
+    for least, number in ((9, 11), (10, 10)):
+        sheet = encode([None, None, None, 0], {(1, 2): A, (1, 3): A | {"from_end": 9}, (2, 3): A}, {1: 77, 2: least})
+        assert refused_everywhere(sheet, number)
+    # A gap above the limit from the end of the same hand is 10, whatever its least.
+    for least in (0, 1, 65535):
+        assert refused_everywhere(encode([None, None, 0], {(1, 2): gap(7) | {"from_end": 6}}, {1: least}), 10)
+        assert p.judge(encode([None, None, 0], {(1, 2): gap(6) | {"from_end": 6}}, {1: least}), False) == ("ok", 0)
+
+
+def test_least_finish() -> None:
+    """A return from the end of a hand weighs its least too."""
+    # Exposure at least 6 after the start of the hand, at most 5 after its end: the hand has to last 1.
+    for least in (0, 1, 2):
+        sheet = encode([None, None, 0], {(0, 1): A, (1, 2): A | {"at_least": 6, "from_end": 5}}, {1: least})
+        assert refused_everywhere(sheet, 10) if least == 0 else start_lines(sheet, 2) == {0: 6, 1: 0}
+    # Exposure not before tick 10, at most 5 after the hand is done: the longer the least, the earlier the hand.
+    for least, start in ((0, 5), (3, 2), (4, 1), (5, 0), (8, 0), (10, 0), (11, 0)):
+        sheet = encode([None, None, 0], {(0, 1): A, (0, 2): {"at_least": 10}, (1, 2): A | {"from_end": 5}}, {1: least})
+        assert p.judge(sheet, False) == ("ok", 0) and start_lines(sheet, 1) == {0: start}
+        assert start_lines(sheet, 2) == ({1: 0} if least >= 10 else {0: 10, 1: 0})
+        assert p.starts(sheet, False, [0, least, 0], [0] * 3)[1] == [0, start, max(10, start + least)]
+        assert p.starts(sheet, False, [0, 12, 0], [0] * 3)[1] == [0, start, start + 12]
+    # From the end of another hand the return is taken with the least of the step it leads to, not of the one it counts from.
+    other = encode([None, None, None, 0, 0], {(0, 1): A, (0, 2): A, (1, 4): A, (2, 3): A | {"from_end": 1},
+                                              (4, 3): {"at_least": 5}}, {1: 90, 2: 3})
+    assert p.waits(other) == ([0, 0, 2] + [0] * 61, 1, ("ok", 1))
+    assert start_lines(other, 2) == {1: 1} and start_lines(other, 3) == {1: 5, 2: 0}
+    assert offsets(other, 2) == {0: 91, 1: 1}
+
+
+def test_least_waits() -> None:
+    """A wait is an after link without a gap: behind the first link of a walk it weighs the least."""
+    hands = encode([None, None, None, 0], {(0, 1): A, (0, 2): A, (1, 3): A | {"from_end": 4}, (2, 3): A}, {1: 5, 2: 7})
+    assert p.standplan_text(hands) == p.standplan_text(HAND_WAITS)
+    assert offsets(hands, 1) == {0: 7, 2: 0} and offsets(hands, 3) == {0: 12, 1: 0, 2: 5}
+    assert p.judge(hands, False) == ("refused", 12)
+    assert p.starts(hands, True, [0, 5, 7, 0], [0] * 4) == (("ok", 1), [0, 7, 0, 12])
+    assert p.starts(hands, True, [0, 4, 7, 0], [2] * 4) == (("refused", 13), [2] * 4)
+    assert p.starts(hands, False, [0, 4, 7, 0], [2] * 4) == (("refused", 12), [2] * 4)
+
+
+def needs_least(least: int) -> bytes:
+    """3 and hand 2 wait for hand 1. 4 comes 7 after 3, so 7 after the end of hand 1, but at most 1 after that of hand 2, which
+    so starts 6 less its least after the end of hand 1; 5 comes 1 after that start, but at most 3 after the end of hand 1."""
+    return encode([None, None, None, 0, 0, 0], {
+        (1, 5): A | {"from_end": 3}, (2, 4): A | {"from_end": 1}, (2, 5): {"at_least": 1},
+        (3, 4): {"at_least": 7}, (3, 5): {"at_most": 20}}, {2: least})
+
+
+def test_least_28() -> None:
+    """Waits that leave no start times with each open step at its least, but do with a greater least."""
+    for least in (0, 3):
+        assert refused_everywhere(needs_least(least), 28)
+    for least in (4, 5, 9):
+        assert p.waits(needs_least(least)) == ([0, 0, 2, 2] + [0] * 60, 2, ("ok", 1))
+    assert start_lines(needs_least(4), 2) == {1: 2} and start_lines(needs_least(4), 4) == {1: 7, 2: 0}
+    assert start_lines(needs_least(4), 5) == {1: 3} and start_lines(needs_least(9), 5) == {1: 1}
+    assert start_lines(needs_least(9), 2) == {1: 0} and start_lines(needs_least(9), 4) == {2: 0}
+    # The least of hand 1, whose end all else counts from, changes nothing.
+    assert refused_everywhere(needs_least(3)[:4] + b"\x05\x09\x00" + needs_least(3)[5:], 28)
+    # A circle of waits and forward links is 28, whatever the leasts.
+    for leasts in ({}, {1: 9}, {1: 9, 2: 9}):
+        assert refused_everywhere(encode([None, None, None, 0], {
+            (0, 1): A, (0, 2): A, (1, 3): A | {"from_end": 4}, (2, 3): A | {"from_end": 4}}, leasts), 28)
+
+
+def test_least_bytes() -> None:
+    """Bit 2 of a step map, misplaced: 4, also where the bytes end behind it; its field, cut off: 1."""
+    for bits in (4, 6, 7, 0x0d, 0x15, 0x25, 0x45, 0x85):
+        for rest in (b"", b"\x08", b"\x08\x00", b"\x08\x00\x08\x00"):
+            assert p.read(bytes([2, 0, 0, 1, bits]) + rest) == ("refused", 4)
+    for bits in (4, 5, 6, 7):
+        for rest in (b"", b"\x08", b"\x08\x00", b"\x08\x00\x00"):
+            assert p.read(bytes([2, 0, 0, bits]) + rest) == ("refused", 4)
+    whole = bytes([2, 0, 0, 1, 5, 8, 1])
+    assert p.read(whole) == ("ok", ([None, None], [], [0, 264]))
+    for size in range(len(whole)):
+        assert p.read(whole[:size]) == ("refused", 1)
+    assert p.read(whole + b"\x00") == ("refused", 7)
+    # A map that is not allowed comes before the end of the bytes, and a field cut off before a later map.
+    assert p.read(bytes([3, 0, 0, 1, 5, 8, 1, 6])) == ("refused", 4)
+    assert p.read(bytes([3, 0, 0, 1, 5, 6])) == ("refused", 1)
+    assert p.read(bytes([3, 0, 0, 1, 5, 255, 255, 5, 0, 0])) == ("ok", ([None] * 3, [], [0, 65535, 0]))
+
+
+def test_least_lists() -> None:
+    """Entries below their least are 13, if they are there; exactly at it they are taken."""
+    one = encode([None, None, 7, None], {(0, 1): A, (1, 2): A}, {1: 8, 3: 65535})
+    assert p.starts(one, False, [0, 8, 0, 65535], [9] * 4) == (("ok", 0), [0, 0, 8, 0])
+    assert p.starts(one, False, [0, p.LONGEST, 0, p.LONGEST], [9] * 4) == (("ok", 0), [0, 0, p.LONGEST, 0])
+    for wrong in ([0, 7, 0, 65535], [0, 0, 0, 65535], [0, 8, 0, 65534], [0, 8, 1, 65535], [1, 8, 0, 65535],
+                  [0, p.LONGEST + 1, 0, 65535], [0, 7], [0, 8, 0, 0], [0] * 4):
+        assert p.starts(one, False, wrong, [9] * 4) == (("refused", 13), [9] * 4)
+        assert p.starts(one, False, wrong, [9]) == (("refused", 13), [9])
+    for short in ([], [0], [0, 8], [0, 8, 0]):
+        assert p.starts(one, False, short, [9] * 4) == (("refused", 14), [9] * 4)
+    assert p.starts(one, False, [0, 8, 0, 65535], [9] * 3) == (("refused", 14), [9] * 3)
+    assert p.starts(one, False, [0, 8, 0, 65535, 3], [9] * 5) == (("ok", 0), [0, 0, 8, 0, 9])
+
+
+def test_least_run() -> None:
+    """Run of the stand sheet with a hand of at least eight ticks: 20 before tick 8."""
+    _, table = p.plan(HAND, False, [0] * 25)
+    leasts = [0, 0, 8, 0, 0]
+    verdict, state = p.begin(p.State(), 5, 5, leasts, table)
+    assert verdict == ("ok", 7) and state.least == tuple(leasts) + (0,) * 59
+    for now in range(8):
+        assert state.tick == now and p.finish(state, 2, table) == (("refused", 20), state)
+        verdict, state = p.tick(state, table)
+        assert verdict == ("ok", 0)
+    # 15, 14 and 17 come before 20.
+    early = p.replace(state, tick=7)
+    assert p.finish(p.replace(early, started=6), 2, table)[0] == ("refused", 15)
+    assert p.finish(early, 2, table[:24])[0] == ("refused", 14)
+    for s in (0, 1, 3, 5, 64):
+        held = p.replace(early, least=(99,) * 64)
+        assert p.finish(held, s, table) == (("refused", 17), held)
+    ended = p.replace(early, finished=5)
+    assert p.finish(ended, 2, table) == (("refused", 17), ended)
+    assert p.finish(early, 2, table) == (("refused", 20), early)
+    # Exactly at the least, at tick 8, it is done: 3 starts at once, 4 two ticks later.
+    verdict, state = p.finish(state, 2, table)
+    assert verdict == ("ok", 8) and state.finish[2] == 8
+    assert p.finish(state, 2, table) == (("refused", 17), state)
+    for expected in (0, 16):
+        verdict, state = p.tick(state, table)
+        assert verdict == ("ok", expected)
+    assert list(state.start[:5]) == p.starts(HAND, False, leasts, [0] * 5)[1] == [0, 0, 0, 8, 10]
+
+
+def test_least_begin() -> None:
+    """Begin: 16, 2, 14, a short list of leasts too; the first N are kept as given, and 0 past these."""
+    table = [0, NO, 0, NO]
+    new = p.State()
+    for lent in (table, table[:3]):
+        for leasts in ([], [1]):
+            assert p.begin(new, 2, 3, leasts, lent) == (("refused", 14), new)
+            assert p.begin(new, 65, 3, leasts, lent) == (("refused", 2), new)
+            begun = p.replace(new, started=1)
+            assert p.begin(begun, 65, 3, leasts, lent) == (("refused", 16), begun)
+    assert p.begin(new, 2, 3, [1, 2], table[:3]) == (("refused", 14), new)
+    # All is set anew: nothing stays of the state lent, the list's further numbers are not looked at.
+    old = p.State(n=9, open=9, tick=9, started=8, finished=9, start=(9,) * 64, finish=(9,) * 64, least=(9,) * 64)
+    for leasts in ([7, 65535], [7, 65535, 3, 3]):
+        verdict, state = p.begin(old, 2, 2, leasts, table)
+        assert verdict == ("ok", 3)
+        assert state == p.State(n=2, open=2, started=3, finished=1, least=(7, 65535) + (0,) * 62)
+    verdict, state = p.begin(new, 64, 2 ** 64 - 1, [5] * 64, [NO] * 4096)
+    assert verdict == ("ok", 1) and state.least == (5,) * 64
+
+
+def test_least_ticks() -> None:
+    """Start tick and least do not wrap, in states from anywhere."""
+    table = [0, NO, 0, NO]
+    for start, least, now, number in (
+            (0, 65535, 65534, 20), (0, 65535, 65535, 0), (p.LAST_TICK, 0, p.LAST_TICK, 0), (p.LAST_TICK, 1, p.LAST_TICK, 20),
+            (p.LAST_TICK, 1, 0, 20), (p.LAST_TICK, 65535, 65534, 20), (p.LAST_TICK - 65535, 65535, p.LAST_TICK, 0),
+            (p.LAST_TICK - 65534, 65535, p.LAST_TICK, 20), (9, 0, 8, 20), (9, 0, 9, 0)):
+        state = p.State(n=2, open=2, tick=now, started=3, finished=1, start=(0, start) + (0,) * 62, least=(0, least) + (0,) * 62)
+        verdict, after = p.finish(state, 1, table)
+        assert verdict == (("refused", number) if number else ("ok", 0))
+        assert after == (state if number else p.replace(state, finished=3, finish=(0, now) + (0,) * 62))
+
+
+def test_least_limits() -> None:
+    """The longest sheets, the largest offset and start, and the largest returns."""
+    rng = random.Random(1)
+    for sheet in container.longest_least_sheets(rng):
+        assert len(sheet) == container.LONGEST_SHEET and sheet[0] == 64 and 5 in sheet[4:4 + 3 * 63:3]
+    chain = container.long_hands(65535, None)
+    assert p.read(chain)[1][2] == [0] + [65535] * 63
+    assert offsets(chain, 63)[0] == 8_191_875 and start_lines(chain, 63) == {62: 65535}
+    assert p.starts(chain, False, [0] + [65535] * 63, [0] * 64)[1][63] == 8_191_875
+    assert start_lines(container.heaviest_before_least(), 63) == {0: 8_191_875}
+    assert p.judge(container.long_hands(65535, 65535), False) == ("ok", 0)
+    assert refused_everywhere(container.long_hands(65535, 65534), 10)
+    # The last hand at 31 x 131,070 + 65,535 or later, those before it 131,070 earlier each, none before 0.
+    hands = container.hands_before(31)
+    assert [start_lines(hands, v)[0] for v in (32, 31, 2, 1)] == [4_128_705, 3_997_635, 196_605, 65_535]
+    assert refused_everywhere(container.each_waits(), 28)
+
+
+def test_random_runs() -> None:
+    """Random runs: begun with the sheet's own, wrong calls change nothing, and every refusal of the runner is met."""
+    rng = random.Random(1)
+    met = set()
+    for sheet in (HAND, STAND, LIP, HAND_WAITS, needs_least(4), container.long_hands(3, None)) * 20:
+        run = runs.random_run(rng, sheet)
+        state = p.State()
+        for call in run.calls:
+            before = state if call.given is None else call.given
+            assert runs.answer(before, call, run.table) == (call.verdict, call.state)
+            state = call.state
+            if call.verdict[0] == "refused":
+                assert state == before
+                met.add((call.name, call.verdict[1]))
+    assert met >= {("begin", 16), ("begin", 2), ("begin", 14), ("tick", 15), ("tick", 14), ("tick", 18),
+                   ("finish", 15), ("finish", 14), ("finish", 17), ("finish", 20)}
 
 
 if __name__ == "__main__":

@@ -1,12 +1,13 @@
 """Random sheets of all sizes and verdicts.
 
-    python3 generate.py SEED COUNT FILE [--finish | --gap | --loose] [--stats]
+    python3 generate.py SEED COUNT FILE [--finish | --gap | --loose | --least] [--stats]
 
 FILE holds, for each sheet, two bytes of length, low byte first, then its bytes.
 With --finish, sheets have limits from the end of a step (bit 4, request L11);
 with --gap, they have gaps too (bit 3, request L1); with --loose, they also leave out
-the forward links into some steps (request L3). Without these words, and with each of
-them, a seed draws the same sheets as before there were any of the kinds that came later.
+the forward links into some steps (request L3); with --least, they also have least
+durations (step map bit 2, request L6). Without these words, and with each of them, a
+seed draws the same sheets as before there were any of the kinds that came later.
 The planner is used only to aim (which pairs to link, how tight a limit is).
 """
 from __future__ import annotations
@@ -26,6 +27,9 @@ FINISH_AIMS = [0] * 6 + [12] * 6 + [28] * 2 + [-28] * 3 + [1, 4, 4, 5, 6, 7, 8, 
 GAP_AIMS = FINISH_AIMS + [-28] * 3 + [1, 4, 4, 10, 10]
 # The same for sheets with loose steps as well; the bytes are judged as before, so few aim at their faults.
 LOOSE_AIMS = [0] * 6 + [12] * 6 + [28] * 2 + [-28] * 2 + [8] * 3 + [10] * 6 + [11] * 5 + [4, 26, -1, -1]
+# The same for sheets with least durations as well. A least never makes a sheet 10 or 28 that is accepted without it: the circle
+# would lead from the end of the step back to the step, 11. It makes 10 of 11 and, by a return from the end, none of 10 and 28.
+LEAST_AIMS = [0] * 8 + [12] * 7 + [28] * 2 + [-28] * 5 + [8] + [10] * 7 + [11] * 5 + [1, 1, 4, 4, 4, 26, -1, -1]
 
 
 def heaviest_walks(n: int, links: list[p.Link]) -> list[list[int | None]]:
@@ -58,11 +62,13 @@ def heaviest_walks(n: int, links: list[p.Link]) -> list[list[int | None]]:
 class Draft:
     """A sheet being made: steps, and fields by pair (a subset of after, at_least, at_most, gap, from_end)."""
 
-    def __init__(self, rng: random.Random, smallest: int, finish: bool = False, gap: bool = False, loose: bool = False) -> None:
+    def __init__(self, rng: random.Random, smallest: int, finish: bool = False, gap: bool = False, loose: bool = False,
+                 least: bool = False) -> None:
         self.rng = rng
         self.finish = finish                       # with limits from the end of a step
         self.gap = gap                             # with gaps
         self.loose = loose                         # with loose steps
+        self.least = least                         # with least durations
         self.n = rng.choice([rng.randint(1, 5), rng.randint(2, 8), rng.randint(4, 12),
                              rng.randint(4, 12), rng.randint(9, 24), rng.randint(25, 64),
                              rng.choice([60, 61, 62, 63, 64, 64])])
@@ -75,6 +81,18 @@ class Draft:
             p.OPEN if rng.random() < share else self.number() for _ in range(self.n - 1)]
         self.order = [0] + rng.sample(range(1, self.n), self.n - 1)
         self.fields: dict[tuple[int, int], dict[str, int]] = {}
+        self.leasts = [0] * self.n                 # 0 for step 0 and fixed steps
+        if least:
+            self.draw_leasts()
+
+    def draw_leasts(self) -> None:
+        """Least durations for some or all of the open steps; at times all the same, or the largest there is."""
+        share = self.rng.choice([0.3, 0.7, 1.0])
+        top = self.rng.choice([self.top] * 6 + [3, 8, 65535])
+        same = self.rng.choice([None] * 6 + [8, top, 65535])
+        for a in p.open_steps(self.steps):
+            if self.rng.random() < share:
+                self.leasts[a] = same if same is not None else self.rng.choice([1, top, self.rng.randint(0, top)])
 
     def number(self) -> int:
         """A duration or distance; often 0 or at the top, so that sums tie."""
@@ -110,7 +128,12 @@ class Draft:
 
     def plain_links(self) -> list[p.Link]:
         """The links of the records alone."""
-        return p.links_of(self.steps, self.records())
+        return p.links_of(self.steps, self.records(), self.leasts)
+
+    def whole_links(self) -> list[p.Link]:
+        """The links with the waits in."""
+        links = self.links()
+        return links + p.wait_links(p.waits_of(self.steps, links), self.leasts)
 
     def forward_part(self, aim: int) -> None:
         """Forward links that close no circle and reach every step; wide for aim 12."""
@@ -127,7 +150,7 @@ class Draft:
                     self.put(self.order[a], self.order[b], **self.some_forward())
 
     def base(self) -> list[int]:
-        """Start times that keep the forward links at open durations 0, some later than needed."""
+        """Start times that keep the forward links with each open step at its least, some later than needed."""
         start = [0] * self.n
         slack = self.rng.choice([0, 0, self.top])
         incoming: dict[int, list[p.Link]] = {}
@@ -169,7 +192,7 @@ class Draft:
             if self.finish and self.rng.random() < 0.7:
                 i, j = self.after_pair(sets, aim)
                 name, own = "from_end", 1 << i if i and self.steps[i] is p.OPEN else 0
-                least = max(0, start[j] - start[i] - (self.steps[i] or 0)) if (i, j) != (0, 0) else 65536
+                least = max(0, start[j] - start[i] - (self.steps[i] or self.leasts[i])) if (i, j) != (0, 0) else 65536
             limit = least + self.rng.choice([0, 0, self.rng.randint(0, self.top)])
             makes_wait = sets[j] & ~sets[i] & ~own != 0
             if limit > 65535 or (aim == 0 and makes_wait):
@@ -240,7 +263,8 @@ class Draft:
             best = heaviest_walks(self.n, self.links())
             for i, j in ((a, x), (b, y)):
                 if "after" in self.fields.get((i, j), {}):
-                    self.put(i, j, from_end=min(65535, best[i][j] + self.rng.choice([0, self.rng.randint(0, self.top)])))
+                    limit = best[i][j] + self.rng.choice([0, self.rng.randint(0, self.top)])
+                    self.put(i, j, from_end=min(65535, max(0, limit - self.leasts[i])))
 
     def late(self) -> None:
         """Aim at 28 without a circle: i has to wait for a, but j comes too long after i for its limit from the end of a.
@@ -257,7 +281,7 @@ class Draft:
             best = heaviest_walks(self.n, self.links())
             if "after" not in self.fields.get((a, j), {}):         # no room for more records
                 return
-            limit = best[a][j] + self.rng.choice([0, self.rng.randint(0, self.top)])
+            limit = max(0, best[a][j] + self.rng.choice([0, self.rng.randint(0, self.top)]) - self.leasts[a])
             more = limit + self.rng.choice([1, self.rng.randint(1, self.top)])
             if max(limit, more) <= 65535:
                 if self.gap and self.steps[i] is not p.OPEN and more >= self.steps[i]:
@@ -270,21 +294,78 @@ class Draft:
                     self.put(i, q, **self.after())
                     from_end = "after" in self.fields.get((i, q), {})
                 best = heaviest_walks(self.n, self.links())
-                limit = max(0, best[i][q] or 0) + self.rng.choice([0, self.rng.randint(0, self.top)])
+                limit = max(0, (best[i][q] or 0) - (self.leasts[i] if from_end else 0))
+                limit += self.rng.choice([0, self.rng.randint(0, self.top)])
                 self.put(i, q, **{"from_end" if from_end else "at_most": min(limit, 65535)})
 
     def tight_gap(self, with_waits: bool) -> None:
         """Aim at 10, or with the waits in at 28: a gap one above what the returns leave room for (at times just that)."""
-        links = self.links()
-        if with_waits:
-            links += [p.Link(a, i, 0, "after") for a, i in p.waits_of(self.steps, links)]
-        best = heaviest_walks(self.n, links)
-        rooms = {(i, j): -best[j][i] - (self.steps[i] or 0) for (i, j), fields in self.fields.items()
+        best = heaviest_walks(self.n, self.whole_links() if with_waits else self.links())
+        rooms = {(i, j): -best[j][i] - (self.steps[i] or self.leasts[i]) for (i, j), fields in self.fields.items()
                  if "after" in fields and best[j][i] is not None}
         pairs = [pair for pair, room in rooms.items() if 0 <= room < 65535]
         if pairs:
             i, j = self.rng.choice(pairs)
             self.put(i, j, gap=rooms[i, j] + self.rng.choice([0, 1, 1]))
+
+    def at_edge(self, with_waits: bool) -> None:
+        """Move the least of some open step to where it decides, with the waits in or as sent, whether there are start times:
+        the last least on one side or the first on the other. Nothing, if that is soon found for none."""
+        def none_with(a: int, least: int) -> bool:
+            self.leasts[a] = least
+            return p.no_times(self.n, self.whole_links() if with_waits else self.links())
+
+        ends = {i for (i, _), fields in self.fields.items() if "from_end" in fields}
+        opens = p.open_steps(self.steps)
+        self.rng.shuffle(opens)
+        for a in sorted(opens, key=lambda a: a not in ends)[:6]:
+            before = self.leasts[a]
+            low, high = 0, 65535
+            first = none_with(a, low)
+            if first != none_with(a, high):
+                while high - low > 1:
+                    middle = (low + high) // 2
+                    low, high = (middle, high) if none_with(a, middle) == first else (low, middle)
+                self.leasts[a] = self.rng.choice([low, high])
+                return
+            self.leasts[a] = before
+
+    def tie(self) -> None:
+        """An at least from 0 on some step that what comes after the end of an open step at its least just reaches, or just
+        does not."""
+        links = self.links()
+        for _ in range(self.rng.choice([1, 1, 3])):
+            a = self.rng.choice(p.open_steps(self.steps) or [0])
+            known = p.heaviest_from(self.n, links, {0: 0}) if a else None
+            best = p.heaviest_from(self.n, p.from_the_end(links, a), p.after_targets(links, a)) if known else None
+            ahead = [] if best is None else sorted(p.reached(p.forward(links), p.after_targets(links, a)) - {0, a})
+            if ahead:
+                v = self.rng.choice(ahead)
+                least = known[a] + self.leasts[a] + best[v] + self.rng.choice([-1, 0, 0, 1, 1])
+                if 0 <= least <= 65535:
+                    self.put(0, v, at_least=least)
+
+    def late_by_least(self) -> None:
+        """Aim at 28 without a circle, by a least: i and a have to wait for c; j comes so long after i and, as it has a limit
+        from the end of a, a so long before it, then y after a, but with a limit from the end of c. From its
+        edge on, the least of a leaves times."""
+        if self.n < 6:
+            return
+        c, a, i, j, y = self.rng.sample(range(1, self.n), 5)
+        self.fields = {pair: fields for pair, fields in self.fields.items() if not {c, a, i, j, y} & set(pair)}
+        for v in (c, a):
+            if self.steps[v] is not p.OPEN:
+                self.steps[v] = p.OPEN
+                self.leasts[v] = self.number()
+        if self.steps[i] is p.OPEN:
+            self.steps[i], self.leasts[i] = self.number(), 0
+        from_a, behind, room, edge = (self.rng.randint(0, min(self.top, 10000)) for _ in range(4))
+        from_c, more = behind + room, from_a + room + edge
+        self.put(c, y, after=1, from_end=from_c)
+        self.put(a, j, after=1, from_end=from_a)
+        self.put(i, j, at_least=more)
+        self.put(a, y, at_least=behind)
+        self.put(i, y, at_most=min(65535, more + behind + self.rng.choice([0, self.rng.randint(0, self.top)])))
 
     def circle(self) -> None:
         """Aim at 8: a forward link back along the order."""
@@ -392,7 +473,7 @@ class Draft:
             if self.finish and self.rng.random() < 0.8:
                 if self.rng.random() < 0.7:        # of an open step, if there is one
                     i, j = self.rng.choice([(u, v) for u, v in pairs if u and self.steps[u] is p.OPEN] or pairs)
-                limit = best[i][j] - (self.steps[i] or 0) - self.rng.choice([0, 1, 1, 1])
+                limit = best[i][j] - (self.steps[i] or self.leasts[i]) - self.rng.choice([0, 1, 1, 1])
                 self.put(i, j, after=1, from_end=min(max(limit, 0), 65535))    # both or none
                 return
             self.put(i, j, at_most=min(limit, 65535))
@@ -430,8 +511,10 @@ class Draft:
     def pieces(self) -> tuple[list[bytes], list[bytes]]:
         """The step records and the link records in bytes."""
         steps = []
-        for step in self.steps:
-            if step is p.OPEN:
+        for v, step in enumerate(self.steps):
+            if step is p.OPEN and (self.leasts[v] or self.least and v and self.rng.random() < 0.2):
+                steps.append(b"\x05" + self.leasts[v].to_bytes(2, "little"))
+            elif step is p.OPEN:
                 steps.append(b"\x01")
             elif step == 0 and self.rng.random() < 0.7:
                 steps.append(b"\x00")
@@ -449,10 +532,11 @@ def record_bytes(record: p.Record) -> bytes:
 
 
 def spoil(rng: random.Random, fault: int, n: int, r: int, steps: list[bytes], records: list[bytes],
-          finish: bool = False, gap: bool = False) -> tuple[int, int]:
+          finish: bool = False, gap: bool = False, least: bool = False) -> tuple[int, int]:
     """Work a fault 2 to 6 or 26 into the pieces of a sheet; N and R as they are then written.
 
-    Of the maps for 4, those with bits 0 and 3 were wrong before there were gaps; now they shift the fields.
+    Of the maps for 4, those with bits 0 and 3 were wrong before there were gaps; now they shift the fields. So does the
+    map 5 of a step since there are least durations.
     """
     at = rng.randrange(len(records)) if records else 0
     if fault == 2:
@@ -463,6 +547,9 @@ def spoil(rng: random.Random, fault: int, n: int, r: int, steps: list[bytes], re
         v = rng.choice([0, rng.randrange(len(steps))])
         bad = rng.choice([3, 4, 5, 6, 128, rng.randint(3, 255)])
         steps[v] = bytes([rng.choice([0, 2, bad]) if v == 0 else bad]) + steps[v][1:]
+        if least and rng.random() < 0.8:           # a least on step 0, without bit 0, beside bit 1 or an unknown bit
+            bits = rng.choice([5, 5, 4, 7] if v == 0 else [4, 6, 7, 0x0d, 0x85])
+            steps[v] = bytes([bits]) + (steps[v][1:] or two_or_none(rng))
     elif fault == 4:
         records[at] = bytes([rng.choice([0, 8, 9, 255, rng.randint(8, 255)])]) + records[at][1:]
         if finish and rng.random() < 0.5:
@@ -492,6 +579,20 @@ def spoil(rng: random.Random, fault: int, n: int, r: int, steps: list[bytes], re
     return n, r
 
 
+def two_or_none(rng: random.Random) -> bytes:
+    """Two bytes, as if they were a field, or none."""
+    return rng.choice([b"", rng.randbytes(2)])
+
+
+def cut_in_least(rng: random.Random, steps: list[bytes]) -> list[bytes]:
+    """The step records up to the least of some step, with none or one of its bytes; all, if no step has one."""
+    with_least = [at for at, step in enumerate(steps) if step[0] == 5]
+    if not with_least:
+        return steps
+    at = rng.choice(with_least)
+    return steps[:at] + [steps[at][:1 + rng.choice([0, 1])]]
+
+
 def cut_in_gap(rng: random.Random, records: list[bytes]) -> list[bytes]:
     """The records up to the gap of some record, with none or one of its bytes; all, if no record has a gap."""
     with_gap = [at for at, record in enumerate(records) if record[0] & 9 == 9]
@@ -502,16 +603,19 @@ def cut_in_gap(rng: random.Random, records: list[bytes]) -> list[bytes]:
     return records[:at] + [records[at][:before + rng.choice([0, 1])]]
 
 
-def random_sheet(rng: random.Random, finish: bool = False, gap: bool = False, loose: bool = False) -> bytes:
-    """One random sheet in bytes; one with gaps has limits from the end of a step too, one with loose steps both."""
+def random_sheet(rng: random.Random, finish: bool = False, gap: bool = False, loose: bool = False,
+                 least: bool = False) -> bytes:
+    """One random sheet in bytes; one with gaps has limits from the end of a step too, one with loose steps both, one with
+    leasts all of these."""
+    loose = loose or least
     gap = gap or loose
     finish = finish or gap
-    aim = rng.choice(LOOSE_AIMS if loose else GAP_AIMS if gap else FINISH_AIMS if finish else AIMS)
-    sheet = aimed_sheet(rng, aim, finish, gap, loose)
-    for _ in range(3 if finish and aim == 12 or loose and aim in (10, 11) else 0):
+    aim = rng.choice(LEAST_AIMS if least else LOOSE_AIMS if loose else GAP_AIMS if gap else FINISH_AIMS if finish else AIMS)
+    sheet = aimed_sheet(rng, aim, finish, gap, loose, least)
+    for _ in range(3 if finish and aim == 12 or loose and not least and aim in (10, 11) else 0):
         if met(sheet, aim):
             break
-        sheet = aimed_sheet(rng, aim, finish, gap, loose)  # waits are often 28 here, links from 0 seldom decide: try again
+        sheet = aimed_sheet(rng, aim, finish, gap, loose, least)   # waits are often 28 here, links from 0 seldom decide
     return sheet
 
 
@@ -521,11 +625,16 @@ def met(sheet: bytes, aim: int) -> bool:
     return verdict == ("refused", aim) and (aim == 12 or "by the links from 0" in loose_facts(sheet, verdict))
 
 
-def aimed_sheet(rng: random.Random, aim: int, finish: bool, gap: bool, loose: bool) -> bytes:
+def aimed_sheet(rng: random.Random, aim: int, finish: bool, gap: bool, loose: bool, least: bool) -> bytes:
     """One random sheet in bytes that aims at this."""
-    draft = Draft(rng, smallest=4 if aim in (12, 28, -28) else 1, finish=finish, gap=gap, loose=loose)
+    smallest = 6 if least and aim == -28 else 4 if aim in (12, 28, -28) else 1
+    draft = Draft(rng, smallest=smallest, finish=finish, gap=gap, loose=loose, least=least)
     if aim == -1:
         draft.anything()
+    elif least and aim == -28 and rng.random() < 0.6:
+        draft.forward_part(12)
+        draft.late_by_least()
+        draft.at_edge(with_waits=True)
     elif gap and aim in (10, -28) and rng.random() < (0.2 if loose else 0.5):
         draft.forward_part(12)
         if loose:
@@ -534,8 +643,10 @@ def aimed_sheet(rng: random.Random, aim: int, finish: bool, gap: bool, loose: bo
         draft.tight_gap(with_waits=aim == -28)
     else:
         draft.forward_part(aim)
-        if loose:
+        if loose and (not least or rng.random() < 0.3):
             draft.loosen()
+        if least and aim in (0, 12) and rng.random() < 0.5:
+            draft.tie()
         if aim == 12 or rng.random() < (0.3 if aim in (28, -28) else 0.9):
             draft.return_part(aim if aim in (0, 12) else 0 if aim in (28, -28) else rng.choice([0, 12, -1, -1]))
         if aim in (28, -28) or (finish and aim in (10, 11) and rng.random() < 0.2):
@@ -547,6 +658,8 @@ def aimed_sheet(rng: random.Random, aim: int, finish: bool, gap: bool, loose: bo
             if loose and rng.random() < 0.7:
                 faulty |= {8: draft.back_to_start, 10: draft.hang_tight, 11: draft.hang_long}
             faulty[k]()
+        if least and aim in (10, 11, -28) and rng.random() < 0.7:
+            draft.at_edge(with_waits=aim == -28)
     if loose:
         draft.unsaid()
     steps, records = draft.pieces()
@@ -555,9 +668,11 @@ def aimed_sheet(rng: random.Random, aim: int, finish: bool, gap: bool, loose: bo
     if (1 <= aim <= 7 or aim == 26) and rng.random() < 0.3:
         faults.append(rng.randint(2, 6))           # two faults: the first met is given
     for fault in faults:
-        n, r = spoil(rng, fault, n, r, steps, records, finish, gap)
+        n, r = spoil(rng, fault, n, r, steps, records, finish, gap, least)
     if aim in (1, 7) and not faults and rng.random() < 0.2:
         r = max(0, min(512, r + (1 if aim == 1 else -1)))
+    if least and aim == 1 and rng.random() < 0.5:
+        return bytes([n]) + r.to_bytes(2, "little") + b"".join(cut_in_least(rng, steps))
     if gap and aim == 1 and rng.random() < 0.5:
         return bytes([n]) + r.to_bytes(2, "little") + b"".join(steps + cut_in_gap(rng, records))
     data = bytes([n]) + r.to_bytes(2, "little") + b"".join(steps) + b"".join(records)
@@ -571,10 +686,12 @@ def aimed_sheet(rng: random.Random, aim: int, finish: bool, gap: bool, loose: bo
     return data
 
 
-def generate(seed: int, count: int, finish: bool = False, gap: bool = False, loose: bool = False) -> list[bytes]:
-    """`count` random sheets for a seed, with limits from the end of a step, gaps too, loose steps too, or as before these."""
+def generate(seed: int, count: int, finish: bool = False, gap: bool = False, loose: bool = False,
+             least: bool = False) -> list[bytes]:
+    """`count` random sheets for a seed, with limits from the end of a step, gaps too, loose steps too, leasts too, or as
+    before these."""
     rng = random.Random(seed)
-    return [random_sheet(rng, finish, gap, loose) for _ in range(count)]
+    return [random_sheet(rng, finish, gap, loose, least) for _ in range(count)]
 
 
 def container(sheets: list[bytes]) -> bytes:
@@ -604,6 +721,53 @@ def without_gaps(sheet: bytes) -> bytes:
     return sheet[:front] + b"".join(record_bytes(replace(record, gap=None)) for record in records)
 
 
+def least_fields(sheet: bytes) -> list[int]:
+    """The steps of a sheet that is read whose map has bit 2."""
+    found, at = [], 3
+    for v in range(sheet[0]):
+        found += [v] if sheet[at] & 4 else []
+        at += 3 if sheet[at] & 6 else 1
+    return found
+
+
+def with_leasts(sheet: bytes, leasts: list[int]) -> bytes:
+    """A sheet that is read, with other least durations of its open steps; 0 is left out."""
+    steps, records, _ = p.read(sheet)[1]
+    front = sheet[:3] + b"\x01"
+    for step, least in zip(steps[1:], leasts[1:]):
+        if step is p.OPEN:
+            front += b"\x05" + least.to_bytes(2, "little") if least else b"\x01"
+        else:
+            front += b"\x02" + step.to_bytes(2, "little")
+    return front + b"".join(record_bytes(record) for record in records)
+
+
+def least_facts(sheet: bytes, verdict: p.Verdict) -> set[str]:
+    """What is to be counted of a sheet that is read, about least durations."""
+    steps, records, leasts = p.read(sheet)[1]
+    fields = least_fields(sheet)
+    facts = {"a least of 0" if leasts[a] == 0 else "the largest least" if leasts[a] == 65535 else "a least" for a in fields}
+    if not any(leasts):
+        return facts
+    facts |= {"a return from the end of a step with a least" for r in records if r.from_end is not None and leasts[r.i]}
+    bare = p.judge(with_leasts(sheet, [0] * len(steps)), False)
+    if bare != verdict:
+        facts.add(f"without the leasts {bare[0]} {bare[1]}")
+    for by in (-1, 1):
+        near = [[least + by if v == a else least for v, least in enumerate(leasts)]
+                for a in fields if 0 <= leasts[a] + by < 65536]
+        verdicts = {p.judge(with_leasts(sheet, some), False) for some in near[:8]} - {verdict}
+        facts |= {f"with a least {'one more' if by > 0 else 'one less'} {kind} {k}" for kind, k in verdicts}
+    if verdict in (("ok", 0), ("refused", 12)):
+        accepted = p.accept(sheet, True)
+        names = [set(row) for row in accepted.deciding]
+        if names != [set(row) for row in p.deciding_sets(accepted.offsets, [0] * len(steps))]:
+            facts.add("other deciding sets, were the least of b not added")
+        if bare == verdict and names != [set(row) for row in p.accept(with_leasts(sheet, [0] * len(steps)), True).deciding]:
+            facts.add("other deciding sets without the leasts")
+    return facts
+
+
 def step_kind(steps: list[p.Step], v: int) -> str:
     """A step in words."""
     return "0" if v == 0 else "an open step" if steps[v] is p.OPEN else "a fixed step"
@@ -611,7 +775,7 @@ def step_kind(steps: list[p.Step], v: int) -> str:
 
 def gap_facts(sheet: bytes, verdict: p.Verdict) -> set[str]:
     """What is to be counted of a sheet that is read, about gaps."""
-    steps, records = p.read(sheet)[1]
+    steps, records, _ = p.read(sheet)[1]
     with_gap = [record for record in records if record.gap is not None]
     facts = {f"a gap after {step_kind(steps, record.i)}" for record in with_gap}
     facts |= {f"map {map_of(record):x}h" for record in with_gap}
@@ -622,14 +786,14 @@ def gap_facts(sheet: bytes, verdict: p.Verdict) -> set[str]:
 
 def finish_facts(sheet: bytes, verdict: p.Verdict) -> set[str]:
     """What is to be counted of a sheet that is read, about limits from the end of a step."""
-    steps, records = p.read(sheet)[1]
+    steps, records, leasts = p.read(sheet)[1]
     facts = set()
     for record in records:
         if record.from_end is not None:
             facts |= {f"from the end of {step_kind(steps, record.i)}", f"map {map_of(record):x}h"}
     if verdict == ("refused", 28):
-        links = p.completed(len(steps), p.links_of(steps, records))
-        ahead = p.forward(links) + [p.Link(a, i, 0, "after") for a, i in p.waits_of(steps, links)]
+        links = p.completed(len(steps), p.links_of(steps, records, leasts))
+        ahead = p.forward(links) + p.wait_links(p.waits_of(steps, links), leasts)
         facts.add("by a circle" if p.circle(len(steps), ahead) else "without a circle")
     return facts
 
@@ -646,9 +810,9 @@ def by_completing(steps: list[p.Step], links: list[p.Link], refusal: int) -> boo
 
 def loose_facts(sheet: bytes, verdict: p.Verdict) -> set[str]:
     """What is to be counted of a sheet that is read, about steps that no forward link enters."""
-    steps, records = p.read(sheet)[1]
+    steps, records, leasts = p.read(sheet)[1]
     n = len(steps)
-    links = p.links_of(steps, records)
+    links = p.links_of(steps, records, leasts)
     loose = p.loose_steps(n, links)
     facts = {f"{step_kind(steps, v)} loose" for v in loose}
     facts |= {f"the {place} step loose" for place, v in (("first", 1), ("last", n - 1)) if v in loose}
@@ -684,7 +848,7 @@ def statistics(sheets: list[bytes]) -> str:
                   f"R {'0-16' if r < 17 else '17-128' if r < 129 else '129-511' if r < 512 else '512'}",
                   "waits" if verdict[1] == 12 else "sound"] += 1
         if p.read(sheet)[0] == "ok":
-            facts = finish_facts(sheet, verdict) | gap_facts(sheet, verdict) | loose_facts(sheet, verdict)
+            facts = set().union(*(about(sheet, verdict) for about in (finish_facts, gap_facts, loose_facts, least_facts)))
             told.update(f"{verdict[0]} {verdict[1]}, {about}" for about in facts)
     lines = [f"{kind} {k}: {verdicts[kind, k]}" for kind, k in sorted(verdicts)]
     lines += [f"{about}: {told[about]}" for about in sorted(told)]
@@ -693,7 +857,8 @@ def statistics(sheets: list[bytes]) -> str:
 
 
 if __name__ == "__main__":
-    made = generate(int(sys.argv[1]), int(sys.argv[2]), *(f"--{word}" in sys.argv[4:] for word in ("finish", "gap", "loose")))
+    kinds = (f"--{word}" in sys.argv[4:] for word in ("finish", "gap", "loose", "least"))
+    made = generate(int(sys.argv[1]), int(sys.argv[2]), *kinds)
     with open(sys.argv[3], "wb") as file:
         file.write(container(made))
     if "--stats" in sys.argv[4:]:

@@ -1,4 +1,4 @@
-"""Reference stand planner, written from document 01 (01-scope.md) and requests L1, L3 and L11 of document 02 alone.
+"""Reference stand planner, written from document 01 (01-scope.md) and requests L1, L3, L6 and L11 of document 02 alone.
 
 Verdicts are ("ok", x) or ("refused", k).  Lent lists are never changed in
 place: each call returns them as they are afterwards.
@@ -44,8 +44,9 @@ class Link:
 
     source: int
     target: int
-    weight: int                # open durations taken as 0
+    weight: int                # open durations taken at their least
     kind: str                  # "after", "at least", "at most" or "from end" (of an open i, not 0)
+    least: int = 0             # of an after link out of an open step: its least duration, a part of the weight
 
 
 # ---------------------------------------------------------------- the bytes
@@ -66,8 +67,8 @@ class _Bytes:
         return value
 
 
-def _read(sheet: bytes) -> tuple[list[Step], list[Record]]:
-    """Steps and link records of a sheet in bytes; raises refusals 1 to 7 and 26."""
+def _read(sheet: bytes) -> tuple[list[Step], list[Record], list[int]]:
+    """Steps, link records and least durations (0 where none is given) of a sheet in bytes; raises refusals 1 to 7 and 26."""
     source = _Bytes(sheet)
     n = source.number(1)
     if n == 0 or n > 64:
@@ -77,16 +78,18 @@ def _read(sheet: bytes) -> tuple[list[Step], list[Record]]:
         raise Refusal(3)
 
     steps: list[Step] = []
+    leasts: list[int] = []
     for v in range(n):
         bits = source.number(1)
-        if bits not in ((1,) if v == 0 else (0, 1, 2)):
+        if bits not in ((1,) if v == 0 else (0, 1, 2, 5)):
             raise Refusal(4)
-        if bits == 1:
+        if bits & 1:
             steps.append(OPEN)
         elif bits == 2:
             steps.append(source.number(2))
         else:
             steps.append(0)
+        leasts.append(source.number(2) if bits & 4 else 0)
 
     records: list[Record] = []
     for _ in range(r):
@@ -109,11 +112,11 @@ def _read(sheet: bytes) -> tuple[list[Step], list[Record]]:
 
     if source.at < len(sheet):
         raise Refusal(7)
-    return steps, records
+    return steps, records, leasts
 
 
 def read(sheet: bytes):
-    """A sheet in bytes: ("ok", (steps, link records)) or ("refused", 1 to 7 or 26)."""
+    """A sheet in bytes: ("ok", (steps, link records, least durations)) or ("refused", 1 to 7 or 26)."""
     try:
         return "ok", _read(sheet)
     except Refusal as refusal:
@@ -122,13 +125,13 @@ def read(sheet: bytes):
 
 # ------------------------------------------------------- what links mean
 
-def links_of(steps: list[Step], records: list[Record]) -> list[Link]:
+def links_of(steps: list[Step], records: list[Record], leasts: list[int]) -> list[Link]:
     """What links mean: every link of the records, as walks follow them."""
     links = []
     for record in records:
         if record.after:
-            duration = 0 if steps[record.i] is OPEN else steps[record.i]
-            links.append(Link(record.i, record.j, duration + (record.gap or 0), "after"))
+            duration = leasts[record.i] if steps[record.i] is OPEN else steps[record.i]
+            links.append(Link(record.i, record.j, duration + (record.gap or 0), "after", leasts[record.i]))
         if record.at_least is not None:
             links.append(Link(record.i, record.j, record.at_least, "at least"))
         if record.at_most is not None:
@@ -136,7 +139,7 @@ def links_of(steps: list[Step], records: list[Record]) -> list[Link]:
         if record.from_end is not None:
             duration = 0 if record.i == 0 else steps[record.i]
             if duration is OPEN:
-                links.append(Link(record.j, record.i, -record.from_end, "from end"))
+                links.append(Link(record.j, record.i, -record.from_end - leasts[record.i], "from end"))
             else:              # the end of i is known: a plain at most
                 links.append(Link(record.j, record.i, -(duration + record.from_end), "at most"))
     return links
@@ -173,8 +176,8 @@ def open_steps(steps: list[Step]) -> list[int]:
 
 
 def after_targets(links: list[Link], a: int) -> dict[int, int]:
-    """The steps that an after link out of a leads to, with its weight (of an open a: the gap)."""
-    return {link.target: link.weight for link in links if link.kind == "after" and link.source == a}
+    """The steps that an after link out of a leads to, with its weight from the end of a (of an open a: the gap)."""
+    return {link.target: link.weight - link.least for link in links if link.kind == "after" and link.source == a}
 
 
 def reached(links: list[Link], begin: Iterable[int]) -> set[int]:
@@ -216,6 +219,11 @@ def waits_of(steps: list[Step], links: list[Link]) -> list[tuple[int, int]]:
     return sorted(found)
 
 
+def wait_links(waits: list[tuple[int, int]], leasts: list[int]) -> list[Link]:
+    """The after links, without a gap, that waits (a, i) put in."""
+    return [Link(a, i, leasts[a], "after", leasts[a]) for a, i in waits]
+
+
 def heaviest_from(n: int, links: list[Link], begin: dict[int, int]) -> list[int | None] | None:
     """Weight of the heaviest walk to each step, begun at any step of `begin` with the weight given
     there; in its place None: no walk. None alone: there is no heaviest, some circle on the way weighs
@@ -242,11 +250,11 @@ def offsets_of(steps: list[Step], links: list[Link]) -> list[dict[int, int]]:
             for v, members in enumerate(start_sets(steps, links))]
 
 
-def deciding_sets(offsets: list[dict[int, int]]) -> list[dict[int, int]]:
+def deciding_sets(offsets: list[dict[int, int]], leasts: list[int]) -> list[dict[int, int]]:
     """For each step v, its deciding set, with the offsets."""
     def left_out(v: int, a: int) -> bool:
         return any(b != a and a in offsets[b]
-                   and offsets[b][a] + offsets[v][b] >= offsets[v][a]
+                   and offsets[b][a] + leasts[b] + offsets[v][b] >= offsets[v][a]
                    for b in offsets[v])
     return [{a: offset for a, offset in row.items() if not left_out(v, a)}
             for v, row in enumerate(offsets)]
@@ -256,11 +264,22 @@ def deciding_sets(offsets: list[dict[int, int]]) -> list[dict[int, int]]:
 
 @dataclass(frozen=True)
 class Accepted:
-    """An accepted sheet: its steps, its waits, and its links, completed and with the waits in."""
+    """An accepted sheet: its steps, its waits, its links, completed and with the waits in, and its least durations."""
 
     steps: list[Step]
     waits: list[tuple[int, int]]
     links: list[Link]
+    leasts: list[int]
+
+    @property
+    def offsets(self) -> list[dict[int, int]]:
+        """For each step v, the offset of v for each a in its start set."""
+        return offsets_of(self.steps, self.links)
+
+    @property
+    def deciding(self) -> list[dict[int, int]]:
+        """For each step v, its deciding set, with the offsets."""
+        return deciding_sets(self.offsets, self.leasts)
 
     @property
     def verdict(self) -> Verdict:
@@ -274,7 +293,7 @@ def circle(n: int, links: list[Link]) -> bool:
 
 
 def no_times(n: int, links: list[Link]) -> bool:
-    """Whether no start times keep these links with all open durations 0: a circle weighs more."""
+    """Whether no start times keep these links with each open step at its least: a circle weighs more than 0."""
     return heaviest_from(n, links, dict.fromkeys(range(n), 0)) is None
 
 
@@ -285,9 +304,9 @@ def outgrown(steps: list[Step], links: list[Link]) -> bool:
 
 def accept(sheet: bytes, allow_waits: bool) -> Accepted:
     """The accepted sheet; raises refusals 1 to 8, 10 to 12, 26 and 28."""
-    steps, records = _read(sheet)
+    steps, records, leasts = _read(sheet)
     n = len(steps)
-    links = completed(n, links_of(steps, records))
+    links = completed(n, links_of(steps, records, leasts))
     if circle(n, forward(links)):
         raise Refusal(8)
     if no_times(n, links):
@@ -295,12 +314,12 @@ def accept(sheet: bytes, allow_waits: bool) -> Accepted:
     if outgrown(steps, links):
         raise Refusal(11)
     waits = waits_of(steps, links)
-    whole = links + [Link(a, i, 0, "after") for a, i in waits]
+    whole = links + wait_links(waits, leasts)
     if waits and (circle(n, forward(whole)) or no_times(n, whole)):
         raise Refusal(28)
     if waits and not allow_waits:
         raise Refusal(12)
-    return Accepted(steps, waits, whole)
+    return Accepted(steps, waits, whole, leasts)
 
 
 def judge(sheet: bytes, allow_waits: bool) -> Verdict:
@@ -332,7 +351,7 @@ def plan(sheet: bytes, allow_waits: bool, table: list[int]) -> tuple[Verdict, li
             raise Refusal(14)
     except Refusal as refusal:
         return ("refused", refusal.number), list(table)
-    deciding = deciding_sets(offsets_of(accepted.steps, accepted.links))
+    deciding = accepted.deciding
     answer = [deciding[v].get(a, UNDECIDED) for v in range(n) for a in range(n)]
     return accepted.verdict, answer + list(table[n * n:])
 
@@ -357,13 +376,13 @@ def starts(sheet: bytes, allow_waits: bool, durations: list[int],
         n = len(accepted.steps)
         for v, duration in enumerate(durations[:n]):
             may_last = v != 0 and accepted.steps[v] is OPEN
-            if duration > (LONGEST if may_last else 0):
+            if not accepted.leasts[v] <= duration <= (LONGEST if may_last else 0):
                 raise Refusal(13)
         if len(durations) < n or len(out) < n:
             raise Refusal(14)
     except Refusal as refusal:
         return ("refused", refusal.number), list(out)
-    answer = start_times(offsets_of(accepted.steps, accepted.links), durations)
+    answer = start_times(accepted.offsets, durations)
     return accepted.verdict, answer + list(out[n:])
 
 
@@ -391,6 +410,7 @@ class State:
     finished: int = 0          # map
     start: tuple[int, ...] = (0,) * 64
     finish: tuple[int, ...] = (0,) * 64
+    least: tuple[int, ...] = (0,) * 64     # the least durations, numbers of 16 bits
 
 
 def _has(bits: int, v: int) -> bool:
@@ -421,15 +441,19 @@ def _start_due(state: State, table: list[int]) -> tuple[int, State]:
     return bits, replace(state, started=state.started | bits, start=start)
 
 
-def begin(state: State, n: int, open_map: int, table: list[int]) -> tuple[Verdict, State]:
-    """Begin: ("ok", map of steps started) or ("refused", 16, 2 or 14), and the state."""
+def begin(state: State, n: int, open_map: int, leasts: list[int], table: list[int]) -> tuple[Verdict, State]:
+    """Begin: ("ok", map of steps started) or ("refused", 16, 2 or 14), and the state.
+
+    The first N least durations are kept as given, those of step 0 and fixed steps too, which count for nothing.
+    """
     if _has(state.started, 0):
         return ("refused", 16), state
     if not 1 <= n <= 64:
         return ("refused", 2), state
-    if len(table) < n * n:
+    if len(table) < n * n or len(leasts) < n:
         return ("refused", 14), state
-    bits, after = _start_due(State(n=n, open=open_map, started=1, finished=1), table)
+    kept = tuple(leasts[:n]) + (0,) * (64 - n)
+    bits, after = _start_due(State(n=n, open=open_map, started=1, finished=1, least=kept), table)
     return ("ok", bits | 1), after
 
 
@@ -452,11 +476,13 @@ def tick(state: State, table: list[int]) -> tuple[Verdict, State]:
 
 
 def finish(state: State, s: int, table: list[int]) -> tuple[Verdict, State]:
-    """Finish s: ("ok", map of steps started) or ("refused", 15, 14 or 17), and the state."""
+    """Finish s: ("ok", map of steps started) or ("refused", 15, 14, 17 or 20), and the state."""
     fault = _not_running(state, table)
     if not fault and (s == 0 or s >= state.n or not _has(state.open, s)
                       or not _has(state.started, s) or _has(state.finished, s)):
         fault = 17
+    if not fault and state.tick < state.start[s] + state.least[s]:
+        fault = 20
     if fault:
         return ("refused", fault), state
     ended = replace(state, finished=state.finished | 1 << s,
@@ -475,6 +501,6 @@ def standplan_text(sheet: bytes) -> str:
         return f"refused {refusal.number}\n"
     lines = [f"verdict {accepted.verdict[1]}", f"waits {len(accepted.waits)}"]
     lines += [f"wait {a} {i}" for a, i in accepted.waits]
-    for v, members in enumerate(deciding_sets(offsets_of(accepted.steps, accepted.links))):
+    for v, members in enumerate(accepted.deciding):
         lines += [f"start {v} {a} {members[a]}" for a in sorted(members)]
     return "\n".join(lines) + "\n"

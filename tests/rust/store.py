@@ -1,21 +1,24 @@
 """Stores answers of the reference planner (tests/reference): python3 store.py
 
-data/answers.txt: for sheets of every verdict a line for the sheet, then lines for what is asked of it.
+data/answers.txt: for sheets of every verdict a line for the sheet, then lines for what is asked of it, and for what a run of it is begun with.
 data/runs.txt: runs, by lines that set the table or the state, and lines for calls, with the answer and the state after it.
 Fields are parted by semicolons; '-' is the number for undecided.
 """
 import random
 import sys
+from functools import cache
 from pathlib import Path
 
 sys.path.insert(0, str(Path(__file__).parent.parent / "reference"))
 import examples  # noqa: E402
 import generate  # noqa: E402
 import planner as p  # noqa: E402
+import runs as drawn  # noqa: E402
 
 EACH = 4                       # sheets for each verdict
 EACH_FINISH = 2                # the same with limits from the end of a step
 EACH_LOOSE = 1                 # the same with steps that no forward link enters
+EACH_LEAST = 2                 # the same with least durations
 
 
 def words(numbers):
@@ -26,6 +29,7 @@ def lent(size):
     return [1000 + i for i in range(size)]
 
 
+@cache
 def chosen():
     """The worked sheets, then random ones: a few for each verdict where waits are not allowed, among them one of 64 steps."""
     sheets = [examples.STAND, examples.TWO_HANDS, b"", bytes([1, 0, 0, 1])]
@@ -43,6 +47,7 @@ def chosen():
     return sheets
 
 
+@cache
 def chosen_finish():
     """Sheets with limits from the end of a step: the worked ones, then random ones, a few for each verdict."""
     sheets = [examples.EXPOSURE, examples.HAND_WAITS, examples.CLASH, examples.late(5), examples.late(6)]
@@ -58,6 +63,7 @@ def chosen_finish():
     return sheets
 
 
+@cache
 def chosen_loose():
     """Sheets with steps that no forward link enters: the worked ones, then random ones, a few for each verdict."""
     sheets = [examples.LOOSE_STAND, examples.LOOSE_HANDS, examples.LOOSE_ALL, examples.LOOSE_CIRCLE]
@@ -71,14 +77,45 @@ def chosen_loose():
     return sheets
 
 
+@cache
+def chosen_least():
+    """Sheets with least durations: the worked ones, at their edges, then random ones, a few for each verdict."""
+    edges = [examples.needs_least(least) for least in (3, 4)]
+    sheets = [examples.HAND, examples.HAND[:8] + b"\x00\x00" + examples.HAND[10:], examples.HAND[:8] + b"\xff\xff" + examples.HAND[10:], *edges,
+              *(bytes([2, 0, 0, first, second, 8, 0]) for first, second in ((5, 1), (1, 4), (1, 6), (1, 7), (1, 5))), bytes([2, 0, 0, 1, 5, 8])]
+    counts = {}
+    for sheet in generate.generate(2026, 600, least=True):
+        verdict = p.judge(sheet, False)
+        small = sheet and sheet[0] <= 12 and len(sheet) < 400
+        if counts.get(verdict, 0) < EACH_LEAST and small and p.read(sheet)[0] == "ok" and any(p.read(sheet)[1][2]):
+            counts[verdict] = counts.get(verdict, 0) + 1
+            sheets.append(sheet)
+    return sheets
+
+
+def steps_of(sheet, lent_):
+    """What a run of the sheet is begun with: the verdict, N, the map of the open steps, step 0 among them, and the leasts in the numbers lent."""
+    verdict, read = p.read(sheet)
+    if verdict == "ok" and len(lent_) < len(read[0]):
+        verdict, read = "refused", 14
+    if verdict == "refused":
+        return (verdict, read), 1000, 1000, lent_
+    steps, _, leasts = read
+    return ("ok", 0), len(steps), sum(1 << v for v, step in enumerate(steps) if step is p.OPEN), leasts + lent_[len(steps):]
+
+
 def durations(rng, sheet, size):
-    """A random list: 0 for fixed steps; at times one number is wrong."""
+    """A random list: 0 for fixed steps, for open ones no less than their least; at times one number is wrong."""
     read = p.read(sheet)
-    steps = read[1][0] if read[0] == "ok" else []
+    steps, leasts = (read[1][0], read[1][2]) if read[0] == "ok" else ([], [])
     numbers = [rng.choice([0, 1, rng.randint(0, 300), p.LONGEST]) if v and v < len(steps) and steps[v] is p.OPEN else 0
                for v in range(size)]
+    numbers = [max(number, least) for number, least in zip(numbers, leasts)] + numbers[len(leasts):]
     if numbers and rng.random() < 0.3:
         numbers[rng.randrange(size)] = rng.choice([1, p.LONGEST + 1, p.UNDECIDED])
+    elif any(leasts[:size]) and rng.random() < 0.3:
+        below = rng.choice([v for v in range(size) if v < len(leasts) and leasts[v]])
+        numbers[below] = leasts[below] - 1
     return numbers
 
 
@@ -89,7 +126,7 @@ def words_of(verdict):
 def answers():
     """The lines of data/answers.txt."""
     rng = random.Random(1)
-    for sheet in chosen() + chosen_finish() + chosen_loose():
+    for sheet in chosen() + chosen_finish() + chosen_loose() + chosen_least():
         # A refused sheet is lent little: no size makes a difference.
         n = (sheet[0] if p.judge(sheet, True)[0] == "ok" else 3) if sheet else 0
         yield f"sheet {sheet.hex()}"
@@ -97,6 +134,9 @@ def answers():
             yield f"judge {allow}; {words_of(p.judge(sheet, bool(allow)))}"
         maps, count, verdict = p.waits(sheet)
         yield f"waits; {words_of(verdict)}; {count}; {' '.join(f'{m:x}' for m in maps)}"
+        for size in (n, n + 2, max(0, n - 1)):
+            verdict, count, open_, after = steps_of(sheet, lent(size))
+            yield f"steps; {words_of(verdict)}; {count} {open_}; {words(after)}"
         sizes = [(0, n * n + 3), (1, n * n), (1, n * n + 2)] + ([(1, n * n - 1)] if n else [])
         for allow, size in sizes if n < 64 else [(1, n * n + 1)]:
             verdict, after = p.plan(sheet, bool(allow), lent(size))
@@ -116,7 +156,7 @@ def ticks(numbers):
 
 
 def state_words(state):
-    return f"{state.n} {state.open} {state.tick} {state.started} {state.finished}; {ticks(state.start)}; {ticks(state.finish)}"
+    return f"{state.n} {state.open} {state.tick} {state.started} {state.finished}; {ticks(state.start)}; {ticks(state.finish)}; {ticks(state.least)}"
 
 
 def paper_run():
@@ -126,7 +166,8 @@ def paper_run():
     yield f"table; {' '.join(map(str, table))}"
     yield f"state; {state_words(state)}"
     answers = []
-    for line, call in [("begin 25 65 4", lambda s: p.begin(s, 65, 4, table)), ("begin 25 5 4", lambda s: p.begin(s, 5, 4, table)),
+    none = [0] * 5
+    for line, call in [("begin 25 65 4 0 0 0 0 0", lambda s: p.begin(s, 65, 4, none, table)), ("begin 25 5 4 0 0 0 0 0", lambda s: p.begin(s, 5, 4, none, table)),
                        ("finish 25 2", lambda s: p.finish(s, 2, table)), *[("tick 25", lambda s: p.tick(s, table))] * 3,
                        ("finish 25 2", lambda s: p.finish(s, 2, table))]:
         verdict, state = call(state)
@@ -141,7 +182,23 @@ def paper_run():
         yield f"tick 25; {words_of(verdict)}; {state_words(state)}"
 
 
-def calls(rng, state, n, open_, table, count):
+def hand_run():
+    """The stand sheet with a hand of at least eight ticks: Finish is 20 until then, and a list of leasts that is too short is 14."""
+    table = p.plan(examples.HAND, True, [0] * 25)[1]
+    leasts, state, answers = p.read(examples.HAND)[1][2], p.State(), []
+    yield f"table; {' '.join(map(str, table))}"
+    yield f"state; {state_words(state)}"
+    steps = [("begin 25 5 5 0 0 8 0", lambda s: p.begin(s, 5, 5, leasts[:4], table)), ("begin 25 5 5 0 0 8 0 0", lambda s: p.begin(s, 5, 5, leasts, table)),
+             ("finish 25 2", lambda s: p.finish(s, 2, table)), *[("tick 25", lambda s: p.tick(s, table))] * 7, ("finish 25 2", lambda s: p.finish(s, 2, table)),
+             ("tick 25", lambda s: p.tick(s, table)), ("finish 25 2", lambda s: p.finish(s, 2, table)), *[("tick 25", lambda s: p.tick(s, table))] * 2]
+    for line, call in steps:
+        verdict, state = call(state)
+        answers.append(verdict)
+        yield f"{line}; {words_of(verdict)}; {state_words(state)}"
+    assert answers == [("refused", 14), ("ok", 7), ("refused", 20), *[("ok", 0)] * 7, ("refused", 20), ("ok", 0), ("ok", 8), ("ok", 0), ("ok", 16)], answers
+
+
+def calls(rng, state, n, open_, leasts, table, count):
     """Random calls from a state, the first two of them Begin."""
     yield f"table; {' '.join(map(str, table))}"
     yield f"state; {state_words(state)}"
@@ -151,8 +208,9 @@ def calls(rng, state, n, open_, table, count):
         kind = rng.random()
         if i < 2 or kind < 0.06:
             m = n if rng.random() < 0.7 else rng.choice([0, 65])
-            verdict, state = p.begin(state, m, open_, lent_)
-            line = f"begin {size} {m} {open_}"
+            given = leasts if not any(leasts) or rng.random() < 0.9 else leasts[:rng.randrange(len(leasts))]
+            verdict, state = p.begin(state, m, open_, given, lent_)
+            line = " ".join(map(str, ["begin", size, m, open_, *given]))
         elif kind < 0.6:
             verdict, state = p.tick(state, lent_)
             line = f"tick {size}"
@@ -169,15 +227,29 @@ def sheet_runs(rng, sheets):
     for sheet in sheets:
         if p.judge(sheet, True)[0] == "ok" and sheet[0] <= 12:
             n = sheet[0]
-            steps = p.read(sheet)[1][0]
+            steps, _, leasts = p.read(sheet)[1]
             open_ = sum(1 << v for v, step in enumerate(steps) if step is p.OPEN)
             table = p.plan(sheet, True, [0] * (n * n))[1]
-            yield from calls(rng, p.State(), n, open_, table, 60)
+            yield from calls(rng, p.State(), n, open_, leasts, table, 60)
+
+
+def jumping_runs(sheets):
+    """Runs of sheets with leasts as tests/reference draws them: long times of ticking are passed over, finishes too early among them."""
+    for seed, sheet in enumerate(sheets):
+        if p.judge(sheet, True)[0] == "ok" and sheet[0] <= 12:
+            run = drawn.random_run(random.Random(seed), sheet)
+            yield f"table; {' '.join(map(str, run.table))}"
+            yield f"state; {state_words(p.State())}"
+            for call in run.calls:
+                if call.given is not None:
+                    yield f"state; {state_words(call.given)}"
+                more = {"begin": [call.n, call.open, *call.leasts], "finish": [call.step], "tick": []}[call.name]
+                yield f"{' '.join(map(str, [call.name, call.lent, *more]))}; {words_of(call.verdict)}; {state_words(call.state)}"
 
 
 def runs():
     """The lines of data/runs.txt: the paper's run, runs of accepted sheets, then runs from any state on any table, then
-    runs of accepted sheets with limits from the end of a step and with loose ones."""
+    runs of accepted sheets with limits from the end of a step and with loose ones, then those of sheets with leasts."""
     yield from paper_run()
     rng = random.Random(2)
     yield from sheet_runs(rng, chosen())
@@ -187,8 +259,10 @@ def runs():
         state = p.State([n, n, n, 0, 65, 2**64 - 1][j % 6], rng.getrandbits(64), [0, 5, p.LAST_TICK - 1][j % 3],
                         rng.getrandbits(64) | 1, rng.getrandbits(64),
                         tuple(rng.getrandbits(32) for _ in range(64)), tuple(rng.choice([0, 3, rng.getrandbits(32)]) for _ in range(64)))
-        yield from calls(rng, state, n, state.open, table, 12)
+        yield from calls(rng, state, n, state.open, [0] * n, table, 12)
     yield from sheet_runs(rng, chosen_finish() + chosen_loose())
+    yield from hand_run()
+    yield from jumping_runs(chosen_least() * 2)
 
 
 def main():

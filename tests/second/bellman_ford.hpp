@@ -19,7 +19,7 @@ struct BellmanFord {
             const uint8_t v = g.order[at];
             for (int f = g.first[v]; f < g.first[v + 1]; f++) l.link[l.count++] = Link{v, g.forward[f].to, -1, g.forward[f].weight};
             if (waits && (g.open >> v & 1))
-                for (uint64_t map = g.out[g.anchor[v]]; map; map &= map - 1) l.link[l.count++] = Link{v, uint8_t(lowest(map)), -1, 0};
+                for (uint64_t map = g.out[g.anchor[v]]; map; map &= map - 1) l.link[l.count++] = Link{v, uint8_t(lowest(map)), -1, g.duration[v]};
         }
         for (int r = 0; r < g.returns; r++) {
             const Return &b = g.back[r];

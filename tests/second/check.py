@@ -1,8 +1,9 @@
-"""Compares the second planner with the reference planner: python3 check.py LIBRARY SEED COUNT [KIND]
+"""Compares the second planner and the second runner with the reference: python3 check.py LIBRARY SEED COUNT [KIND]
 
-COUNT sheets of the kind, finish (limits from the finish), gap (gaps after the finish) or loose (steps that follow nothing), and the largest ones of it;
-without a kind, COUNT sheets with neither limit from the finish nor gap and COUNT of the kind finish. Of each: judging with and without waits, listing waits,
-planning, and starts for one to three lists, verdicts and every lent number. The first difference ends the run with status 1."""
+COUNT sheets of the kind, finish (limits from the finish), gap (gaps after the finish), loose (steps that follow nothing) or least (least durations), and the
+largest ones of it; without a kind, COUNT sheets with neither limit from the finish nor gap and COUNT of the kind finish. Of each: judging with and
+without waits, listing waits, planning, starts for one to three lists, and what a run is begun with, verdicts and every lent number. Of each that is accepted:
+a random run, verdicts, maps and every part of the state, before and after. The first difference ends the run with status 1."""
 import ctypes as c
 import pathlib
 import random
@@ -13,9 +14,11 @@ sys.path.insert(0, str(pathlib.Path(__file__).resolve().parent.parent / "referen
 import container  # noqa: E402
 import generate  # noqa: E402
 import planner  # noqa: E402
+import runs  # noqa: E402
 
 library = c.CDLL(sys.argv[1])
 LENT = container.LENT
+LENT_LEAST = 54321             # what lent numbers of 16 bits hold before a call
 
 
 def number(verdict) -> int:
@@ -23,9 +26,9 @@ def number(verdict) -> int:
     return verdict[1] if verdict[0] == "ok" else 256 + verdict[1]
 
 
-def lent(values: list[int]):
-    """Numbers of 32 bits, lent; one element at least, so that there is a pointer."""
-    return (c.c_uint32 * max(1, len(values)))(*values)
+def lent(values: list[int], kind=c.c_uint32):
+    """Numbers of 32 bits, or of another kind, lent; one element at least, so that there is a pointer."""
+    return (kind * max(1, len(values)))(*values)
 
 
 def judge(sheet: bytes, allow: bool) -> int:
@@ -54,20 +57,75 @@ def starts(sheet: bytes, allow: bool, entries: list[int], room: int) -> tuple[in
     return verdict, list(out)[:room]
 
 
+def steps(sheet: bytes, room: int) -> tuple[int, int, int, list[int]]:
+    """What the second planner says a run of the sheet is begun with: verdict, N, the map of the open steps and the lent leasts afterwards."""
+    n, opened, leasts = c.c_size_t(LENT), c.c_uint64(LENT), lent([LENT_LEAST] * room, c.c_uint16)
+    verdict = library.second_steps(sheet, c.c_size_t(len(sheet)), c.byref(n), c.byref(opened), leasts, c.c_size_t(room))
+    return verdict, n.value, opened.value, list(leasts)[:room]
+
+
+def reference_steps(sheet: bytes, room: int) -> tuple[int, int, int, list[int]]:
+    """The same by what the reference reads."""
+    kind, got = planner.read(sheet)
+    if kind == "refused" or room < len(got[0]):
+        return 256 + (got if kind == "refused" else 14), LENT, LENT, [LENT_LEAST] * room
+    kinds, _, leasts = got
+    opened = sum(1 << v for v, step in enumerate(kinds) if step is planner.OPEN)
+    return 0, len(kinds), opened, leasts + [LENT_LEAST] * (room - len(kinds))
+
+
+def steps_rooms(rng: random.Random, sheet: bytes) -> list[int]:
+    """How many numbers are lent for the leasts: none, one too few, as many as there are steps, more."""
+    n = sheet[0] if sheet and 1 <= sheet[0] <= 64 else 8
+    return [0, n - 1, n, n + rng.choice([1, 1, 64]), rng.randint(0, n)]
+
+
+def run_call(call: runs.Call, before: planner.State, table: list[int]) -> tuple[int, int, planner.State]:
+    """The second runner's answer to a call on a state: verdict, the map afterwards and the state afterwards."""
+    words = lent([before.n, before.open, before.started, before.finished], c.c_uint64)
+    ticks, started = c.c_uint32(before.tick), c.c_uint64(LENT)
+    start, finish, least = lent(list(before.start)), lent(list(before.finish)), lent(list(before.least), c.c_uint16)
+    more = {"begin": (c.c_size_t(call.n), c.c_uint64(call.open), lent(list(call.leasts), c.c_uint16), c.c_size_t(len(call.leasts))),
+            "tick": (), "finish": (c.c_size_t(call.step),)}[call.name]
+    given = lent(table[:call.lent])
+    function = getattr(library, f"second_{call.name}")
+    verdict = function(words, c.byref(ticks), start, finish, least, c.byref(started), *more, given, c.c_size_t(call.lent))
+    state = planner.State(n=words[0], open=words[1], tick=ticks.value, started=words[2], finished=words[3],
+                          start=tuple(start), finish=tuple(finish), least=tuple(least))
+    return verdict, started.value, state
+
+
+def check_run(rng: random.Random, sheet: bytes, seen: Counter, same) -> None:
+    """A random run of an accepted sheet."""
+    run = runs.random_run(rng, sheet)
+    before = planner.State()
+    for number_of_call, call in enumerate(run.calls):
+        before = before if call.given is None else call.given
+        ok = call.verdict[0] == "ok"
+        seen[call.name, 0 if ok else 256 + call.verdict[1]] += 1
+        expected = (0, call.verdict[1], call.state) if ok else (256 + call.verdict[1], LENT, before)
+        same(f"call {number_of_call} of a run, {call}, on {before},", run_call(call, before, run.table), expected)
+        before = call.state
+
+
 def check(rng: random.Random, sheet: bytes, seen: Counter) -> None:
-    """All four calls on one sheet."""
+    """All calls on one sheet, and a run of it if it is accepted."""
     def same(call: str, mine, reference) -> None:
         if mine != reference:
             print(f"{call} differs on sheet {sheet.hex(' ')}\nsecond    {mine}\nreference {reference}", file=sys.stderr)
             sys.exit(1)
 
+    for room in steps_rooms(rng, sheet):
+        expected = reference_steps(sheet, room)
+        seen["steps", expected[0]] += 1
+        same(f"steps {room}", steps(sheet, room), expected)
     for allow in (False, True):
         verdict = number(planner.judge(sheet, allow))
-        seen[verdict] += 1
+        seen["sheets", verdict] += 1
         same(f"judge {allow}", judge(sheet, allow), verdict)
         room = container.table_length(rng, sheet)
         verdict, table = planner.plan(sheet, allow, [LENT] * room)
-        seen[number(verdict)] += 1
+        seen["sheets", number(verdict)] += 1
         same(f"plan {allow} {room}", plan(sheet, allow, room), (number(verdict), table))
     maps, count, verdict = planner.waits(sheet)
     if verdict[0] == "refused":                    # what is lent stays as it was
@@ -75,12 +133,16 @@ def check(rng: random.Random, sheet: bytes, seen: Counter) -> None:
     same("waits", waits(sheet), (maps, count, number(verdict)))
     for allow, entries, room in container.lists_for(rng, sheet):
         verdict, times = planner.starts(sheet, allow, entries, [LENT] * room)
-        seen[number(verdict)] += 1
+        seen["sheets", number(verdict)] += 1
         same(f"starts {allow} {entries} {room}", starts(sheet, allow, entries, room), (number(verdict), times))
+    if planner.judge(sheet, True)[0] == "ok":
+        check_run(rng, sheet, seen, same)
 
 
 def draw(rng: random.Random, kind: str, seed: int, count: int) -> list[bytes]:
     """The largest sheets of a kind, and so many others."""
+    if kind == "least":
+        return container.largest_least_sheets(rng) + generate.generate(seed, count, least=True)
     if kind == "loose":
         return container.largest_loose_sheets(rng) + generate.generate(seed, count, loose=True)
     if kind == "gap":
@@ -90,20 +152,26 @@ def draw(rng: random.Random, kind: str, seed: int, count: int) -> list[bytes]:
     return container.largest_sheets(rng) + generate.generate(seed, count, False)
 
 
+def given(seen: Counter, calls: str) -> str:
+    """How often each verdict was given by these calls."""
+    return ", ".join(f"{'refused ' * (v > 255)}{v % 256}: {k}" for (call, v), k in sorted(seen.items()) if call == calls)
+
+
 def main() -> None:
     """Check the kind that is asked for, or the first two, and say how often each verdict was given."""
     seed, count = int(sys.argv[2]), int(sys.argv[3])
-    said = {"": "", "finish": " with limits from the finish", "gap": " with gaps", "loose": " with steps that follow nothing"}
+    said = {"": "", "finish": " with limits from the finish", "gap": " with gaps", "loose": " with steps that follow nothing",
+            "least": " with least durations"}
     kinds = sys.argv[4:] or ["", "finish"]
     if not set(kinds) <= set(said):
-        sys.exit("a kind is finish, gap or loose")
+        sys.exit("a kind is finish, gap, loose or least")
     for kind in kinds:
         rng, seen = random.Random(seed), Counter()
         sheets = draw(rng, kind, seed, count)
         for sheet in sheets:
             check(rng, sheet, seen)
-        given = ", ".join(f"{'refused ' * (v > 255)}{v % 256}: {k}" for v, k in sorted(seen.items()))
-        print(f"{len(sheets)} sheets{said[kind]}, no difference; verdicts {given}")
+        print(f"{len(sheets)} sheets{said[kind]}, no difference; verdicts {given(seen, 'sheets')}")
+        print("; ".join(f"{call}: {given(seen, call)}" for call in ("steps", "begin", "tick", "finish")))
 
 
 main()

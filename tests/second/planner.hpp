@@ -1,4 +1,4 @@
-// A planner from document 01 and requests L1, L3 and L11, generic in how heaviest walks are found.
+// A planner from document 01 and requests L1, L3, L6 and L11, generic in how heaviest walks are found.
 //
 // A Kernel has three functions over a Graph (below):
 //   static int stride(const Graph &g)    the cells of a row, at least g.anchors and at most 64;
@@ -30,9 +30,10 @@ inline uint64_t bit(int k) { return uint64_t(1) << k; }
 inline int lowest(uint64_t map) { return __builtin_ctzll(map); }
 inline int highest(uint64_t map) { return 63 - __builtin_clzll(map); }
 
-// The after and at-least of one record, open durations 0; a walk that counts from the end of an open step takes an after link, and begins with its gap.
+// The after and at-least of one record, open durations at their least; a walk that counts from the end of an open step takes an after link, and begins with
+// its gap alone.
 struct Forward { uint8_t to, after; uint16_t gap; int32_t weight; };
-struct Return { uint8_t from, to, late; int32_t weight; }; // an at-most on (to, from)
+struct Return { uint8_t from, to, late; int32_t weight; }; // an at-most on (to, from); from the finish: less the duration or the least of to
 
 // The sheet as links. Anchors, step 0 and the open steps, are numbered in the order of the steps' forward order; anchor 0 is step 0.
 // Maps of anchors have bit k for anchor k, maps of steps have bit v for step v.
@@ -44,7 +45,7 @@ struct Graph {
     uint16_t first[most_steps + 1];         // forward links out of v: first[v] to first[v + 1]
     Forward forward[most_forward];          // those that are put in stand before those of the records
     Return back[most_returns];
-    uint16_t duration[most_steps];
+    uint16_t duration[most_steps];          // of an open step the least, 0 where none is given
     uint8_t incoming[most_steps];           // forward links into v
     uint8_t order[most_steps];              // steps in forward order
     uint8_t anchor[most_steps];             // the number of an open step
@@ -87,15 +88,14 @@ inline int read(Graph &g, const uint8_t *p, size_t length) {
     for (int v = 0; v < n; v++) {
         if (p == end) return 1;
         const int map = *p++;
-        if (map > 2 || (v == 0 && map != 1)) return 4;
+        if ((map > 2 && map != 5) || (v == 0 && map != 1)) return 4;
         int ticks = 0;
-        if (map == 2) {
+        if (map & 6) {
             if (end - p < 2) return 1;
             ticks = two(p);
             p += 2;
-        } else if (map == 1) {
-            g.open |= bit(v);
         }
+        if (map & 1) g.open |= bit(v);
         g.duration[v] = ticks;
         g.incoming[v] = 0;
     }
@@ -116,8 +116,8 @@ inline int read(Graph &g, const uint8_t *p, size_t length) {
         if (map & 3) {
             int weight = map & 1 ? g.duration[i] : 0;
             if (map & 2) {
-                const int least = two(p);
-                if (least > weight) weight = least;
+                const int at_least = two(p);
+                if (at_least > weight) weight = at_least;
                 p += 2;
             }
             g.forward[links++] = Forward{uint8_t(j), uint8_t(map & 1), 0, weight};
@@ -283,18 +283,18 @@ template <class Kernel> int judged(Graph &g, const uint8_t *sheet, size_t length
     return 0;
 }
 
-// The members that decide v: each is tested against those that decide, the latest first.
+// The members that decide v: each is tested against those that decide, the latest first. Between two offsets lies the least of the step in the middle.
 inline uint64_t deciding(const Graph &g, const int32_t *walk, int stride, int v) {
     const int32_t *row = walk + v * stride;
     uint64_t kept = g.set[v], left = kept;
     while (left) {
         const int b = highest(left);
-        const int32_t *before = walk + g.step[b] * stride;
+        const int32_t *before = walk + g.step[b] * stride, rest = g.duration[g.step[b]] + row[b];
         left &= ~bit(b);
         if (b == 0) break;
         for (uint64_t map = g.set[g.step[b]] & kept & ~bit(b); map; map &= map - 1) {
             const int a = lowest(map);
-            if (before[a] + row[b] >= row[a]) kept &= ~bit(a);
+            if (before[a] + rest >= row[a]) kept &= ~bit(a);
         }
         left &= kept;
     }
@@ -345,7 +345,7 @@ uint32_t starts(const uint8_t *sheet, size_t length, bool allow, const uint32_t 
     const size_t n = g.steps;
     const int stride = Kernel::stride(g);
     for (size_t v = 0; v < n && v < list_len; v++)
-        if (list[v] > longest || (list[v] != 0 && !(g.open >> v & 1))) return refused + 13;
+        if (g.open >> v & 1 ? list[v] < g.duration[v] || list[v] > longest : list[v] != 0) return refused + 13;
     if (list_len < n || out_len < n) return refused + 14;
     uint32_t end[most_steps];               // when an anchor ends
     for (size_t at = 0; at < n; at++) {
@@ -359,6 +359,17 @@ uint32_t starts(const uint8_t *sheet, size_t length, bool allow, const uint32_t 
         if (v == 0 || (g.open >> v & 1)) end[g.anchor[v]] = start + list[v];
     }
     return g.waits;
+}
+
+// What a run is begun with: the steps, the map of the open ones, step 0 among them, and their leasts.
+inline uint32_t steps(const uint8_t *sheet, size_t length, size_t *n, uint64_t *open, uint16_t *leasts, size_t leasts_len) {
+    Graph g;
+    if (int k = read(g, sheet, length)) return refused + k;
+    if (leasts_len < size_t(g.steps)) return refused + 14;
+    *n = g.steps;
+    *open = g.open | 1;
+    for (int v = 0; v < g.steps; v++) leasts[v] = g.open >> v & 1 ? g.duration[v] : 0;
+    return 0;
 }
 
 } // namespace planner

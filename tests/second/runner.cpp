@@ -1,4 +1,4 @@
-// The second runner: begin, tick and finish as document 01 tells them, on any state and any table.
+// The second runner: begin, tick and finish as document 01 and request L6 tell them, on any state and any table.
 #include "runner.h"
 
 #include <algorithm>
@@ -17,6 +17,7 @@ bool has(uint64_t map, size_t step) { return map >> step & 1; }
 struct State {
     uint64_t *words;
     uint32_t *tick, *start, *finish;
+    uint16_t *least;
 
     uint64_t count() const { return words[0]; }
     uint64_t open() const { return words[1]; }
@@ -24,6 +25,9 @@ struct State {
     uint64_t &finished() { return words[3]; }
     bool begun() { return has(started(), 0); }
     bool count_is_good() const { return count() >= 1 && count() <= 64; }
+
+    // Whether step s has lasted its least by now.
+    bool long_enough(size_t s) const { return uint64_t(start[s]) + least[s] <= *tick; }
 
     // Whether step v, not yet started, starts now.
     bool due(size_t v, const uint32_t *table) {
@@ -52,11 +56,11 @@ struct State {
 
 } // namespace
 
-uint32_t second_begin(uint64_t words[4], uint32_t *tick, uint32_t start[64], uint32_t finish[64], uint64_t *map, size_t n, uint64_t open, const uint32_t *table, size_t table_len) {
-    State state{words, tick, start, finish};
+uint32_t second_begin(uint64_t words[4], uint32_t *tick, uint32_t start[64], uint32_t finish[64], uint16_t least[64], uint64_t *map, size_t n, uint64_t open, const uint16_t *leasts, size_t leasts_len, const uint32_t *table, size_t table_len) {
+    State state{words, tick, start, finish, least};
     if (state.begun()) return refused(16);
     if (n < 1 || n > 64) return refused(2);
-    if (table_len < n * n) return refused(14);
+    if (table_len < n * n || leasts_len < n) return refused(14);
     words[0] = n;
     words[1] = open;
     words[2] = 1;
@@ -64,12 +68,13 @@ uint32_t second_begin(uint64_t words[4], uint32_t *tick, uint32_t start[64], uin
     *tick = 0;
     std::fill(start, start + 64, 0);
     std::fill(finish, finish + 64, 0);
+    std::fill(std::copy(leasts, leasts + n, least), least + 64, 0);
     *map = 1 | state.sweep(table);
     return 0;
 }
 
-uint32_t second_tick(uint64_t words[4], uint32_t *tick, uint32_t start[64], uint32_t finish[64], uint64_t *map, const uint32_t *table, size_t table_len) {
-    State state{words, tick, start, finish};
+uint32_t second_tick(uint64_t words[4], uint32_t *tick, uint32_t start[64], uint32_t finish[64], uint16_t least[64], uint64_t *map, const uint32_t *table, size_t table_len) {
+    State state{words, tick, start, finish, least};
     if (!state.begun() || !state.count_is_good()) return refused(15);
     if (table_len < state.count() * state.count()) return refused(14);
     if (*tick == clock_end) return refused(18);
@@ -78,11 +83,12 @@ uint32_t second_tick(uint64_t words[4], uint32_t *tick, uint32_t start[64], uint
     return 0;
 }
 
-uint32_t second_finish(uint64_t words[4], uint32_t *tick, uint32_t start[64], uint32_t finish[64], uint64_t *map, size_t s, const uint32_t *table, size_t table_len) {
-    State state{words, tick, start, finish};
+uint32_t second_finish(uint64_t words[4], uint32_t *tick, uint32_t start[64], uint32_t finish[64], uint16_t least[64], uint64_t *map, size_t s, const uint32_t *table, size_t table_len) {
+    State state{words, tick, start, finish, least};
     if (!state.begun() || !state.count_is_good()) return refused(15);
     if (table_len < state.count() * state.count()) return refused(14);
     if (s == 0 || s >= state.count() || !has(state.open(), s) || !has(state.started(), s) || has(state.finished(), s)) return refused(17);
+    if (!state.long_enough(s)) return refused(20);
     state.finished() |= uint64_t(1) << s;
     finish[s] = *tick;
     *map = state.sweep(table);

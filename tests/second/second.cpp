@@ -18,3 +18,7 @@ uint32_t second_plan(const uint8_t *sheet, size_t sheet_len, bool allow_waits, u
 uint32_t second_starts(const uint8_t *sheet, size_t sheet_len, bool allow_waits, const uint32_t *list, size_t list_len, uint32_t *out, size_t out_len) {
     return planner::starts<Kernel>(sheet, sheet_len, allow_waits, list, list_len, out, out_len);
 }
+
+uint32_t second_steps(const uint8_t *sheet, size_t sheet_len, size_t *n, uint64_t *open, uint16_t *leasts, size_t leasts_len) {
+    return planner::steps(sheet, sheet_len, n, open, leasts, leasts_len);
+}

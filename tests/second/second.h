@@ -1,4 +1,4 @@
-/* The second planner: the four planner calls of include/standplan.h under other names, written apart, from document 01, requests L1, L3 and L11 and docs/.
+/* The second planner: the planner calls of include/standplan.h under other names, written apart, from document 01, requests L1, L3, L6 and L11 and docs/.
  * Arguments, verdicts and what happens to lent memory are as there. */
 #ifndef SECOND_H
 #define SECOND_H
@@ -15,6 +15,10 @@ uint32_t second_judge(const uint8_t *sheet, size_t sheet_len, bool allow_waits);
 uint32_t second_waits(const uint8_t *sheet, size_t sheet_len, uint64_t maps[64], uint32_t *count);
 uint32_t second_plan(const uint8_t *sheet, size_t sheet_len, bool allow_waits, uint32_t *table, size_t table_len);
 uint32_t second_starts(const uint8_t *sheet, size_t sheet_len, bool allow_waits, const uint32_t *list, size_t list_len, uint32_t *out, size_t out_len);
+
+/* What a run of the sheet is begun with: N; the map of the open steps, step 0 among them; and the leasts, the first N numbers, 0 for a step without one.
+ * Refusals 1 to 7 and 26, then 14 where fewer than N numbers are lent. */
+uint32_t second_steps(const uint8_t *sheet, size_t sheet_len, size_t *n, uint64_t *open, uint16_t *leasts, size_t leasts_len);
 
 #ifdef __cplusplus
 }

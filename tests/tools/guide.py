@@ -34,7 +34,7 @@ def format_tables():
     """The tables with bytes, text and meaning, one for each example that is named in front of it."""
     text = (ROOT / "docs/FORMAT.md").read_text("utf-8")
     found = re.findall(r"^`([0-9a-f ]+)` \(examples/(\w+)\.sheet.*?\n\n\| bytes \| as text \| meaning \|\n\|---\|---\|---\|\n((?:\|.*\n)+)", text, re.MULTILINE)
-    assert [name for _, name, _ in found] == ["stand", "exposure", "lip", "loose"], found
+    assert [name for _, name, _ in found] == ["stand", "exposure", "lip", "loose", "least"], found
     for line, name, rows in found:
         cells = [[cell.strip(" `") for cell in row.split("|")[1:3]] for row in rows.splitlines()]
         data = (ROOT / f"examples/{name}.sheet").read_bytes()

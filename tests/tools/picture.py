@@ -57,6 +57,12 @@ def placed(texts):
     return lambda tick: axis[0] + (axis[last] - axis[0]) * tick / last
 
 
+def solid(svg):
+    """The parts of bars that are drawn solid, by their ends: the leasts, that of the legend last."""
+    found = [e for e in tree.fromstring(svg).iterfind("{*}rect") if e.get("fill") == tool.OPEN]
+    return [(float(e.get("x")), float(e.get("x")) + float(e.get("width"))) for e in found]
+
+
 def left_of(bar):
     """Where a bar begins; of a diamond, its middle."""
     return float(bar.get("x") or bar.get("d")[1:].split()[0])
@@ -118,7 +124,7 @@ def linked(what, sheet, starts, ends, svg):
 
 
 def pictures():
-    seen, refused = 0, 0
+    seen, refused, seen_leasts = 0, 0, 0
     for data, maps, verdict, durations, times in answers():
         what = f"{data.hex()} {durations}"
         if len(durations) < (data[0] if data else 0) or len(times) < len(durations):
@@ -138,11 +144,13 @@ def pictures():
         check(found, int(verdict[1]), what)
         check(starts, [int(time) for time in times], what)
         check([sum(1 << a for a in each) for each in waits], maps[:n], what)
-        wide, high, texts, bars, lines = drawn(tool.picture("a title", sheet, durations, waits, starts))
+        svg = tool.picture("a title", sheet, durations, waits, starts)
+        wide, high, texts, bars, lines = drawn(svg)
         said = [text for _, _, _, text in texts]
         for v, step in enumerate(sheet.steps):
             lasts = durations[v] if step == "open" else step
-            wanted = (f"{starts[v]} to {starts[v] + lasts}" if lasts else f"{starts[v]}") + (", open" if step == "open" and v else "")
+            least = sheet.leasts.get(v, 0)
+            wanted = (f"{starts[v]} to {starts[v] + lasts}" if lasts else f"{starts[v]}") + (", open" if step == "open" and v else "") + (f", at least {least}" if least else "")
             assert wanted in said, f"{what}: {wanted}"
         limits = [word for words in sheet.links.values() for word in words if word in (tool.AT_MOST, tool.FROM_FINISH)]
         check(sum(text.startswith("at most ") for text in said), len(limits), what)
@@ -153,6 +161,10 @@ def pictures():
         x, ends = placed(texts), [start + (durations[v] if step == "open" else step) for v, (start, step) in enumerate(zip(starts, sheet.steps))]
         same_places([(left_of(bar), left_of(bar) + float(bar.get("width") or 0)) for bar in bars[:n]],
                     [(x(start), x(start) + (max(x(end) - x(start), 1) if end > start else 0)) for start, end in zip(starts, ends)], what)
+        leasts = [(v, least) for v, least in sorted(sheet.leasts.items()) if least]
+        same_places(solid(svg)[:len(leasts)], [(x(starts[v]), x(starts[v] + least)) for v, least in leasts], f"{what}: leasts")
+        check(len(solid(svg)), len(leasts) + bool(leasts), f"{what}: leasts, and one below")
+        seen_leasts += len(leasts)
         outside = x(0) + tool.PLOT
         wanted = [(x(since), min(x(since + words[word]), outside)) for j in range(n) for (i, k), words in sorted(sheet.links.items()) if k == j
                   for word, since in ((tool.AT_MOST, starts[i]), (tool.FROM_FINISH, ends[i])) if word in words]
@@ -161,8 +173,35 @@ def pictures():
         whole(what, wide, high, texts)
         linked(what, sheet, starts, ends, tool.picture("a title", sheet, durations, waits, starts, True))
         seen += 1
-    assert seen > 40 and refused > 40, (seen, refused)
+    assert seen > 40 and refused > 40 and seen_leasts > 20, (seen, refused, seen_leasts)
     return seen, refused
+
+
+def leasts():
+    """Leasts, with start times worked out by hand: a step that lasts longer, one that lasts its least, a least of 0; those of a graph; and what is not named."""
+    sheet = sheets.from_text(b"""step 0 open
+step 1 open least 8 # hand
+step 2 open least 3
+step 3 open least 0
+step 4 open
+link 1 2 after
+link 2 3 after
+link 3 4 after
+""")
+    durations, waits, starts = [0, 10, 3, 0, 0], [[]] * 5, [0, 0, 10, 13, 13]
+    svg = tool.picture("a title", sheet, durations, waits, starts)
+    _, _, texts, bars, _ = drawn(svg)
+    x, said = placed(texts), [text for *_, text in texts]
+    for line in ("0 to 10, open, at least 8", "10 to 13, open, at least 3", "13, open", tool.LEAST):
+        assert line in said, f"{line}: {said}"
+    same_places(solid(svg)[:-1], [(x(0), x(8)), (x(10), x(13))], "solid parts")
+    check(len(bars), 6, "bars, and one below")
+    check(tool.asked_for([], sheet), [0, 8, 3, 0, 0], "what is not named lasts its least")
+    check(tool.asked_for(["hand=4", "4=7"], sheet), [0, 4, 3, 0, 7], "and what is named what is said")
+    lines = [line for line in tool.graph("a title", sheet, waits).splitlines() if "open" in line]
+    check([re.search(r'label="(.*?)"', line)[1] for line in lines], [r"1 hand\nopen, at least 8", r"2\nopen, at least 3", r"3\nopen", r"4\nopen"], "a graph's leasts")
+    status, _, said = ran("-", "hand=7", given=b"step 0 open\nstep 1 open least 8 # hand\n")
+    check((status, said[:28]), (1, "standard input: refused 13: "), "below the least")
 
 
 def gaps():
@@ -233,7 +272,7 @@ def command():
         path.write_text("step 0 open\nstep 1 open\nlink 1 0 after\n")
         check(ran(path), (1, b"", f"{path}: refused 8: forward links close a circle\n"), "a sheet that is refused")
         path.write_text("step 0 open\nstep 1 opens\n")
-        check(ran(path), (1, b"", f"{path}: line 2: a step is 'open' or 'fixed' and its ticks\n"), "a text that is no sheet")
+        check(ran(path), (1, b"", f"{path}: line 2: a step is 'open', 'open least' and ticks, or 'fixed' and its ticks\n"), "a text that is no sheet")
         path.write_bytes(b"A")
         check(ran(path), (1, b"", f"{path}: byte 0: refused 2: N is 0 or above 64\n"), "bytes that are no sheet")
     for word in ("3=1", "2=16777216", "2=4294967296", "2=9999999999", "lamps=1"):
@@ -287,7 +326,7 @@ def graphs():
     odd = b'step 0 open # a "quoted" \\ name\nstep 1 open # \\N\nlink 0 1 after\n'
     refused = [b"step 0 open\nstep 1 fixed 1\nstep 2 fixed 1\nlink 1 2 after\nlink 2 1 after at-least 3\n", b"step 0 open\nstep 1 open\nlink 1 0 after\n"]
     wanted = [*(("refused 8: forward links close a circle", 1, data) for data in refused), ("sound", 0, odd)]
-    wanted += [("sound", 0, of_64_steps())] + [("sound with waits" if name == "hands" else "sound", 0, (ROOT / f"examples/{name}.text").read_bytes()) for name in ("stand", "hands", "exposure", "lip", "loose")]
+    wanted += [("sound", 0, of_64_steps())] + [("sound with waits" if name == "hands" else "sound", 0, (ROOT / f"examples/{name}.text").read_bytes()) for name in ("stand", "hands", "exposure", "lip", "loose", "least")]
     for verdict, status, data in wanted:
         found, printed, said = ran("--graph", "-", given=data)
         check((found, said), (status, f"standard input: {verdict}\n" if status else ""), verdict)
@@ -326,6 +365,7 @@ def largest():
 
 
 if __name__ == "__main__":
+    leasts()
     gaps()
     loose()
     seen, refused = pictures()

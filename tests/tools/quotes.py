@@ -1,5 +1,5 @@
 """Text in double quotation marks, in docs/ and in comments of specifications, is quoted: it stands in docs/SCOPE.md, which has the demands, document 01 and
-requests L1, L3 and L11 word for word. The first letter may be of the other size, and ' .. ' leaves words out. What is quoted there stands behind a bar."""
+requests L1, L3, L6 and L11 word for word. The first letter may be of the other size, and ' .. ' leaves words out. What is quoted there stands behind a bar."""
 import re
 
 from stored import ROOT

@@ -28,7 +28,7 @@ def check(found, wanted, what):
 
 
 def round_trips():
-    rng, seen, gaps = random.Random(1), Counter(), 0
+    rng, seen, gaps, leasts = random.Random(1), Counter(), 0, 0
     for number, (data, verdict) in enumerate(stored.sheets()):
         what = f"stored sheet {number}, {verdict}"
         if verdict.removeprefix("refused ") in READER:
@@ -47,12 +47,14 @@ def round_trips():
         check(sheets.to_bytes(sheets.from_text("\r\n \n".join(lines).encode())), data, f"{what}, its lines in another order")
         seen["sheets"] += 1
         gaps += stored.has_gap(data)
+        leasts += stored.has_least(data)
     check({key.removeprefix("refused ") for key in seen} - {"sheets"}, READER, "refusals among the stored sheets")
-    assert gaps
-    return seen["sheets"], gaps, seen.total() - seen["sheets"]
+    assert gaps and leasts
+    return seen["sheets"], gaps, leasts, seen.total() - seen["sheets"]
 
 
 STEPS = "step 0 open\nstep 1 fixed 3\nstep 2 open\n"
+FORMS = "'open', 'open least' and ticks, or 'fixed' and its ticks"
 WORDS = "after, after gap, at-least, at-most, at-most-from-finish"
 TEXTS = [
     ("", "line 1: there is no step; the first is 'step 0 open'"),
@@ -63,11 +65,16 @@ TEXTS = [
     ("step 0 open\nstep 3 open\nstep 1 open\n", "line 2: step 3 is here, and step 2 is missing"),
     (STEPS + "step 1 open\n", "line 4: step 1 stands in line 2 already"),
     (STEPS + "step 64 open\n", "line 4: 64 is too large: a sheet has at most 64 steps, and their numbers are at most 63"),
-    (STEPS + "step 3\n", "line 4: a step has a number, then 'open' or 'fixed' and its ticks"),
-    (STEPS + "step 3 closed\n", "line 4: a step is 'open' or 'fixed' and its ticks"),
-    (STEPS + "step 3 open 3\n", "line 4: a step is 'open' or 'fixed' and its ticks"),
-    (STEPS + "step 3 fixed\n", "line 4: a step is 'open' or 'fixed' and its ticks"),
-    (STEPS + "step 3 fixed 3 4\n", "line 4: a step is 'open' or 'fixed' and its ticks"),
+    (STEPS + "step 3\n", f"line 4: a step has a number, then {FORMS}"),
+    *((STEPS + f"step 3 {form}\n", f"line 4: a step is {FORMS}") for form in ("closed", "open 3", "fixed", "fixed 3 4", "open least 8 9", "open least 8 least 9", "open with-field")),
+    ("step 0 open least 8\n", "line 1: step 0 is the start and has no least"),
+    ("step 0 open least 0\n", "line 1: step 0 is the start and has no least"),
+    *((STEPS + f"step 3 {form}\n", "line 4: 'least' stands only behind 'open' (refusal 4)")
+      for form in ("fixed 3 least 8", "fixed least 8", "fixed 0 with-field least 8", "least 8", "least 8 open", "fixed 0 least 0")),
+    (STEPS + "step 3 open least\n", "line 4: 'least' has no number behind it"),
+    (STEPS + "step 3 open least 65536\n", "line 4: 65536 is too large: a least is at most 65535"),
+    (STEPS + "step 3 open least -1\n", "line 4: '-1' is no number"),
+    (STEPS + "step 3 open least eight\n", "line 4: 'eight' is no number"),
     (STEPS + "step 3 fixed 65536\n", "line 4: 65536 is too large: a duration is at most 65535"),
     (STEPS + "step 3 fixed " + "9" * 5000 + "\n", "line 4: " + "9" * 5000 + " is too large: a duration is at most 65535"),
     (STEPS + "step 3 fixed -1\n", "line 4: '-1' is no number"),
@@ -103,13 +110,14 @@ TEXTS = [
 BYTES = [
     ("", "byte 0: refused 1"), ("00", "byte 0: refused 2"), ("41 00 00", "byte 0: refused 2"), ("05 01", "byte 2: refused 1"), ("01 01 02", "byte 1: refused 3"),
     ("01 00 00", "byte 3: refused 1"), ("01 00 00 02", "byte 3: refused 4"), ("02 00 00 01 03", "byte 4: refused 4"), ("02 00 00 01 02 05", "byte 6: refused 1"),
+    ("01 00 00 05 08 00", "byte 3: refused 4"), ("02 00 00 01 05 08", "byte 6: refused 1"), ("02 00 00 01 05", "byte 5: refused 1"),
     ("02 01 00 01 01 00 00 01", "byte 5: refused 4"), ("02 01 00 01 01 20 00 01", "byte 5: refused 4"), ("02 01 00 01 01 10 00 01 05 00", "byte 5: refused 26"),
     ("02 01 00 01 01 08 00 01 06 00", "byte 5: refused 4"), ("02 01 00 01 01 18 00 01 06 00 05 00", "byte 5: refused 4"),
     ("02 01 00 01 01 09 00 01 06", "byte 9: refused 1"),
     ("02 01 00 01 01 01 02 01", "byte 6: refused 5"), ("02 01 00 01 01 01 00 02", "byte 7: refused 5"), ("02 01 00 01 01 01 01 01", "byte 7: refused 5"),
     ("02 02 00 01 01 01 00 01 01 00 01", "byte 9: refused 6"), ("02 01 00 01 01 04 00 01 05", "byte 9: refused 1"), ("01 00 00 01 00", "byte 4: refused 7"),
 ]
-# A text, and its bytes: the limits, and both forms of a duration of 0 and of a gap of 0.
+# A text, and its bytes: the limits, and both forms of a duration of 0, of a gap of 0 and of a least of 0.
 TAKEN = [
     ("step 0 open", "01 00 00 01"),
     ("\ufeffstep 0 open # ein Anfang: Größe\n  step  01\tfixed 065535 \n", "02 00 00 01 02 ff ff"),
@@ -118,6 +126,8 @@ TAKEN = [
      "02 02 00 01 01 17 00 01 03 00 04 00 05 00 04 01 00 ff ff"),
     ("step 0 open\nstep 1 open\nlink 0 1 at-most-from-finish 5 at-most 4 after gap 6 at-least 3\n", "02 01 00 01 01 1f 00 01 03 00 04 00 06 00 05 00"),
     ("step 0 open\nstep 1 open\nlink 0 1 after\nlink 1 0 after gap 0\n", "02 02 00 01 01 01 00 01 09 01 00 00 00"),
+    ("step 0 open\nstep 1 open least 8\nstep 2 open least 0\nstep 3 open\n", "04 00 00 01 05 08 00 05 00 00 01"),
+    ("step 1 open least 065535 # hand\nstep 0 open\nlink 0 1 after\n", "02 01 00 01 05 ff ff 01 00 01"),
     ("step 0 open\nstep 1 open\nlink 0 1 at-most 7 after gap 65535\n", "02 01 00 01 01 0d 00 01 07 00 ff ff"),
 ]
 ALLOWED = {*range(1, 8), *range(9, 32, 2)}                 # link maps: bits 3 and 4 stand beside bit 0 only
@@ -132,6 +142,21 @@ def refusals_and_limits():
         check(sheets.to_bytes(sheets.from_text(text.encode())).hex(" "), data, f"text {text!r}")
     most = TEXTS[-2][0].rsplit("\n", 2)[0]
     check(sheets.to_bytes(sheets.from_text(most.encode()))[:3].hex(" "), "40 00 02", "64 steps and 512 links")
+
+
+def step_maps():
+    """Every map of a step, with fields of 1 and 2 in the order of the bits: the allowed ones have a text with these numbers, and go back; others are 4. Step 0 is 01."""
+    lines = {0: ("step 1 fixed 0", ""), 1: ("step 1 open", ""), 2: ("step 1 fixed 513", "01 02"), 5: ("step 1 open least 513", "01 02")}
+    for bits in range(256):
+        data = bytes([2, 0, 0, 1, bits]) + bytes.fromhex(lines.get(bits, ("", "01 02 03 04"))[1])
+        if bits in lines:
+            sheet = sheets.from_bytes(data)
+            check(sheets.to_text(sheet).splitlines()[1], lines[bits][0], f"step map {bits}")
+            check(sheets.to_bytes(sheets.from_text(sheets.to_text(sheet).encode())), data, f"step map {bits}")
+        else:
+            check(refused(sheets.from_bytes, data).rpartition(":")[0], "byte 4: refused 4", f"step map {bits}")
+        if bits != 1:
+            check(refused(sheets.from_bytes, bytes([1, 0, 0, bits, 1, 2])).rpartition(":")[0], "byte 3: refused 4", f"map {bits} of step 0")
 
 
 def link_maps():
@@ -153,8 +178,9 @@ def link_maps():
 def longest():
     """The longest sheet: each field that there can be."""
     pairs = [(i, j) for i in range(64) for j in range(64) if i != j][:512]
-    data = bytes([64, 0, 2, 1]) + b"\x02\xff\xff" * 63 + b"".join(bytes([31, i, j]) + b"\xff" * 8 for i, j in pairs)
-    check(sheets.to_bytes(sheets.from_text(sheets.to_text(sheets.from_bytes(data)).encode())), data, "the longest sheet")
+    for bits in (2, 5):                                    # fixed steps, and open ones with a least
+        data = bytes([64, 0, 2, 1]) + bytes([bits, 255, 255]) * 63 + b"".join(bytes([31, i, j]) + b"\xff" * 8 for i, j in pairs)
+        check(sheets.to_bytes(sheets.from_text(sheets.to_text(sheets.from_bytes(data)).encode())), data, "the longest sheet")
     check(len(data), int(re.search(r"#define STANDPLAN_MAX_SHEET (\d+)", (ROOT / "include/standplan.h").read_text("ascii"))[1]), "its bytes, by the header")
 
 
@@ -192,10 +218,11 @@ def command():
 
 
 if __name__ == "__main__":
-    there, gaps, not_there = round_trips()
+    there, gaps, leasts, not_there = round_trips()
     refusals_and_limits()
+    step_maps()
     link_maps()
     longest()
     loose()
     command()
-    print(f"{there} stored sheets go to text and back, {gaps} of them with gaps, {not_there} are refused as stored; {len(TEXTS)} texts and {len(BYTES)} inputs refused in their place")
+    print(f"{there} stored sheets go to text and back, {gaps} of them with gaps, {leasts} with leasts, {not_there} are refused as stored; {len(TEXTS)} texts and {len(BYTES)} inputs refused in their place")

@@ -54,6 +54,14 @@ def has_gap(data):
         return False
 
 
+def has_least(data):
+    """Whether this is a sheet, and one of its steps has a least duration above 0."""
+    try:
+        return any(from_bytes(data).leasts.values())
+    except NoSheet:
+        return False
+
+
 def has_loose(data):
     """Whether this is a sheet, and nothing leads into one of its steps."""
     try:

@@ -14,8 +14,10 @@
 //! assert_eq!(plan.offset(2, 1), Some(0)); // step 2 starts 0 ticks after step 1 ends
 //! assert_eq!(standplan::starts(&sheet, true, &[0, 40, 0])?, [0, 0, 40]);
 //!
+//! let steps = standplan::steps(&sheet)?; // what a run of the sheet is begun with
+//! assert_eq!((steps.n, steps.open, &steps.leasts[..]), (3, 0b111, &[0, 0, 0][..]));
 //! let mut run = standplan::Run::new();
-//! assert_eq!(run.begin(3, 0b110, &plan.table)?, 0b011); // steps 0 and 1 start
+//! assert_eq!(run.begin(steps.n, steps.open, &steps.leasts, &plan.table)?, 0b011); // steps 0 and 1 start
 //! run.tick(&plan.table)?;
 //! assert_eq!(run.finish(1, &plan.table)?, 0b100); // step 1 has ended, step 2 starts
 //! assert_eq!(run.finish(1, &plan.table), Err(standplan::Refusal::CannotFinish));
@@ -50,14 +52,25 @@ mod raw {
             out: *mut u32,
             out_len: usize,
         ) -> u32;
+        pub fn standplan_steps(
+            sheet: *const u8,
+            sheet_len: usize,
+            n: *mut usize,
+            open: *mut u64,
+            leasts: *mut u16,
+            leasts_len: usize,
+        ) -> u32;
         pub fn standplan_begin(
             words: *mut [u64; 4],
             tick: *mut u32,
             start: *mut [u32; 64],
             finish: *mut [u32; 64],
+            least: *mut [u16; 64],
             map: *mut u64,
             n: usize,
             open: u64,
+            leasts: *const u16,
+            leasts_len: usize,
             table: *const u32,
             table_len: usize,
         ) -> u32;
@@ -66,6 +79,7 @@ mod raw {
             tick: *mut u32,
             start: *mut [u32; 64],
             finish: *mut [u32; 64],
+            least: *mut [u16; 64],
             map: *mut u64,
             table: *const u32,
             table_len: usize,
@@ -75,6 +89,7 @@ mod raw {
             tick: *mut u32,
             start: *mut [u32; 64],
             finish: *mut [u32; 64],
+            least: *mut [u16; 64],
             map: *mut u64,
             s: usize,
             table: *const u32,
@@ -160,17 +175,18 @@ refusals! {
     7 Trailing "bytes follow the last record"
     8 Circle "forward links close a circle"
     9 Unreached "retired: no sheet is refused so"
-    10 NeverKept "with all open durations 0, no start times keep every link"
+    10 NeverKept "with each open step at its least, no start times keep every link"
     11 NotAlwaysKept "for some list of durations no start times keep every link"
     12 WaitsNeeded "waits are needed and the caller did not allow them"
-    13 BadDuration "a duration is above 16,777,215, or is not 0 and belongs to step 0 or to a fixed step"
+    13 BadDuration "a duration is above 16,777,215 or below its step's least duration, or is not 0 and belongs to step 0 or to a fixed step"
     14 TooShort "a lent table or list is too short"
     15 NotBegun "no run has begun, or the state's step count is not 1 to 64"
     16 HasBegun "Begin on a run that has begun"
     17 CannotFinish "Finish of a step that is not open, is 0, has not started, or has finished"
     18 ClockEnd "Tick when the tick is 4,294,967,295"
+    20 TooEarly "Finish at a tick below its start tick plus its least duration"
     26 LimitWithoutAfter "a link map with bit 4, at most from the finish, and without bit 0, after"
-    28 WaitsClash "the waits close a circle of forward links, or leave no start times with all open durations 0"
+    28 WaitsClash "the waits close a circle of forward links, or leave no start times with each open step at its least"
 }
 
 impl Refusal {
@@ -236,8 +252,20 @@ impl Plan {
     }
 }
 
+/// What a run of a sheet is begun with.
+#[must_use]
+#[derive(Clone, Debug, PartialEq, Eq)]
+pub struct Steps {
+    /// The number of steps.
+    pub n: usize,
+    /// The map of the open steps, step 0 among them.
+    pub open: u64,
+    /// The least duration of each of the n steps, 0 for one without.
+    pub leasts: Vec<u16>,
+}
+
 /// The number of steps, for a sheet that is not refused.
-fn steps(sheet: &[u8]) -> usize {
+fn count(sheet: &[u8]) -> usize {
     sheet.first().map_or(0, |&n| usize::from(n).min(MAX_STEPS))
 }
 
@@ -260,7 +288,7 @@ pub fn waits_into(sheet: &[u8], maps: &mut [u64; 64], count: &mut u32) -> Result
 
 /// Plans a sheet. Refusals 1 to 8, 10 to 12, 26 and 28.
 pub fn plan(sheet: &[u8], allow: bool) -> Result<Plan, Refusal> {
-    let n = steps(sheet);
+    let n = count(sheet);
     let mut table = vec![UNDECIDED; n * n];
     let verdict = plan_into(sheet, allow, &mut table)?;
     Ok(Plan { verdict, n, table })
@@ -273,9 +301,9 @@ pub fn plan_into(sheet: &[u8], allow: bool, table: &mut [u32]) -> Result<Verdict
     })
 }
 
-/// Works out the start times of a sheet for a list of durations. Refusals 1 to 8, 10 to 14, 26 and 28.
+/// Works out the start times of a sheet for a list of durations: 0 for step 0 and fixed steps, for an open step no less than its least. Refusals 1 to 8, 10 to 14, 26 and 28.
 pub fn starts(sheet: &[u8], allow: bool, list: &[u32]) -> Result<Vec<u32>, Refusal> {
-    let mut out = vec![0; steps(sheet)];
+    let mut out = vec![0; count(sheet)];
     let _ = starts_into(sheet, allow, list, &mut out)?;
     Ok(out)
 }
@@ -300,6 +328,22 @@ pub fn starts_into(
     })
 }
 
+/// What a run of a sheet is begun with, of any sheet that can be read. Refusals 1 to 7 and 26.
+pub fn steps(sheet: &[u8]) -> Result<Steps, Refusal> {
+    let (mut n, mut open, mut leasts) = (0, 0, vec![0; MAX_STEPS]);
+    steps_into(sheet, &mut n, &mut open, &mut leasts)?;
+    leasts.truncate(n);
+    Ok(Steps { n, open, leasts })
+}
+
+/// The same, into a number, a map and the first n numbers of `leasts`. The rest stays as lent; on a refusal all of it does. Refusal 14 beside those of [`steps`].
+pub fn steps_into(sheet: &[u8], n: &mut usize, open: &mut u64, leasts: &mut [u16]) -> Result<(), Refusal> {
+    match unsafe { raw::standplan_steps(sheet.as_ptr(), sheet.len(), n, open, leasts.as_mut_ptr(), leasts.len()) } {
+        0 => Ok(()),
+        code => Err(Refusal::from_code(code)),
+    }
+}
+
 /// The state of a run. [`Run::new`] is that of no run; any other is answered too.
 #[derive(Clone, Debug, PartialEq, Eq)]
 pub struct Run {
@@ -317,6 +361,8 @@ pub struct Run {
     pub start: [u32; 64],
     /// The tick at which each step finished.
     pub finish: [u32; 64],
+    /// The least duration of each step.
+    pub least: [u16; 64],
 }
 
 /// What is lent for the map of a call.
@@ -335,20 +381,24 @@ impl Run {
     /// The state of no run.
     #[must_use]
     pub const fn new() -> Run {
-        Run { n: 0, open: 0, started: 0, finished: 0, tick: 0, start: [0; 64], finish: [0; 64] }
+        Run { n: 0, open: 0, started: 0, finished: 0, tick: 0, start: [0; 64], finish: [0; 64], least: [0; 64] }
     }
 
-    /// Begins a run of n steps by the plan in `table`, with the map of the open ones. Refusals 16, 2, 14.
-    pub fn begin(&mut self, n: usize, open: u64, table: &[u32]) -> Started {
+    /// Begins a run of n steps by the plan in `table`, with the map of the open ones and the first n of the least durations: those that [`steps`] gives.
+    /// Refusals 16, 2, 14.
+    pub fn begin(&mut self, n: usize, open: u64, leasts: &[u16], table: &[u32]) -> Started {
         self.call(|words, run, map| unsafe {
             raw::standplan_begin(
                 words,
                 &mut run.tick,
                 &mut run.start,
                 &mut run.finish,
+                &mut run.least,
                 map,
                 n,
                 open,
+                leasts.as_ptr(),
+                leasts.len(),
                 table.as_ptr(),
                 table.len(),
             )
@@ -363,6 +413,7 @@ impl Run {
                 &mut run.tick,
                 &mut run.start,
                 &mut run.finish,
+                &mut run.least,
                 map,
                 table.as_ptr(),
                 table.len(),
@@ -370,7 +421,7 @@ impl Run {
         })
     }
 
-    /// Open step s ends at this tick. Refusals 15, 14, 17.
+    /// Open step s ends at this tick. Refusals 15, 14, 17, and 20 where it has not lasted its least duration.
     pub fn finish(&mut self, s: usize, table: &[u32]) -> Started {
         self.call(|words, run, map| unsafe {
             raw::standplan_finish(
@@ -378,6 +429,7 @@ impl Run {
                 &mut run.tick,
                 &mut run.start,
                 &mut run.finish,
+                &mut run.least,
                 map,
                 s,
                 table.as_ptr(),

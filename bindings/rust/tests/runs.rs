@@ -8,9 +8,9 @@ fn number<T: std::str::FromStr>(word: &str) -> T {
     word.parse().unwrap_or_else(|_| panic!("no number: {word}"))
 }
 
-/// The ticks of the first steps; those of the rest are 0.
-fn ticks_of(words: &[&str]) -> [u32; 64] {
-    let mut ticks = [0; 64];
+/// The ticks, or least durations, of the first steps; those of the rest are 0.
+fn ticks_of<T: Copy + Default + std::str::FromStr>(words: &[&str]) -> [T; 64] {
+    let mut ticks = [T::default(); 64];
     for (tick, word) in ticks.iter_mut().zip(words) {
         *tick = number(word);
     }
@@ -27,6 +27,7 @@ fn run_of(fields: &[Vec<&str>]) -> Run {
         tick: number(tick),
         start: ticks_of(&fields[1]),
         finish: ticks_of(&fields[2]),
+        least: ticks_of(&fields[3]),
     }
 }
 
@@ -57,7 +58,10 @@ fn stored_runs() {
                 run = run_of(&fields[1..]);
                 continue;
             }
-            ["begin", size, n, open] => run.begin(number(n), number(open), &table[..number(size)]),
+            ["begin", size, n, open, ref leasts @ ..] => {
+                let leasts: Vec<u16> = leasts.iter().map(|word| number(word)).collect();
+                run.begin(number(n), number(open), &leasts, &table[..number(size)])
+            }
             ["tick", size] => run.tick(&table[..number(size)]),
             ["finish", size, s] => run.finish(number(s), &table[..number(size)]),
             _ => panic!("{place}: {line}"),
@@ -68,6 +72,6 @@ fn stored_runs() {
         assert_eq!(run, run_of(&fields[2..]), "{place}");
     }
     assert!(calls > 300);
-    // Each call goes through and is refused in each of its three ways.
-    assert_eq!(seen.len(), 12, "{seen:?}");
+    // Each call goes through and is refused in each of its three ways, Finish in four.
+    assert_eq!(seen.len(), 13, "{seen:?}");
 }

@@ -1,5 +1,7 @@
 //! The library's answers against those of the reference planner, stored by tests/rust/store.py.
-use standplan::{judge, plan, plan_into, starts, starts_into, waits, waits_into, Refusal, Verdict, MAX_SHEET, MAX_TABLE, STACK, UNDECIDED};
+use standplan::{
+    judge, plan, plan_into, starts, starts_into, steps, steps_into, waits, waits_into, Refusal, Run, Verdict, MAX_SHEET, MAX_TABLE, STACK, UNDECIDED,
+};
 use std::collections::BTreeSet;
 use std::thread;
 
@@ -36,7 +38,7 @@ fn fields(line: &str) -> Vec<Vec<&str>> {
 fn stored_answers() {
     let mut sheet = Vec::new();
     let mut seen = BTreeSet::new();
-    let mut lines = 0;
+    let (mut lines, mut counted) = (0, 0);
     for (at, line) in STORED.lines().enumerate() {
         let parts = fields(line);
         let allow = parts[0].get(1) == Some(&"1");
@@ -97,10 +99,25 @@ fn stored_answers() {
                     assert_eq!(times, after[..times.len()], "{place}");
                 }
             }
+            "steps" => {
+                // 1000 is lent for the number and the map.
+                let after: Vec<u16> = parts[3].iter().map(|word| word.parse().unwrap()).collect();
+                let (mut n, mut open) = (1000, 1000);
+                let mut leasts: Vec<u16> = (0..after.len() as u16).map(|i| 1000 + i).collect();
+                let verdict = steps_into(&sheet, &mut n, &mut open, &mut leasts);
+                assert_eq!(verdict.map(|()| Verdict::Sound), verdict_of(&parts[1]), "{place}");
+                assert_eq!((n.to_string(), open.to_string(), leasts), (parts[2][0].into(), parts[2][1].into(), after.clone()), "{place}");
+                match steps(&sheet) {
+                    Ok(given) if verdict.is_ok() => assert_eq!((given.n, given.open, &given.leasts[..]), (n, open, &after[..n]), "{place}"),
+                    Ok(_) => assert_eq!(verdict, Err(Refusal::TooShort), "{place}"),
+                    Err(refusal) => assert_eq!(Err(refusal), verdict, "{place}"),
+                }
+                counted += 1;
+            }
             word => panic!("{place}: {word}"),
         }
     }
-    assert!(lines > 300);
+    assert!(lines > 300 && counted > 300);
     // Both verdicts and refusals 1 to 8, 10 to 14, 26 and 28 are among them.
     assert_eq!(seen.len(), 17, "{seen:?}");
 }
@@ -112,6 +129,10 @@ fn nothing_lent() {
     assert_eq!(plan_into(&[1, 0, 0, 1], false, &mut []), Err(Refusal::TooShort));
     assert_eq!(starts_into(&[1, 0, 0, 1], false, &[], &mut []), Err(Refusal::TooShort));
     assert_eq!(starts(&[1, 0, 0, 1], false, &[]), Err(Refusal::TooShort));
+    assert_eq!(steps(&[]), Err(Refusal::Truncated));
+    assert_eq!(steps_into(&[1, 0, 0, 1], &mut 0, &mut 0, &mut []), Err(Refusal::TooShort));
+    assert_eq!(Run::new().begin(1, 1, &[], &[0]), Err(Refusal::TooShort));
+    assert_eq!(Run::new().begin(1, 1, &[0], &[]), Err(Refusal::TooShort));
     assert_eq!(Refusal::Circle.to_string(), "refused 8: forward links close a circle");
     assert_eq!(Refusal::from_number(9).map(Refusal::sentence), Some("retired: no sheet is refused so"));
 }
@@ -122,6 +143,30 @@ fn loose_steps() {
     assert_eq!(judge(&[2, 0, 0, 1, 1], false), Ok(Verdict::Sound));
     assert_eq!(starts(&[2, 0, 0, 1, 1], false, &[0, 7]), Ok(vec![0, 0]));
     assert_eq!(judge(&[2, 1, 0, 1, 1, 1, 1, 0], true), Err(Refusal::Circle));
+}
+
+/// A hand of at least eight ticks: a list below them is refused, and so is a finish before them.
+#[test]
+fn leasts() {
+    let sheet = [3, 1, 0, 1, 5, 8, 0, 0, 1, 1, 2];
+    assert_eq!(starts(&sheet, false, &[0, 8, 0]), Ok(vec![0, 0, 8]));
+    assert_eq!(starts(&sheet, false, &[0, 7, 0]), Err(Refusal::BadDuration));
+    let (given, plan) = (steps(&sheet).unwrap(), plan(&sheet, false).unwrap());
+    assert_eq!((given.n, given.open, &given.leasts[..]), (3, 0b011, &[0, 8, 0][..]));
+    let mut run = Run::new();
+    assert_eq!(run.begin(given.n, given.open, &given.leasts, &plan.table), Ok(0b011));
+    assert_eq!((run.least[..3].to_vec(), run.least[3..].iter().max()), (given.leasts, Some(&0)));
+    for _ in 0..8 {
+        let before = run.clone();
+        assert_eq!(run.finish(1, &plan.table), Err(Refusal::TooEarly));
+        assert_eq!(run, before);
+        assert_eq!(run.tick(&plan.table), Ok(0));
+    }
+    assert_eq!(run.finish(1, &plan.table), Ok(0b100));
+    assert_eq!(judge(&[1, 0, 0, 5, 8, 0], true), Err(Refusal::BadMap));
+    // What judging refuses is answered, if it can be read.
+    assert_eq!(judge(&[2, 1, 0, 1, 1, 1, 1, 0], true), Err(Refusal::Circle));
+    assert_eq!(steps(&[2, 1, 0, 1, 1, 1, 1, 0]).map(|given| given.open), Ok(0b11));
 }
 
 /// The longest sheet: 64 steps, 512 records, every field there. Step v + 1 to v + 9 follow v, as far as there are records, and may take as long as they like.

@@ -4,15 +4,20 @@ use mathlib.Core.Bool.{Bool}
 use mathlib.Core.List.{List}
 use Prim.Native.Nat.{ℕ, _<_, _≤_}
 use native.Mathlib.Omega.{arith}
-use Rattle.definitions.specs.Answers.{Written, waits-answer}
-use Rattle.definitions.specs.Basics.{Outcome}
-use Rattle.definitions.specs.Numbers.{verdict-of}
+use Rattle.definitions.specs.Answers.{Beginning, Written, waits-answer}
+use Rattle.definitions.specs.Basics.{Outcome, given, when-given}
+use Rattle.definitions.specs.Dispatcher.{Progress}
+use Rattle.definitions.specs.Numbers.{status-of, verdict-of}
+use Rattle.definitions.specs.Worked.{idle}
+use Rattle.definitions.specs.declared.Status.{Status}
+use Rattle.definitions.specs.declared.Status.the-variants as Statuses
 use Rattle.definitions.specs.declared.Verdict.{Verdict}
 use Rattle.definitions.specs.declared.Verdict.the-variants as Verdicts
 use Rattle.definitions.specs.declared.WaitMaps.{WaitMaps}
 use Rattle.plan_answer.specs.Returned.{WaitsReturned}
-use Rattle.data_numbers.specs.Codes.{code, refusals-past}
-use Rattle.c_planner.specs.Memory.{ListsInto, WritesInto, left}
+use Rattle.data_numbers.specs.Codes.{call-code, code, refusals-past}
+use Rattle.run_sheet.specs.Steps.{Returns}
+use Rattle.c_planner.specs.Memory.{BeginsInto, ListsInto, WritesInto, left}
 
 -- A verdict.
 pub coded : {r : ℕ} {v : Outcome ℕ} {asked : Bool} (answer : Bool → Outcome ℕ) (allow : Bool) → v ≡ answer asked → asked ≡ allow → r ≡ code v → r ≡ code (answer allow)
@@ -54,3 +59,14 @@ module _ {s : List ℕ} (maps : List ℕ) (count : ℕ) {found : WaitMaps} {r : 
     where
       stored : {A : Type 0} (a lent : A) → a ≡ left (waits-answer s .verdict) a lent
       stored a lent = left-given (found .verdict) a lent (subst (λ (x : ℕ). x < refusals-past) coded b) ∙ same-left a lent
+
+-- What a run is begun with: a status has the same number beside whatever it stands.
+status-coded : (s : Status) (g : Progress) (b : Beginning) → call-code (status-of s g) ≡ code (when-given (status-of s b) (λ b. given 0))
+unfolding when-given
+status-coded Statuses.Done g b = refl
+status-coded (Statuses.Refused k) g b = refl
+
+pub begins-into : {outcome : Outcome Beginning} {lent after : Beginning} {s : Status} {r : ℕ} → Returns outcome lent s after → ((g : Progress) → r ≡ call-code (status-of s g)) → BeginsInto outcome lent r after
+begins-into {after = after} {s = s} R coded =
+    let any : Progress = record { state = idle; map = 0 } in
+    record { status = coded any ∙ status-coded s any after ∙ ap (λ (o : Outcome Beginning). code (when-given o (λ b. given 0))) (R .answer); n = R .n; unbounded = R .unbounded; leasts = R .leasts }

@@ -1,9 +1,10 @@
-// What C and Rust call to plan: judging, waits, plans and start times on numbers and slices. A verdict is returned as one number: 0 or 1 where the sheet is accepted, 256 + k where it is refused by k.
-// Each function is thin over one of judge_sheet, plan_sheet or plan_times, and its answer is that of the definitions for every input. Nothing that is lent changes on a refusal.
+// What C and Rust call to plan: judging, waits, plans and start times, and what a run is begun with, on numbers and slices. A verdict is returned as one number: 0 or 1 where the sheet is accepted, 256 + k where it is refused by k.
+// Each function is thin over one of judge_sheet, plan_sheet, plan_times or run_sheet, and its answer is that of the definitions for every input. Nothing that is lent changes on a refusal.
 ghost use mathlib.Core.Path.{_≡_};
-ghost use Rattle.definitions.specs.Answers.{judged, planned, starts-answer, waits-answer};
+ghost use Rattle.definitions.specs.Answers.{judged, planned, starts-answer, steps-answer, waits-answer};
 ghost use Rattle.data_numbers.specs.Codes.{code};
-ghost use Rattle.c_planner.specs.Memory.{ListsInto, WritesInto};
+ghost use Rattle.run_sheet.specs.Steps.{memory};
+ghost use Rattle.c_planner.specs.Memory.{BeginsInto, ListsInto, WritesInto};
 
 // Judges a sheet. `allow` says whether waits are allowed.
 #[no_mangle]
@@ -44,4 +45,20 @@ pub extern "C" fn standplan_starts(sheet: &[u8], allow: bool, list: &[u32], out:
     ensures { λ r. ⌜ WritesInto (starts-answer (now (sheet .entry)) allow (now (list .entry)) (now (out .entry))) r (now (out .exit)) ⌝ }
 {
     data_numbers::verdict_code(plan_times::starts(sheet, allow, list, out))
+}
+
+// Gives what a run of a sheet is begun with: where the bytes can be read, n is its N, bit i of `unbounded` stands where step i is open, 0 among them, and the first n numbers of `leasts` are its least durations. Returns 0 then.
+// All other numbers stay as lent, and on a refusal all of them.
+#[no_mangle]
+pub extern "C" fn standplan_steps(
+    sheet: &[u8],
+    n: &mut usize,
+    unbounded: &mut u64,
+    leasts: &mut [u16],
+) -> u32
+    ensures { λ r. ⌜ BeginsInto (steps-answer (now (sheet .entry)) (now (leasts .entry)))
+        (memory (now (n .entry)) (now (unbounded .entry)) (now (leasts .entry))) r
+        (memory (now (n .exit)) (now (unbounded .exit)) (now (leasts .exit))) ⌝ }
+{
+    data_numbers::status_code(run_sheet::steps(sheet, n, unbounded, leasts))
 }

@@ -34,10 +34,10 @@ module _ (call : State → Outcome Progress) (lent : Memory) {d : Dispatch} {st 
   leaves-as-lent b = of-memory (left-refused lent (call st) (subst (λ (x : ℕ). 0 < x) answered b))
 
   -- The call went through: what the dispatcher returned was stored part by part.
-  pub leaves-stored : {words : List ℕ} → r ≡ 0 → words ≡ words-of (d .state) → Leaves call lent r (memory words (d .state .tick) (d .state .start) (d .state .finish) (d .map))
+  pub leaves-stored : {words : List ℕ} → r ≡ 0 → words ≡ words-of (d .state) → Leaves call lent r (memory words (d .state .tick) (d .state .start) (d .state .finish) (d .state .least) (d .map))
   leaves-stored {words} z laid =
       of-memory
-      (ap (λ (w : List ℕ). memory w (d .state .tick) (d .state .start) (d .state .finish) (d .map)) laid
+      (ap (λ (w : List ℕ). memory w (d .state .tick) (d .state .start) (d .state .finish) (d .state .least) (d .map)) laid
       ∙ ap (λ (s : State). holding s (d .map)) (returned .state)
       ∙ ap (holding (state-after st (call st))) (returned .map)
       ∙ left-given st lent (call st) (sym answered ∙ z))

@@ -9,8 +9,14 @@ ghost use Rattle.definitions.specs.Dispatcher.{Returns};
 ghost use Rattle.c_runner.specs.Memory.{Leaves, memory, state-in, words-of};
 
 // The state that the lent memory holds.
-fn state_in(words: [u64; 4], tick: u32, start: [u32; 64], finish: [u32; 64]) -> State
-    ensures { λ r. ⌜ r ≡ state-in words tick start finish ⌝ }
+fn state_in(
+    words: [u64; 4],
+    tick: u32,
+    start: [u32; 64],
+    finish: [u32; 64],
+    least: [u16; 64],
+) -> State
+    ensures { λ r. ⌜ r ≡ state-in words tick start finish least ⌝ }
 {
     State {
         n: words[0] as usize,
@@ -20,15 +26,16 @@ fn state_in(words: [u64; 4], tick: u32, start: [u32; 64], finish: [u32; 64]) -> 
         finished: words[3],
         start: start,
         finish: finish,
+        least: least,
     }
 }
 
-// The dispatcher's call on a state, by its arguments.
-fn called(st: State, call: Call, table: &[u32]) -> Dispatch
-    ensures { λ r. ⌜ Returns st (Dispatcher.called st (now (table .entry)) call) r ⌝ }
+// The dispatcher's call on a state, by its arguments; the least durations are for Begin alone.
+fn called(st: State, call: Call, leasts: &[u16], table: &[u32]) -> Dispatch
+    ensures { λ r. ⌜ Returns st (Dispatcher.called st (now (table .entry)) (now (leasts .entry)) call) r ⌝ }
 {
     match call {
-        Call::Begin(n, unbounded) => run_calls::begin(st, n, unbounded, table),
+        Call::Begin(n, unbounded) => run_calls::begin(st, n, unbounded, leasts, table),
         Call::Tick => run_calls::tick(st, table),
         Call::Finish(s) => run_calls::finish(st, s, table),
     }
@@ -46,6 +53,9 @@ fn words_of(st: State) -> [u64; 4]
     words
 }
 
+// What is lent as least durations beside a call that takes none.
+const NO_LEASTS: [u16; 0] = [];
+
 // Makes a call of the dispatcher on the state in the memory that is lent. Nothing is stored on a refusal.
 fn perform(
     call: Call,
@@ -53,18 +63,21 @@ fn perform(
     tick: &mut u32,
     start: &mut [u32; 64],
     finish: &mut [u32; 64],
+    least: &mut [u16; 64],
     map: &mut u64,
+    leasts: &[u16],
     table: &[u32],
 ) -> u32
-    ensures { λ r. ⌜ Leaves (λ st. Dispatcher.called st (now (table .entry)) call)
-        (memory (now (words .entry)) (now (tick .entry)) (now (start .entry)) (now (finish .entry)) (now (map .entry))) r
-        (memory (now (words .exit)) (now (tick .exit)) (now (start .exit)) (now (finish .exit)) (now (map .exit))) ⌝ }
+    ensures { λ r. ⌜ Leaves (λ st. Dispatcher.called st (now (table .entry)) (now (leasts .entry)) call)
+        (memory (now (words .entry)) (now (tick .entry)) (now (start .entry)) (now (finish .entry)) (now (least .entry)) (now (map .entry))) r
+        (memory (now (words .exit)) (now (tick .exit)) (now (start .exit)) (now (finish .exit)) (now (least .exit)) (now (map .exit))) ⌝ }
 {
     let held = *words;
     let starts = *start;
     let ends = *finish;
-    let lent = state_in(held, *tick, starts, ends);
-    let done = called(lent, call, table);
+    let shortest = *least;
+    let lent = state_in(held, *tick, starts, ends, shortest);
+    let done = called(lent, call, leasts, table);
     let status = done.status;
     let code = data_numbers::status_code(status);
     if 0 < code {
@@ -74,31 +87,35 @@ fn perform(
     let new_words = words_of(next);
     let new_starts = next.start;
     let new_ends = next.finish;
+    let new_shortest = next.least;
     *words = new_words;
     *tick = next.tick;
     *start = new_starts;
     *finish = new_ends;
+    *least = new_shortest;
     *map = done.map;
     code
 }
 
 // ---- the calls
 
-// Begins a run of n steps, with the map of those that are open.
+// Begins a run of n steps, with the map of those that are open and the least durations, of which n are taken along.
 #[no_mangle]
 pub extern "C" fn standplan_begin(
     words: &mut [u64; 4],
     tick: &mut u32,
     start: &mut [u32; 64],
     finish: &mut [u32; 64],
+    least: &mut [u16; 64],
     map: &mut u64,
     n: usize,
     unbounded: u64,
+    leasts: &[u16],
     table: &[u32],
 ) -> u32
-    ensures { λ r. ⌜ Leaves (λ st. Dispatcher.begin st n unbounded (now (table .entry)))
-        (memory (now (words .entry)) (now (tick .entry)) (now (start .entry)) (now (finish .entry)) (now (map .entry))) r
-        (memory (now (words .exit)) (now (tick .exit)) (now (start .exit)) (now (finish .exit)) (now (map .exit))) ⌝ }
+    ensures { λ r. ⌜ Leaves (λ st. Dispatcher.begin st n unbounded (now (leasts .entry)) (now (table .entry)))
+        (memory (now (words .entry)) (now (tick .entry)) (now (start .entry)) (now (finish .entry)) (now (least .entry)) (now (map .entry))) r
+        (memory (now (words .exit)) (now (tick .exit)) (now (start .exit)) (now (finish .exit)) (now (least .exit)) (now (map .exit))) ⌝ }
 {
     perform(
         Call::Begin(n, unbounded),
@@ -106,7 +123,9 @@ pub extern "C" fn standplan_begin(
         tick,
         start,
         finish,
+        least,
         map,
+        leasts,
         table,
     )
 }
@@ -118,14 +137,25 @@ pub extern "C" fn standplan_tick(
     tick: &mut u32,
     start: &mut [u32; 64],
     finish: &mut [u32; 64],
+    least: &mut [u16; 64],
     map: &mut u64,
     table: &[u32],
 ) -> u32
     ensures { λ r. ⌜ Leaves (λ st. Dispatcher.tick st (now (table .entry)))
-        (memory (now (words .entry)) (now (tick .entry)) (now (start .entry)) (now (finish .entry)) (now (map .entry))) r
-        (memory (now (words .exit)) (now (tick .exit)) (now (start .exit)) (now (finish .exit)) (now (map .exit))) ⌝ }
+        (memory (now (words .entry)) (now (tick .entry)) (now (start .entry)) (now (finish .entry)) (now (least .entry)) (now (map .entry))) r
+        (memory (now (words .exit)) (now (tick .exit)) (now (start .exit)) (now (finish .exit)) (now (least .exit)) (now (map .exit))) ⌝ }
 {
-    perform(Call::Tick, words, tick, start, finish, map, table)
+    perform(
+        Call::Tick,
+        words,
+        tick,
+        start,
+        finish,
+        least,
+        map,
+        &NO_LEASTS,
+        table,
+    )
 }
 
 // Open step s ends at this tick.
@@ -135,13 +165,24 @@ pub extern "C" fn standplan_finish(
     tick: &mut u32,
     start: &mut [u32; 64],
     finish: &mut [u32; 64],
+    least: &mut [u16; 64],
     map: &mut u64,
     s: usize,
     table: &[u32],
 ) -> u32
     ensures { λ r. ⌜ Leaves (λ st. Dispatcher.finish st s (now (table .entry)))
-        (memory (now (words .entry)) (now (tick .entry)) (now (start .entry)) (now (finish .entry)) (now (map .entry))) r
-        (memory (now (words .exit)) (now (tick .exit)) (now (start .exit)) (now (finish .exit)) (now (map .exit))) ⌝ }
+        (memory (now (words .entry)) (now (tick .entry)) (now (start .entry)) (now (finish .entry)) (now (least .entry)) (now (map .entry))) r
+        (memory (now (words .exit)) (now (tick .exit)) (now (start .exit)) (now (finish .exit)) (now (least .exit)) (now (map .exit))) ⌝ }
 {
-    perform(Call::Finish(s), words, tick, start, finish, map, table)
+    perform(
+        Call::Finish(s),
+        words,
+        tick,
+        start,
+        finish,
+        least,
+        map,
+        &NO_LEASTS,
+        table,
+    )
 }

@@ -5,27 +5,28 @@ use mathlib.Core.Logic.{_⊎_, inl, inr, _≢_}
 use mathlib.Core.List.{List}
 use Prim.Native.Nat.{ℕ, _+_, _-_, _≤_, _<_}
 use native.Mathlib.Omega.{arith}
-use native.Mathlib.Decide.{decLe}
+use native.Mathlib.Decide.{decLe, decLt}
 use lib.Dec.{eqb, leb}
-use lib.ListN.{length-set, length-replicate}
-use borrow.Author.Tests.{eqb-true, eqb-false, leb-false, not-false}
+use lib.ListN.{getD, length-set, length-replicate}
+use borrow.Author.Tests.{eqb-true, eqb-false, leb-false, ltb-false, not-false}
 use Rattle.definitions.specs.Limits.{most-steps, last-tick}
 use Rattle.definitions.specs.Basics.{test-bit, Outcome, given, refused}
 use Rattle.definitions.specs.Bytes.{Records}
 use Rattle.definitions.specs.Links.{delay-at}
-use Rattle.definitions.specs.Answers.{count-of}
-use Rattle.definitions.specs.Dispatcher.{Progress, begun, fresh, with-source, begin, ticked, cannot-finish, ended, called, state-after}
+use Rattle.definitions.specs.Answers.{count-of, leasts-of}
+use Rattle.definitions.specs.Dispatcher.{Progress, begun, kept-leasts, fresh, with-source, begin, ticked, cannot-finish, too-early, ended, called, state-after}
 use Rattle.definitions.specs.declared.Call.{Call}
 use Rattle.definitions.specs.declared.State.{State}
 use Rattle.definitions.specs.declared.Delay.the-variants.{Open}
 use Rattle.laws.proofs.Bools.{bool-cases, both-ways, not-passing, same-or-not, or-neither}
 use Rattle.laws.proofs.Lists.{zeros-at}
 use Rattle.laws.proofs.Maps.{test-pow}
+use Rattle.theory.proofs.DelayLimits.{least-source, least-past}
 use Rattle.demands.specs.Demands.{Accepted, in-start-set, sheet-decides, our-start}
-use Rattle.certificates.specs.Runs.{IsOpenMap, IsLent, Run, begins, goes-on, Started, Finished, start-tick, finish-tick, reported, planned-tick, DecidersFinished, StateFor, CanFinish}
-use Rattle.certificates.proofs.Sheets.{some-steps, few-steps, source-member, our-start-source, our-start-above}
-use Rattle.certificates.proofs.Changes.{ended-finished, ended-still, ended-own, ended-own-tick, ended-other-tick, Given, begins-anew, ticks-on, ends, begin-gives, call-gives}
-use Rattle.certificates.proofs.Invariants.{Timely, Invariant, NotLate, reported-source, finished-term, all-finished, planned-agrees, swept}
+use Rattle.certificates.specs.Runs.{IsOpenMap, AreLeasts, IsLent, Run, begins, goes-on, Started, Finished, start-tick, finish-tick, reported, planned-tick, DecidersFinished, StateFor, CanFinish, least-end}
+use Rattle.certificates.proofs.Sheets.{some-steps, few-steps, source-member, our-start-source}
+use Rattle.certificates.proofs.Changes.{ended-finished, ended-still, ended-own, ended-own-tick, ended-other-tick, kept-at, kept-past, Given, begins-anew, ticks-on, ends, begin-gives, call-gives}
+use Rattle.certificates.proofs.Invariants.{Timely, Invariant, NotLate, all-finished, planned-agrees, planned-above, swept}
 
 -- What has finished is not the step that can finish.
 pub finished-other : {q : Records} {st : State} {x : ℕ} → CanFinish q st x → (v : ℕ) → Finished st v → v ≢ x
@@ -41,19 +42,28 @@ module _ {s : List ℕ} {allow : Bool} {q : Records} {w : ℕ} (accepted : Accep
   source-set : test-bit 1 0 ≡ true
   source-set = test-pow 0 0
 
-  fresh-in-time : (unbounded : ℕ) → IsOpenMap q unbounded → NotLate q (fresh (count-of q) unbounded)
+  -- The least durations in the state are the sheet's, also past the steps that there are.
+  fresh-leasts : (leasts : List ℕ) → AreLeasts q leasts → (v : ℕ) → getD (kept-leasts (count-of q) leasts) v 0 ≡ leasts-of q v
+  fresh-leasts leasts are v = go (decLt v (count-of q))
+    where
+      go : Dec (v < count-of q) → getD (kept-leasts (count-of q) leasts) v 0 ≡ leasts-of q v
+      go (yes b) = kept-at (count-of q) leasts v (are .long) b ∙ are .each v b
+      go (no b) = kept-past (count-of q) leasts v (are .long) (omega arith) ∙ sym (least-past (q .steps) v (omega arith))
+
+  fresh-in-time : (unbounded : ℕ) (leasts : List ℕ) → IsOpenMap q unbounded → AreLeasts q leasts → NotLate q (fresh (count-of q) unbounded leasts)
   unfolding fresh
-  fresh-in-time unbounded opens = record {
+  fresh-in-time unbounded leasts opens are = record {
     timely = record {
       state = record {
         count = refl;
         open-map = opens;
+        leasts = fresh-leasts leasts are;
         clock = omega arith;
         source = (source-set, source-set, refl, refl);
         only-steps = λ v h. omega (arith, only-source v h, some-steps accepted);
         finished-started = λ v h. h;
         finished-open = λ v h. inl (only-source v h);
-        in-order = λ v h. omega (arith, zeros-at most-steps v);
+        in-order = λ v h. omega (arith, zeros-at most-steps v, ap (leasts-of q) (only-source v h), least-source (q .steps));
         starts-past = λ v. omega (arith, zeros-at most-steps v);
         finishes-past = λ v. omega (arith, zeros-at most-steps v);
         not-started = λ v f. zeros-at most-steps v;
@@ -62,14 +72,14 @@ module _ {s : List ℕ} {allow : Bool} {q : Records} {w : ℕ} (accepted : Accep
       starts-size = length-replicate {A = ℕ} most-steps 0;
       finishes-size = length-replicate {A = ℕ} most-steps 0;
       members-finished = λ a v h i. subst (λ (x : ℕ). test-bit 1 x ≡ true) (sym (source-member accepted a (subst (λ (x : ℕ). in-start-set q a x ≡ true) (only-source v h) i))) source-set;
-      at-planned = λ v h. zeros-at most-steps v ∙ sym (ap (our-start q (reported (fresh (count-of q) unbounded))) (only-source v h) ∙ our-start-source accepted (reported (fresh (count-of q) unbounded)));
+      at-planned = λ v h. zeros-at most-steps v ∙ sym (ap (our-start q (reported (fresh (count-of q) unbounded leasts))) (only-source v h) ∙ our-start-source accepted (reported (fresh (count-of q) unbounded leasts)));
     };
     in-time = λ v b f D. omega arith;
   }
 
-  pub begin-keeps : (before : State) (unbounded : ℕ) (table : List ℕ) (g : Progress) → IsOpenMap q unbounded → IsLent q table → begin before (count-of q) unbounded table ≡ given g → Invariant q (g .state)
-  begin-keeps before unbounded table g opens lent h =
-      subst (λ (x : Progress). Invariant q (x .state)) (sym (begin-gives before (count-of q) unbounded table g h)) (unfold with-source in swept accepted lent (fresh-in-time unbounded opens))
+  pub begin-keeps : (before : State) (unbounded : ℕ) (leasts table : List ℕ) (g : Progress) → IsOpenMap q unbounded → AreLeasts q leasts → IsLent q table → begin before (count-of q) unbounded leasts table ≡ given g → Invariant q (g .state)
+  begin-keeps before unbounded leasts table g opens are lent h =
+      subst (λ (x : Progress). Invariant q (x .state)) (sym (begin-gives before (count-of q) unbounded leasts table g h)) (unfold with-source in swept accepted lent (fresh-in-time unbounded leasts opens are))
 
   module _ {st : State} (before : Invariant q st) where
     timely : Timely q st
@@ -96,6 +106,7 @@ module _ {s : List ℕ} {allow : Bool} {q : Records} {w : ℕ} (accepted : Accep
         state = record {
           count = facts .count;
           open-map = facts .open-map;
+          leasts = facts .leasts;
           clock = clock (same-or-not (st .tick) last-tick);
           source = facts .source;
           only-steps = facts .only-steps;
@@ -138,7 +149,12 @@ module _ {s : List ℕ} {allow : Bool} {q : Records} {w : ℕ} (accepted : Accep
         let l : x < count-of q = omega (arith, leb-false (st .n) x (r₄ .1), facts .count) in
         record { exists = l; not-source = z; lasts = facts .open-map .stands x (omega arith) l .0 (not-false (test-bit (st .unbounded) x) (r₃ .1)); started = not-false (test-bit (st .started) x) (r₂ .1); running = r₁ .1 }
 
-    module _ (x : ℕ) (can : cannot-finish st x ≡ false) where
+    -- And where 20 does not, its least duration has run out.
+    pub late-enough : (x : ℕ) → too-early st x ≡ false → least-end q st x ≤ st .tick
+    unfolding too-early
+    late-enough x late = omega (arith, ltb-false (st .tick) (start-tick st x + getD (st .least) x 0) late, facts .leasts x)
+
+    module _ (x : ℕ) (can : cannot-finish st x ≡ false) (late : too-early st x ≡ false) where
       finishes : CanFinish q st x
       finishes = can-finish x can
 
@@ -161,6 +177,7 @@ module _ {s : List ℕ} {allow : Bool} {q : Records} {w : ℕ} (accepted : Accep
       next-state = record {
         count = facts .count;
         open-map = facts .open-map;
+        leasts = facts .leasts;
         clock = facts .clock;
         source = (facts .source .0, ended-still st x 0 (facts .source .1), facts .source .2, ended-other-tick st x 0 (finished-other finishes 0 (facts .source .1)) ∙ facts .source .3);
         only-steps = facts .only-steps;
@@ -181,9 +198,9 @@ module _ {s : List ℕ} {allow : Bool} {q : Records} {w : ℕ} (accepted : Accep
           lasts v (inl h) = facts .finished-open v h
           lasts v (inr e) = inr (subst (λ (i : ℕ). delay-at (q .steps) i ≡ Open) (sym e) (finishes .lasts))
 
-          ordered : (v : ℕ) → Finished st v ⊎ (v ≡ x) → start-tick st v ≤ finish-tick (ended st x) v
+          ordered : (v : ℕ) → Finished st v ⊎ (v ≡ x) → least-end q st v ≤ finish-tick (ended st x) v
           ordered v (inl h) = omega (arith, facts .in-order v h, ended-other-tick st x v (finished-other finishes v h))
-          ordered v (inr e) = omega (arith, facts .starts-past v, ap (finish-tick (ended st x)) e, own-tick)
+          ordered v (inr e) = omega (arith, ap (least-end q st) e, late-enough x late, ap (finish-tick (ended st x)) e, own-tick)
 
           past : (v : ℕ) → (v ≡ x) ⊎ (v ≢ x) → finish-tick (ended st x) v ≤ st .tick
           past v (inl e) = omega (arith, ap (finish-tick (ended st x)) e, own-tick)
@@ -210,7 +227,7 @@ module _ {s : List ℕ} {allow : Bool} {q : Records} {w : ℕ} (accepted : Accep
           go : (v : ℕ) → v < count-of q → test-bit (ended st x .started) v ≡ false → DecidersFinished q (ended st x) v → (sheet-decides q x v ≡ true) ⊎ (sheet-decides q x v ≡ false) → ended st x .tick ≤ planned-tick q (ended st x) v
           go v b f D (inl k) =
               let t : ended st x .tick ≡ st .tick = unfold ended in refl in
-              omega (arith, t, own-tick, finished-term accepted next-timely x v (ended-own st x), our-start-above accepted (reported (ended st x)) (reported-source accepted next-timely) x v b k)
+              omega (arith, t, own-tick, planned-above accepted next-timely x v b D k)
           go v b f D (inr n) =
               let t : ended st x .tick ≡ st .tick = unfold ended in refl in
               let f′ : test-bit (st .started) v ≡ false = unfold ended in f in
@@ -219,14 +236,14 @@ module _ {s : List ℕ} {allow : Bool} {q : Records} {w : ℕ} (accepted : Accep
 
     -- ## Every call
 
-    given-keeps : {c : Call} {table : List ℕ} {g : Progress} → IsLent q table → Given st table c g → Invariant q (g .state)
+    given-keeps : {c : Call} {table leasts : List ℕ} {g : Progress} → IsLent q table → Given st table leasts c g → Invariant q (g .state)
     given-keeps lent (begins-anew n unbounded e f h) = absurd (both-ways (facts .source .0) (unfold begun in f))
     given-keeps lent (ticks-on e z h) = subst (λ (y : Progress). Invariant q (y .state)) (sym h) (swept accepted lent (ticked-in-time z))
-    given-keeps lent (ends x e f h) = subst (λ (y : Progress). Invariant q (y .state)) (sym h) (swept accepted lent (ended-in-time x f))
+    given-keeps lent (ends x e f l h) = subst (λ (y : Progress). Invariant q (y .state)) (sym h) (swept accepted lent (ended-in-time x f l))
 
-    pub call-keeps : (c : Call) {table : List ℕ} → IsLent q table → Invariant q (state-after st (called st table c))
+    pub call-keeps : (c : Call) (leasts : List ℕ) {table : List ℕ} → IsLent q table → Invariant q (state-after st (called st table leasts c))
     unfolding state-after
-    call-keeps c {table} lent = go (called st table c) (λ g h. given-keeps lent (call-gives st table c g h))
+    call-keeps c leasts {table} lent = go (called st table leasts c) (λ g h. given-keeps lent (call-gives st table leasts c g h))
       where
         go : (o : Outcome Progress) → ((g : Progress) → o ≡ given g → Invariant q (g .state)) → Invariant q (state-after st o)
         go (given g) h = h g refl
@@ -234,5 +251,5 @@ module _ {s : List ℕ} {allow : Bool} {q : Records} {w : ℕ} (accepted : Accep
 
   -- Every state of every run. Induction on the run.
   pub run-keeps : {st : State} → Run q st → Invariant q st
-  run-keeps (begins before unbounded table g opens lent h e) = subst (Invariant q) (sym e) (begin-keeps before unbounded table g opens lent h)
-  run-keeps (goes-on run c table lent e) = subst (Invariant q) (sym e) (call-keeps (run-keeps run) c lent)
+  run-keeps (begins before unbounded leasts table g opens are lent h e) = subst (Invariant q) (sym e) (begin-keeps before unbounded leasts table g opens are lent h)
+  run-keeps (goes-on run c leasts table lent e) = subst (Invariant q) (sym e) (call-keeps (run-keeps run) c leasts lent)

@@ -1,9 +1,9 @@
 -- The certificate: at every state of a run the ticks keep every link and wait, as far as the run has come.
 --
--- Take durations that are the reported ones where a step has finished, and longer than the tick where it has not. Our starts for these durations keep every link and wait, agree with the start ticks of
--- steps that have started, and put every step that has not started after the tick. What they keep is then read off the ticks.
+-- Take durations that are the reported ones where a step has finished, and longer than the tick and than its least where it has not. Our starts for these durations keep every link and wait,
+-- agree with the start ticks of steps that have started, and put every step that has not started after the tick. What they keep is then read off the ticks.
 use mathlib.Core.Path.{_≡_, refl, sym, _∙_}
-use mathlib.Core.Bool.{Bool, true, false, cond}
+use mathlib.Core.Bool.{Bool, true, false}
 use mathlib.Core.Logic.{_⊎_, inl, inr, _≢_}
 use mathlib.Core.List.{List}
 use Prim.Native.Nat.{ℕ, zero, suc, _+_, _≤_, _<_}
@@ -11,19 +11,19 @@ use native.Mathlib.Omega.{arith}
 use Rattle.definitions.specs.Basics.{test-bit}
 use Rattle.definitions.specs.Bytes.{Records}
 use Rattle.definitions.specs.Links.{Constraint, sequencing, minimum, maximum, finish-maximum, delay-at, duration-with, duration, Keeps}
-use Rattle.definitions.specs.Answers.{count-of}
+use Rattle.definitions.specs.Answers.{count-of, leasts-of}
 use Rattle.definitions.specs.declared.State.{State}
 use Rattle.definitions.specs.declared.Delay.{Delay}
 use Rattle.definitions.specs.declared.Delay.the-variants.{Open, Fixed}
-use Rattle.laws.proofs.Bools.{bool-cases, cond-true, cond-false}
-use Rattle.demands.specs.Demands.{Accepted, sheet-decides, our-start, wait-link}
+use Rattle.laws.proofs.Bools.{bool-cases}
+use Rattle.demands.specs.Demands.{Accepted, Durations, sheet-decides, our-start, wait-link}
 use Rattle.demands.proofs.Edges.{Ends, sheet-ends}
 use Rattle.demands.proofs.Meaning.{wait-of}
 use Rattle.demands.proofs.Formed.{accepted-fits}
 use Rattle.demands.proofs.OurStarts.{kept-for, open-duration}
 use Rattle.certificates.specs.Runs.{Started, Finished, start-tick, finish-tick, reported, DecidersFinished, StateFor, AfterHolds, AtLeastHolds, NotMissed, AtMostHolds, FinishHolds, Holds, Certified}
 use Rattle.certificates.proofs.Sheets.{our-start-above}
-use Rattle.certificates.proofs.Invariants.{Timely, Invariant, reported-source, deciders-or-one, all-finished, planned-agrees}
+use Rattle.certificates.proofs.Invariants.{Timely, Invariant, filled, filled-finished, filled-running, filled-durations, deciders-or-one, all-finished, planned-agrees}
 use Rattle.certificates.proofs.Calls.{still}
 
 -- The duration of a step is taken from the delays only where it is open and not step 0.
@@ -41,17 +41,20 @@ module _ {s : List ℕ} {allow : Bool} {q : Records} {w : ℕ} (accepted : Accep
   facts = invariant .timely .state
 
   -- The durations: whoever has not finished outlasts the tick.
+  abbrev longer : ℕ → ℕ
+  longer a = st .tick + 1 + leasts-of q a
+
   abbrev outlasting : ℕ → ℕ
-  outlasting a = cond (test-bit (st .finished) a) (reported st a) (st .tick + 1)
+  outlasting = filled st longer
 
   outlasting-finished : (a : ℕ) → Finished st a → outlasting a ≡ reported st a
-  outlasting-finished a f = cond-true (reported st a) (st .tick + 1) f
+  outlasting-finished = filled-finished accepted timely longer (λ a. omega arith)
 
-  outlasting-running : (a : ℕ) → test-bit (st .finished) a ≡ false → outlasting a ≡ st .tick + 1
-  outlasting-running a f = cond-false (reported st a) (st .tick + 1) f
+  outlasting-running : (a : ℕ) → test-bit (st .finished) a ≡ false → outlasting a ≡ longer a
+  outlasting-running = filled-running accepted timely longer (λ a. omega arith)
 
-  outlasting-source : outlasting 0 ≡ 0
-  outlasting-source = outlasting-finished 0 (facts .source .1) ∙ reported-source accepted timely
+  outlasting-durations : Durations q outlasting
+  outlasting-durations = filled-durations accepted timely longer (λ a. omega arith)
 
   -- Our starts for them agree with the start ticks,
   same-start : (v : ℕ) → Started st v → our-start q outlasting v ≡ start-tick st v
@@ -63,7 +66,7 @@ module _ {s : List ℕ} {allow : Bool} {q : Records} {w : ℕ} (accepted : Accep
     where
       go : DecidersFinished q st v ⊎ ((a : ℕ) × (sheet-decides q a v ≡ true) × (test-bit (st .finished) a ≡ false)) → st .tick < our-start q outlasting v
       go (inl D) = omega (arith, still accepted invariant v b f D, planned-agrees accepted timely outlasting outlasting-finished v b (all-finished accepted timely v b D))
-      go (inr r) = omega (arith, our-start-above accepted outlasting outlasting-source (r .0) v b (r .1), outlasting-running (r .0) (r .2))
+      go (inr r) = omega (arith, our-start-above accepted outlasting outlasting-durations (r .0) v b (r .1), outlasting-running (r .0) (r .2))
 
   -- What starts no later than a step that has started has started.
   starts-before : (i j : ℕ) → i < count-of q → Started st j → our-start q outlasting i ≤ our-start q outlasting j → Started st i
@@ -134,7 +137,7 @@ module _ {s : List ℕ} {allow : Bool} {q : Records} {w : ℕ} (accepted : Accep
 
   pub certified : Certified q st
   certified =
-      let kept = kept-for accepted outlasting outlasting-source in
+      let kept = kept-for accepted outlasting outlasting-durations in
       record {
         links = λ c m. holds c (sheet-ends (accepted-fits accepted) c m) (kept .links .keeps c m);
         waits = λ p m. let r = wait-of (accepted-fits accepted) p m in holds (wait-link p) (r .anchor-below, r .target-below) (kept .waits p m);

@@ -25,8 +25,8 @@ use Rattle.certificates.proofs.Calls.{can-finish, finished-other}
 -- The map of a Begin is the map of what has started: of step 0, and of what the sweep starts.
 pub begin-names : BeginNamed
 unfolding with-source
-begin-names before n unbounded table g h =
-    subst (λ (x : Progress). (x .state .tick ≡ 0) × ((v : ℕ) → (test-bit (x .map) v ≡ true) ↔ Started (x .state) v)) (sym (begin-gives before n unbounded table g h)) (unfold sweep fresh in refl, λ v. unfold sweep fresh in (λ t. t, λ t. t))
+begin-names before n unbounded leasts table g h =
+    subst (λ (x : Progress). (x .state .tick ≡ 0) × ((v : ℕ) → (test-bit (x .map) v ≡ true) ↔ Started (x .state) v)) (sym (begin-gives before n unbounded leasts table g h)) (unfold sweep fresh in refl, λ v. unfold sweep fresh in (λ t. t, λ t. t))
 
 -- A refused call changes nothing and names none.
 unchanged : (st : State) (c : Call) → HistoryFor st c 0 st
@@ -99,14 +99,14 @@ module _ {s : List ℕ} {allow : Bool} {q : Records} {w : ℕ} (accepted : Accep
       now v f (inr e) =
           (ap Finish (sym e), ap (finish-tick (ended st x)) e ∙ ended-own-tick st x (omega (arith, finishing .exists, invariant .timely .finishes-size, few-steps accepted)))
 
-  given-history : {c : Call} {table : List ℕ} {g : Progress} → Given st table c g → HistoryFor st c (g .map) (g .state)
+  given-history : {c : Call} {table leasts : List ℕ} {g : Progress} → Given st table leasts c g → HistoryFor st c (g .map) (g .state)
   given-history (begins-anew n unbounded e f h) = absurd (both-ways (facts .source .0) (unfold begun in f))
   given-history {table = table} (ticks-on e z h) = rw (e, h) (ticked-history table)
-  given-history {table = table} (ends x e f h) = rw (e, h) (ended-history x f table)
+  given-history {table = table} (ends x e f l h) = rw (e, h) (ended-history x f table)
 
-  pub history-for : (c : Call) (table : List ℕ) → HistoryFor st c (map-after (called st table c)) (state-after st (called st table c))
+  pub history-for : (c : Call) (leasts table : List ℕ) → HistoryFor st c (map-after (called st table leasts c)) (state-after st (called st table leasts c))
   unfolding state-after map-after
-  history-for c table = go (called st table c) (λ g h. given-history (call-gives st table c g h))
+  history-for c leasts table = go (called st table leasts c) (λ g h. given-history (call-gives st table leasts c g h))
     where
       go : (o : Outcome Progress) → ((g : Progress) → o ≡ given g → HistoryFor st c (g .map) (g .state)) → HistoryFor st c (map-after o) (state-after st o)
       go (given g) h = h g refl

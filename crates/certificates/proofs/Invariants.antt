@@ -13,16 +13,21 @@ use borrow.Author.Tests.{not-true}
 use Rattle.definitions.specs.Limits.{most-steps}
 use Rattle.definitions.specs.Basics.{any-below, test-bit}
 use Rattle.definitions.specs.Bytes.{Records}
+use Rattle.definitions.specs.Links.{Respects}
 use Rattle.definitions.specs.Plan.{undecided}
-use Rattle.definitions.specs.Answers.{count-of}
+use Rattle.definitions.specs.Answers.{count-of, leasts-of}
 use Rattle.definitions.specs.Dispatcher.{entry, sweep}
 use Rattle.definitions.specs.declared.State.{State}
 use Rattle.laws.proofs.Bools.{bool-cases, both-ways, and-split, and-join, not-passing, cond-true, cond-false}
 use Rattle.laws.proofs.Tests.{any-below-has, any-below-none}
-use Rattle.demands.specs.Demands.{Accepted, in-start-set, sheet-offset, sheet-decides, our-start, term}
+use Rattle.demands.specs.Demands.{Accepted, Durations, in-start-set, sheet-offset, sheet-decides, our-start, term}
 use Rattle.certificates.specs.Runs.{Starts, SweepFor, IsLent, Started, Finished, start-tick, finish-tick, reported, planned-tick, DecidersFinished, StateFor}
 use Rattle.certificates.proofs.Sheets.{few-steps, decider-below, some-decider, member-decider, our-start-agrees, our-start-above, our-start-below, lent-entry, lent-apart}
 use Rattle.certificates.proofs.Sweeps.{start-ticks-length, sweep-for}
+
+-- Durations: the reported ones where a step has finished, others where it has not.
+abbrev pub filled : State → (ℕ → ℕ) → ℕ → ℕ
+filled st other a = cond (test-bit (st .finished) a) (reported st a) (other a)
 
 -- What holds before the sweep of a call and after it.
 pub record Timely (q : Records) (st : State) : Type 0 where
@@ -46,12 +51,23 @@ module _ {s : List ℕ} {allow : Bool} {q : Records} {w : ℕ} (accepted : Accep
 
   module _ {st : State} (timely : Timely q st) where
     -- Step 0 is reported to last 0.
-    pub reported-source : reported st 0 ≡ 0
+    reported-source : reported st 0 ≡ 0
     reported-source = omega (arith, timely .state .source .3)
 
-    -- The term of a step that has finished is its finish tick plus the offset.
-    pub finished-term : (a v : ℕ) → Finished st a → term q (reported st) v a ≡ finish-tick st a + sheet-offset q a v
-    finished-term a v f = omega (arith, timely .at-planned a (timely .state .finished-started a f), timely .state .in-order a f)
+    -- Durations that are the reported ones where a step has finished, and any others from the leasts on where it has not, respect the leasts: 20 has seen to it where a step has finished.
+    module _ (other : ℕ → ℕ) (enough : Respects (q .steps) other) where
+      pub filled-finished : (a : ℕ) → Finished st a → filled st other a ≡ reported st a
+      filled-finished a f = cond-true (reported st a) (other a) f
+
+      pub filled-running : (a : ℕ) → test-bit (st .finished) a ≡ false → filled st other a ≡ other a
+      filled-running a f = cond-false (reported st a) (other a) f
+
+      pub filled-durations : Durations q (filled st other)
+      filled-durations = record { source = filled-finished 0 (timely .state .source .1) ∙ reported-source; respects = λ a. go a (bool-cases (test-bit (st .finished) a)) }
+        where
+          go : (a : ℕ) → (test-bit (st .finished) a ≡ true) ⊎ (test-bit (st .finished) a ≡ false) → leasts-of q a ≤ filled st other a
+          go a (inl t) = omega (arith, filled-finished a t, timely .state .in-order a t)
+          go a (inr f) = omega (arith, filled-running a f, enough a)
 
     -- The deciding steps have all finished, or one has not. By search.
     pub deciders-or-one : (v : ℕ) → v < count-of q → DecidersFinished q st v ⊎ ((a : ℕ) × (sheet-decides q a v ≡ true) × (test-bit (st .finished) a ≡ false))
@@ -84,6 +100,32 @@ module _ {s : List ℕ} {allow : Bool} {q : Records} {w : ℕ} (accepted : Accep
     -- Durations that agree on what has finished give the same planned tick, once the members have finished.
     pub planned-agrees : (d : ℕ → ℕ) → ((a : ℕ) → Finished st a → d a ≡ reported st a) → (v : ℕ) → v < count-of q → ((a : ℕ) → in-start-set q a v ≡ true → Finished st a) → our-start q d v ≡ planned-tick q st v
     planned-agrees d same v b F = our-start-agrees accepted d (reported st) v b (λ a i. same a (F a i))
+
+    -- Once the deciding steps have finished, the planned tick is the largest of their finish ticks plus their offsets: our start for durations that respect the leasts is.
+    abbrev at-leasts : ℕ → ℕ
+    at-leasts = filled st (leasts-of q)
+
+    respected : Durations q at-leasts
+    respected = filled-durations (leasts-of q) (λ a. omega arith)
+
+    finished-as : (a : ℕ) → Finished st a → at-leasts a ≡ reported st a
+    finished-as = filled-finished (leasts-of q) (λ a. omega arith)
+
+    planned-as : (v : ℕ) → v < count-of q → DecidersFinished q st v → our-start q at-leasts v ≡ planned-tick q st v
+    planned-as v b D = planned-agrees at-leasts finished-as v b (all-finished v b D)
+
+    -- The term of a step that has finished is its finish tick plus the offset.
+    finished-term : (a v : ℕ) → Finished st a → term q at-leasts v a ≡ finish-tick st a + sheet-offset q a v
+    finished-term a v f =
+        let h = timely .state .finished-started a f in
+        let e = planned-agrees at-leasts finished-as a (timely .state .only-steps a h) (λ c i. timely .members-finished c a h i) in
+        omega (arith, e, timely .at-planned a h, finished-as a f, timely .state .in-order a f)
+
+    pub planned-above : (a v : ℕ) → v < count-of q → DecidersFinished q st v → sheet-decides q a v ≡ true → finish-tick st a + sheet-offset q a v ≤ planned-tick q st v
+    planned-above a v b D k = omega (arith, our-start-above accepted at-leasts respected a v b k, planned-as v b D, finished-term a v (D a k))
+
+    pub planned-below : (v x : ℕ) → v < count-of q → DecidersFinished q st v → ((a : ℕ) → sheet-decides q a v ≡ true → finish-tick st a + sheet-offset q a v ≤ x) → planned-tick q st v ≤ x
+    planned-below v x b D h = omega (arith, our-start-below accepted at-leasts respected v x b (λ a k. omega (arith, finished-term a v (D a k), h a k)), planned-as v b D)
 
   -- ## The sweep
 
@@ -132,8 +174,9 @@ module _ {s : List ℕ} {allow : Bool} {q : Records} {w : ℕ} (accepted : Accep
     starts-planned : (v : ℕ) → Starts st table v → planned-tick q st v ≡ st .tick
     starts-planned v S =
         let b = below v (S .exists) in
-        let low : planned-tick q st v ≤ st .tick = our-start-below accepted (reported st) (reported-source timely) v (st .tick) b (λ a k. let r = starts-decided v S a k in omega (arith, r .1, finished-term timely a v (r .0))) in
-        let high : st .tick ≤ planned-tick q st v = before .in-time v b (S .not-yet) (λ a k. starts-decided v S a k .0) in
+        let D : DecidersFinished q st v = λ a k. starts-decided v S a k .0 in
+        let low : planned-tick q st v ≤ st .tick = planned-below timely v (st .tick) b D (λ a k. starts-decided v S a k .1) in
+        let high : st .tick ≤ planned-tick q st v = before .in-time v b (S .not-yet) D in
         omega arith
 
     -- And a step that has not started starts where its deciding steps have finished and its planned tick is not above the tick.
@@ -143,7 +186,7 @@ module _ {s : List ℕ} {allow : Bool} {q : Records} {w : ℕ} (accepted : Accep
         record { exists = omega (arith, facts .count); not-yet = f; some = (r .0, omega (arith, decider-below accepted (r .0) v b (r .1), facts .count), decides-named v (r .0) b (r .1)); each = λ a c z. each a (named-decides v a b (below a c) z) }
       where
         each : (a : ℕ) → sheet-decides q a v ≡ true → Finished st a × (finish-tick st a + entry st table v a ≤ st .tick)
-        each a k = (D a k, omega (arith, our-start-above accepted (reported st) (reported-source timely) a v b k, finished-term timely a v (D a k), entry-decides v a b k))
+        each a k = (D a k, omega (arith, planned-above timely a v b D k, entry-decides v a b k))
 
     -- What the sweep does to a step: it had started, starts now, or has not started.
     data Step (v : ℕ) : Type 0 where
@@ -188,6 +231,7 @@ module _ {s : List ℕ} {allow : Bool} {q : Records} {w : ℕ} (accepted : Accep
     after-state = record {
       count = facts .count;
       open-map = facts .open-map;
+      leasts = facts .leasts;
       clock = facts .clock;
       source = (kept 0 (facts .source .0) .0, facts .source .1, kept 0 (facts .source .0) .1 ∙ facts .source .2, facts .source .3);
       only-steps = λ v h. only v h (step-of v);

@@ -8,5 +8,6 @@ pub mod Answers
 pub mod History
 pub mod Waiting
 pub mod Certificates
+pub mod Begun
 pub mod Examples
 pub mod Runs

@@ -1,8 +1,9 @@
 -- The theorems: one for each statement of specs/Runs.antt, in its order.
 use native.Mathlib.Omega.{arith}
-use Rattle.certificates.specs.Runs.{SweepsMeant, PlannedTicks, RunStates, RunAnswers, HistoryKept, BeginNamed, NothingStuck, Certificate, RunsMet}
+use Rattle.certificates.specs.Runs.{SweepsMeant, BegunWithSteps, PlannedTicks, RunStates, RunAnswers, HistoryKept, BeginNamed, NothingStuck, Certificate, RunsMet}
 use Rattle.certificates.proofs.Sheets.{decider-member}
 use Rattle.certificates.proofs.Sweeps.{sweep-for}
+use Rattle.certificates.proofs.Begun.{begins-run}
 use Rattle.certificates.proofs.Calls.{run-keeps}
 use Rattle.certificates.proofs.Answers.{answers-for}
 use Rattle.certificates.proofs.History.{begin-names, history-for}
@@ -13,6 +14,10 @@ use Rattle.certificates.proofs.Examples.{examples}
 -- The tests of the rule, one by one.
 pub sweeps-meant : SweepsMeant
 sweeps-meant = sweep-for
+
+-- The answer is the sheet's three parts, as they are defined.
+pub begun-with-steps : BegunWithSteps
+begun-with-steps s q lent b sheet e = begins-run sheet lent b e
 
 -- By the invariant: the members of a started step have finished, and no step that can start is left.
 pub planned-ticks : PlannedTicks

@@ -10,22 +10,25 @@ use lib.ListN.{getD, length, length-take}
 use lib.Seq.{getD-take}
 use Rattle.definitions.specs.Limits.{most-steps}
 use Rattle.definitions.specs.Bytes.{Records}
-use Rattle.definitions.specs.Links.{After, Forward, members, delay-at}
+use Rattle.definitions.specs.Links.{After, Forward, members, delay-at, no-leasts}
 use Rattle.definitions.specs.declared.Delay.the-variants.{Open}
 use Rattle.definitions.specs.Anchors.{InAnchorSet, WellPosed, chain, is-source}
-use Rattle.definitions.specs.Plan.{undecided}
-use Rattle.definitions.specs.Answers.{count-of, serialized-of}
+use Rattle.definitions.specs.Plan.{decides, undecided}
+use Rattle.definitions.specs.Answers.{count-of, leasts-of, serialized-of}
 use Rattle.laws.proofs.Tests.{largest-above, largest-below}
 use Rattle.theory.specs.Graphs.{Well}
 use Rattle.theory.proofs.Reachability.{in-anchor-set-iff}
 use Rattle.theory.proofs.DecidingSets.{decides-iff}
+use Rattle.theory.proofs.DelayLimits.{least-source}
+use Rattle.theory.proofs.Extras.{decides-extra}
 use Rattle.theory.proofs.Plans.{plan-well, plan-posed}
 use Rattle.theory.proofs.AnchorOrder.{anchor-induct}
 use Rattle.theory.proofs.Usables.{well-acyclic}
 use Rattle.theory.proofs.Walks.{member-below}
-use Rattle.demands.specs.Demands.{Accepted, in-start-set, sheet-offset, sheet-decides, our-start, term}
+use Rattle.demands.specs.Demands.{Accepted, Durations, in-start-set, sheet-offset, sheet-decides, our-start, term}
 use Rattle.demands.proofs.Meaning.{meant-for}
 use Rattle.demands.proofs.Formed.{accepted-fits, accepted-serial, accepted-well}
+use Rattle.demands.proofs.OurStarts.{waits-leasts}
 use Rattle.demands.proofs.Planning.{deciding-for, plan-for, start-rule-for}
 use Rattle.certificates.specs.Runs.{IsLent}
 use Rattle.certificates.proofs.StartSets as StartSets
@@ -40,11 +43,11 @@ module _ {s : List ℕ} {allow : Bool} {q : Records} {w : ℕ} (accepted : Accep
   -- The sheet with its waits in can be scheduled for all delays, and is sound.
   well : Well (count-of q) (members (serialized-of q))
   unfolding serialized-of
-  well = plan-well (accepted-well accepted) (accepted-serial accepted)
+  well = plan-well (leasts-of q) (accepted-well accepted) (accepted-serial accepted)
 
   posed : WellPosed (members (serialized-of q))
   unfolding serialized-of
-  posed = plan-posed (accepted-well accepted) (accepted-serial accepted)
+  posed = plan-posed (leasts-of q) (accepted-well accepted) (accepted-serial accepted)
 
   member : (a v : ℕ) → (in-start-set q a v ≡ true) ↔ InAnchorSet (members (serialized-of q)) a v
   member = in-anchor-set-iff (well .shape)
@@ -65,11 +68,15 @@ module _ {s : List ℕ} {allow : Bool} {q : Records} {w : ℕ} (accepted : Accep
   pub source-member : (a : ℕ) → in-start-set q a 0 ≡ true → a ≡ 0
   source-member a h = StartSets.source-alone well (member a 0 .0 h)
 
+  -- Who decides by offsets from the starts of steps, as in the theory, decides.
+  same-decides : (a v : ℕ) → v < count-of q → sheet-decides q a v ≡ decides (count-of q) no-leasts (serialized-of q) a v
+  same-decides = decides-extra (leasts-of q) well posed (waits-leasts (accepted-fits accepted)) (least-source (q .steps))
+
   -- Each member decides, or is a member of one that decides.
   pub member-decider : (a v : ℕ) → v < count-of q → in-start-set q a v ≡ true → (c : ℕ) × (sheet-decides q c v ≡ true) × ((a ≡ c) ⊎ (in-start-set q a c ≡ true))
   member-decider a v b h =
       let r = StartSets.member-decider well posed v b a (start-member-below a v b h) (member a v .0 h) in
-      (r .0, decides-iff (well .shape) (r .0) v b .1 (r .1), go (r .0) (r .2))
+      (r .0, same-decides (r .0) v b ∙ decides-iff (well .shape) (r .0) v b .1 (r .1), go (r .0) (r .2))
     where
       go : (c : ℕ) → (a ≡ c) ⊎ InAnchorSet (members (serialized-of q)) a c → (a ≡ c) ⊎ (in-start-set q a c ≡ true)
       go c (inl e) = inl e
@@ -92,17 +99,17 @@ module _ {s : List ℕ} {allow : Bool} {q : Records} {w : ℕ} (accepted : Accep
 
   -- Durations that agree on the start set of v give the same start of v.
   pub our-start-agrees : (d d′ : ℕ → ℕ) (v : ℕ) → v < count-of q → ((a : ℕ) → in-start-set q a v ≡ true → d a ≡ d′ a) → our-start q d v ≡ our-start q d′ v
-  our-start-agrees d d′ v b same = StartSets.start-agrees well d d′ v b (λ a i. same a (member a v .1 i))
+  our-start-agrees d d′ v b same = StartSets.start-agrees well (leasts-of q) d d′ v b (λ a i. same a (member a v .1 i))
 
   pub our-start-source : (d : ℕ → ℕ) → our-start q d 0 ≡ 0
   our-start-source = start-rule-for accepted .source
 
   -- A start is the largest of the deciding terms.
-  pub our-start-above : (d : ℕ → ℕ) → d 0 ≡ 0 → (a v : ℕ) → v < count-of q → sheet-decides q a v ≡ true → term q d v a ≤ our-start q d v
-  our-start-above d d0 a v b h = omega (arith, deciding-for accepted v b .enough d d0, largest-above (λ a. sheet-decides q a v) (term q d v) (count-of q) a (decider-below a v b h) h)
+  pub our-start-above : (d : ℕ → ℕ) → Durations q d → (a v : ℕ) → v < count-of q → sheet-decides q a v ≡ true → term q d v a ≤ our-start q d v
+  our-start-above d D a v b h = omega (arith, deciding-for accepted v b .enough d D, largest-above (λ a. sheet-decides q a v) (term q d v) (count-of q) a (decider-below a v b h) h)
 
-  pub our-start-below : (d : ℕ → ℕ) → d 0 ≡ 0 → (v x : ℕ) → v < count-of q → ((a : ℕ) → sheet-decides q a v ≡ true → term q d v a ≤ x) → our-start q d v ≤ x
-  our-start-below d d0 v x b h = omega (arith, deciding-for accepted v b .enough d d0, largest-below (λ a. sheet-decides q a v) (term q d v) (count-of q) x (λ a c i. h a i))
+  pub our-start-below : (d : ℕ → ℕ) → Durations q d → (v x : ℕ) → v < count-of q → ((a : ℕ) → sheet-decides q a v ≡ true → term q d v a ≤ x) → our-start q d v ≤ x
+  our-start-below d D v x b h = omega (arith, deciding-for accepted v b .enough d D, largest-below (λ a. sheet-decides q a v) (term q d v) (count-of q) x (λ a c i. h a i))
 
   -- The numbers of a lent table.
   module _ {table : List ℕ} (lent : IsLent q table) where

@@ -5,7 +5,7 @@ use mathlib.Core.List.{List}
 use Prim.Native.Nat.{_+_, _<_, ℕ}
 use native.Mathlib.Omega.{arith}
 use Rattle.definitions.specs.Anchors.{InAnchorSet, WellPosed, chain, in-anchor-set, is-source}
-use Rattle.definitions.specs.Links.{After, Edge, Forward, members}
+use Rattle.definitions.specs.Links.{After, Edge, Forward, members, no-leasts}
 use Rattle.definitions.specs.Plan.{offset, start-times}
 use Rattle.definitions.specs.Rounds.{cell}
 use Rattle.laws.proofs.Bools.{same-or-not}
@@ -33,42 +33,42 @@ module _ {n : ℕ} {es : List Edge} (well : Well n (members es)) where
   member-trans (chain w) (chain u) = chain (after-trans w u)
 
   -- Delays that agree on the start set of v give the same start of v. By induction along anchors: each term is of a member, and the members of a member are members.
-  pub start-agrees : (d d′ : ℕ → ℕ) (v : ℕ) → v < n → ((a : ℕ) → InAnchorSet (members es) a v → d a ≡ d′ a) → cell (start-times n es d) v ≡ cell (start-times n es d′) v
-  start-agrees d d′ = anchor-induct n (Forward (members es)) (well-acyclic well) (λ v. ((a : ℕ) → InAnchorSet (members es) a v → d a ≡ d′ a) → S v ≡ S′ v) each
+  pub start-agrees : (least d d′ : ℕ → ℕ) (v : ℕ) → v < n → ((a : ℕ) → InAnchorSet (members es) a v → d a ≡ d′ a) → cell (start-times n least es d) v ≡ cell (start-times n least es d′) v
+  start-agrees least d d′ = anchor-induct n (Forward (members es)) (well-acyclic well) (λ v. ((a : ℕ) → InAnchorSet (members es) a v → d a ≡ d′ a) → S v ≡ S′ v) each
     where
       S : ℕ → ℕ
-      S x = cell (start-times n es d) x
+      S x = cell (start-times n least es d) x
 
       S′ : ℕ → ℕ
-      S′ x = cell (start-times n es d′) x
+      S′ x = cell (start-times n least es d′) x
 
-      sources : (x : ℕ) → x ≡ 0 → cell (start-times n es d) x ≡ cell (start-times n es d′) x
-      sources x e = ap (λ (y : ℕ). cell (start-times n es d) y) e ∙ start-times-source (well .shape) d ∙ sym (ap (λ (y : ℕ). cell (start-times n es d′) y) e ∙ start-times-source (well .shape) d′)
+      sources : (x : ℕ) → x ≡ 0 → cell (start-times n least es d) x ≡ cell (start-times n least es d′) x
+      sources x e = ap (λ (y : ℕ). cell (start-times n least es d) y) e ∙ start-times-source least (well .shape) d ∙ sym (ap (λ (y : ℕ). cell (start-times n least es d′) y) e ∙ start-times-source least (well .shape) d′)
 
       each : (v : ℕ) → v < n → ((a : ℕ) → a < n → After (Forward (members es)) a v → ((b : ℕ) → InAnchorSet (members es) b a → d b ≡ d′ b) → S a ≡ S′ a) → ((a : ℕ) → InAnchorSet (members es) a v → d a ≡ d′ a) → S v ≡ S′ v
       each v b ih same = go (same-or-not v 0)
         where
-          by : (a : ℕ) → InAnchorSet (members es) a v → cell (start-times n es d) a + d a + offset n es a v ≡ cell (start-times n es d′) a + d′ a + offset n es a v
+          by : (a : ℕ) → InAnchorSet (members es) a v → cell (start-times n least es d) a + d a + offset n least es a v ≡ cell (start-times n least es d′) a + d′ a + offset n least es a v
           by a (is-source e) = omega (arith, sources a e, same a (is-source e))
           by a (chain w) = omega (arith, ih a (after-start-below (well .shape) (chain-after w)) w (λ x i. same x (member-trans i (chain w))), same a (chain w))
 
-          go : (v ≡ 0) ⊎ (v ≢ 0) → cell (start-times n es d) v ≡ cell (start-times n es d′) v
+          go : (v ≡ 0) ⊎ (v ≢ 0) → cell (start-times n least es d) v ≡ cell (start-times n least es d′) v
           go (inl e) = sources v e
           go (inr z) =
-              start-times-rule (well .shape) d (well-acyclic well) v b z
+              start-times-rule least (well .shape) d (well-acyclic well) v b z
               ∙ largest-same
               (λ a. in-anchor-set n es a v)
-              (λ a. cell (start-times n es d) a + d a + offset n es a v)
-              (λ a. cell (start-times n es d′) a + d′ a + offset n es a v)
+              (λ a. cell (start-times n least es d) a + d a + offset n least es a v)
+              (λ a. cell (start-times n least es d′) a + d′ a + offset n least es a v)
               n
               (λ a c i. by a (in-anchor-set-iff (well .shape) a v .0 i))
-              ∙ sym (start-times-rule (well .shape) d′ (well-acyclic well) v b z)
+              ∙ sym (start-times-rule least (well .shape) d′ (well-acyclic well) v b z)
 
   abbrev Decider : ℕ → ℕ → Type 0
-  Decider v a = (c : ℕ) × Decides (members es) (offset n es) c v × ((a ≡ c) ⊎ InAnchorSet (members es) a c)
+  Decider v a = (c : ℕ) × Decides (members es) (offset n no-leasts es) c v × ((a ≡ c) ⊎ InAnchorSet (members es) a c)
 
   -- Each member of the start set of v decides v or is a member of one that does: who leaves a out stands behind a, and following who leaves out whom ends.
-  pub member-decider : WellPosed (members es) → (v : ℕ) → v < n → (a : ℕ) → a < n → InAnchorSet (members es) a v → (c : ℕ) × Decides (members es) (offset n es) c v × ((a ≡ c) ⊎ InAnchorSet (members es) a c)
+  pub member-decider : WellPosed (members es) → (v : ℕ) → v < n → (a : ℕ) → a < n → InAnchorSet (members es) a v → (c : ℕ) × Decides (members es) (offset n no-leasts es) c v × ((a ≡ c) ⊎ InAnchorSet (members es) a c)
   member-decider posed v h =
       anchored-induct n (Forward (members es)) (well-acyclic well) (λ a. InAnchorSet (members es) a v → Decider v a) (λ a b ih i. each a b ih i (same-or-not a 0))
     where
@@ -76,7 +76,7 @@ module _ {n : ℕ} {es : List Edge} (well : Well n (members es)) where
       each a b ih i (inl e) =
           let r = deciding-some well posed v h in
           (r .0, decides-iff (well .shape) (r .0) v h .0 (r .2), inr (is-source e))
-      each a b ih i (inr z) = go (decides-or-not (well .shape) (offset n es) (dec-member (well .shape)) a v h i)
+      each a b ih i (inr z) = go (decides-or-not (well .shape) (offset n no-leasts es) (dec-member (well .shape)) a v h i)
         where
           reached : (x : ℕ) → InAnchorSet (members es) a x → After (Forward (members es)) a x
           reached x (is-source e) = absurd (z e)
@@ -86,7 +86,7 @@ module _ {n : ℕ} {es : List Edge} (well : Well n (members es)) where
           behind x c j (inl e) = member-to e j
           behind x c j (inr k) = member-trans j k
 
-          go : Decides (members es) (offset n es) a v ⊎ ((x : ℕ) × (x < n) × Overrides (members es) (offset n es) a v x) → Decider v a
+          go : Decides (members es) (offset n no-leasts es) a v ⊎ ((x : ℕ) × (x < n) × Overrides (members es) (offset n no-leasts es) a v x) → Decider v a
           go (inl D) = (a, D, inl refl)
           go (inr r) =
               let o = r .2 in

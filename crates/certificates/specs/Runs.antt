@@ -1,6 +1,6 @@
 -- Runs of an accepted sheet, and what is certified of every state of every run. Definitions alone: each statement is proved in proofs/Runs.antt, by the theorem that its comment names.
 --
--- Words that are not defined here are those of the crates definitions (Dispatcher: the calls) and demands (accepted sheets, deciding sets, our starts). Quoted sentences are document 01's.
+-- Words that are not defined here are those of the crates definitions (Dispatcher: the calls) and demands (accepted sheets, deciding sets, our starts). Quoted sentences are those of documents 01 and 02.
 -- Durations have no largest one: no list's limit stands here, and a run has any number of calls.
 use mathlib.Core.Path.{_≡_}
 use mathlib.Core.Bool.{Bool, true, false}
@@ -14,15 +14,15 @@ use Rattle.definitions.specs.Bytes.{Records}
 use Rattle.definitions.specs.Links.{Constraint, sequencing, minimum, maximum, finish-maximum, links-of, delay-at, duration}
 use Rattle.definitions.specs.Waits.{WaitPair}
 use Rattle.definitions.specs.Plan.{plan-table, undecided}
-use Rattle.definitions.specs.Answers.{count-of, serialized-of, planned}
+use Rattle.definitions.specs.Answers.{Beginning, count-of, leasts-of, serialized-of, planned, steps-answer}
 use Rattle.definitions.specs.Dispatcher.{entry, Progress, sweep, begin, ticked, tick, ended, finish, called, state-after, map-after}
 use Rattle.definitions.specs.declared.Call.{Call}
 use Rattle.definitions.specs.declared.Call.the-variants.{Begin, Tick, Finish}
-use Rattle.definitions.specs.Worked.{stand, two-hands, exposure, hand-over, held-back, lip, idle}
+use Rattle.definitions.specs.Worked.{stand, two-hands, exposure, hand-over, held-back, lip, slow-hand, idle}
 use Rattle.definitions.specs.declared.State.{State}
 use Rattle.definitions.specs.declared.Delay.{Delay}
 use Rattle.definitions.specs.declared.Delay.the-variants.{Open, Fixed}
-use Rattle.demands.specs.Demands.{Accepted, in-start-set, sheet-decides, our-start, sheet-waits, wait-link}
+use Rattle.demands.specs.Demands.{Accepted, IsSheet, in-start-set, sheet-decides, our-start, sheet-waits, wait-link}
 
 -- ## The rule of one call
 
@@ -66,13 +66,30 @@ pub record IsOpenMap (q : Records) (unbounded : ℕ) : Type 0 where
 
 -- The sheet's table, as it is lent: its first N × N numbers are the plan. It may be longer, and another one at each call.
 pub record IsLent (q : Records) (table : List ℕ) : Type 0 where
-  pub plan : take (count-of q * count-of q) table ≡ plan-table (count-of q) (serialized-of q)
+  pub plan : take (count-of q * count-of q) table ≡ plan-table (count-of q) (leasts-of q) (serialized-of q)
 
--- "In a run begun with the sheet's N and open map and lent its table at each call." It begins with a Begin that is not refused, on any state that has not begun; after it come any calls, refused ones among them: `Run q st`
--- says that st is a state of such a run. A refused call leaves the state as given (`state-after`).
+-- The sheet's least durations, as they are lent at Begin (request L6): a number for each step, 0 for step 0 and for steps that have none. The list may be longer.
+pub record AreLeasts (q : Records) (leasts : List ℕ) : Type 0 where
+  pub long : count-of q ≤ length leasts
+  pub each : (i : ℕ) → i < count-of q → getD leasts i 0 ≡ leasts-of q i
+
+-- "In a run begun with the sheet's N and open map and lent its table at each call", and "for a run begun with the sheet's own" least durations. It begins with a Begin that is not refused, on
+-- any state that has not begun; after it come any calls, refused ones among them, with any least durations beside them: `Run q st` says that st is a state of such a run. A refused call leaves
+-- the state as given (`state-after`).
 pub data Run (q : Records) : State → Type 0 where
-  begins : {st : State} (before : State) (unbounded : ℕ) (table : List ℕ) (g : Progress) → IsOpenMap q unbounded → IsLent q table → begin before (count-of q) unbounded table ≡ given g → st ≡ g .state → Run q st
-  goes-on : {st before : State} → Run q before → (c : Call) (table : List ℕ) → IsLent q table → st ≡ state-after before (called before table c) → Run q st
+  begins : {st : State} (before : State) (unbounded : ℕ) (leasts table : List ℕ) (g : Progress) → IsOpenMap q unbounded → AreLeasts q leasts → IsLent q table → begin before (count-of q) unbounded leasts table ≡ given g → st ≡ g .state → Run q st
+  goes-on : {st before : State} → Run q before → (c : Call) (leasts table : List ℕ) → IsLent q table → st ≡ state-after before (called before table leasts c) → Run q st
+
+-- What a sheet gives to begin a run with (`steps-answer`), without anyone reading its bytes: its N, its open map, and its least durations at the front of the numbers that are lent for them. A Begin with these three
+-- begins a run of the sheet. Proof: begun-with-steps.
+pub record BeginsRun (q : Records) (b : Beginning) : Type 0 where
+  pub count : b .n ≡ count-of q
+  pub open-map : IsOpenMap q (b .unbounded)
+  pub leasts : AreLeasts q (b .leasts)
+  pub run : (before : State) (table : List ℕ) (g : Progress) → IsLent q table → begin before (b .n) (b .unbounded) (b .leasts) table ≡ given g → Run q (g .state)
+
+abbrev pub BegunWithSteps : Type 0
+BegunWithSteps = (s : List ℕ) (q : Records) (lent : List ℕ) (b : Beginning) → IsSheet s q → steps-answer s lent ≡ given b → BeginsRun q b
 
 -- ## The planned tick
 
@@ -97,17 +114,19 @@ abbrev pub PlannedTicks : Type 0
 PlannedTicks =
     (s : List ℕ) (allow : Bool) (q : Records) (w : ℕ) → Accepted s allow q w → (st : State) → Run q st → (v : ℕ) → v < count-of q → OnTime q st v
 
--- What else holds of the state: it keeps N and the open map; the tick fits 32 bits; steps numbered N or more never start or finish; only open steps and step 0 finish, once they have started and not before;
--- start and finish ticks are not above the tick, and "0 until then". Proof: run-states.
+-- What else holds of the state: it keeps N, the open map and the least durations; the tick fits 32 bits; steps numbered N or more never start or finish; only open steps and step 0 finish, once
+-- they have started, and no reported duration is below its least: that is no assumption, but what 20 sees to; start and finish ticks are not above the tick, and "0 until then". Proof:
+-- run-states.
 pub record StateFor (q : Records) (st : State) : Type 0 where
   pub count : st .n ≡ count-of q
   pub open-map : IsOpenMap q (st .unbounded)
+  pub leasts : (v : ℕ) → getD (st .least) v 0 ≡ leasts-of q v
   pub clock : st .tick ≤ last-tick
   pub source : Started st 0 × Finished st 0 × (start-tick st 0 ≡ 0) × (finish-tick st 0 ≡ 0)
   pub only-steps : (v : ℕ) → Started st v → v < count-of q
   pub finished-started : (v : ℕ) → Finished st v → Started st v
   pub finished-open : (v : ℕ) → Finished st v → (v ≡ 0) ⊎ (delay-at (q .steps) v ≡ Open)
-  pub in-order : (v : ℕ) → Finished st v → start-tick st v ≤ finish-tick st v
+  pub in-order : (v : ℕ) → Finished st v → start-tick st v + leasts-of q v ≤ finish-tick st v
   pub starts-past : (v : ℕ) → start-tick st v ≤ st .tick
   pub finishes-past : (v : ℕ) → finish-tick st v ≤ st .tick
   pub not-started : (v : ℕ) → test-bit (st .started) v ≡ false → start-tick st v ≡ 0
@@ -116,7 +135,7 @@ pub record StateFor (q : Records) (st : State) : Type 0 where
 abbrev pub RunStates : Type 0
 RunStates = (s : List ℕ) (allow : Bool) (q : Records) (w : ℕ) → Accepted s allow q w → (st : State) → Run q st → StateFor q st
 
--- "17. Finish of a step that is not open, is 0, has not started, or has finished." The others can finish.
+-- "17. Finish of a step that is not open, is 0, has not started, or has finished." The others can finish, from their least end on (20).
 pub record CanFinish (q : Records) (st : State) (x : ℕ) : Type 0 where
   pub exists : x < count-of q
   pub not-source : x ≢ 0
@@ -124,12 +143,18 @@ pub record CanFinish (q : Records) (st : State) (x : ℕ) : Type 0 where
   pub started : Started st x
   pub running : test-bit (st .finished) x ≡ false
 
--- No other call of a run is refused than Begin (16), a Tick at the clock's end (18), and a Finish of a step that cannot finish (17). So a hand's finish is taken at every tick. Proof: run-answers.
+-- "20, Finish at a tick below its start tick plus its least duration."
+abbrev pub least-end : Records → State → ℕ → ℕ
+least-end q st x = start-tick st x + leasts-of q x
+
+-- No other call of a run is refused than Begin (16), a Tick at the clock's end (18), a Finish of a step that cannot finish (17), and one below the least duration (20). So a hand's finish is
+-- taken at every tick from the least end on. Proof: run-answers.
 pub record AnswersFor (q : Records) (st : State) (table : List ℕ) : Type 0 where
-  pub begins-never : (n unbounded : ℕ) → begin st n unbounded table ≡ refused 16
+  pub begins-never : (n unbounded : ℕ) (leasts : List ℕ) → begin st n unbounded leasts table ≡ refused 16
   pub ticks : st .tick ≢ last-tick → tick st table ≡ given (sweep (ticked st) table)
   pub clock-end : st .tick ≡ last-tick → tick st table ≡ refused 18
-  pub finishes : (x : ℕ) → CanFinish q st x → finish st x table ≡ given (sweep (ended st x) table)
+  pub finishes : (x : ℕ) → CanFinish q st x → least-end q st x ≤ st .tick → finish st x table ≡ given (sweep (ended st x) table)
+  pub finishes-early : (x : ℕ) → CanFinish q st x → st .tick < least-end q st x → finish st x table ≡ refused 20
   pub finishes-never : (x : ℕ) → ¬ CanFinish q st x → finish st x table ≡ refused 17
 
 abbrev pub RunAnswers : Type 0
@@ -148,11 +173,11 @@ pub record HistoryFor (st : State) (c : Call) (map : ℕ) (after : State) : Type
 
 abbrev pub HistoryKept : Type 0
 HistoryKept =
-    (s : List ℕ) (allow : Bool) (q : Records) (w : ℕ) → Accepted s allow q w → (st : State) → Run q st → (c : Call) (table : List ℕ) → HistoryFor st c (map-after (called st table c)) (state-after st (called st table c))
+    (s : List ℕ) (allow : Bool) (q : Records) (w : ℕ) → Accepted s allow q w → (st : State) → Run q st → (c : Call) (leasts table : List ℕ) → HistoryFor st c (map-after (called st table leasts c)) (state-after st (called st table leasts c))
 
 abbrev pub BeginNamed : Type 0
 BeginNamed =
-    (before : State) (n unbounded : ℕ) (table : List ℕ) (g : Progress) → begin before n unbounded table ≡ given g → (g .state .tick ≡ 0) × ((v : ℕ) → (test-bit (g .map) v ≡ true) ↔ Started (g .state) v)
+    (before : State) (n unbounded : ℕ) (leasts table : List ℕ) (g : Progress) → begin before n unbounded leasts table ≡ given g → (g .state .tick ≡ 0) × ((v : ℕ) → (test-bit (g .map) v ≡ true) ↔ Started (g .state) v)
 
 -- No run is stuck: a step that has not started waits for an open step of its start set that is at work, or for the clock to come to a planned tick, its own or that of a step of its start set. Proof:
 -- nothing-stuck.
@@ -200,7 +225,7 @@ Holds q st (minimum i j m) = Started st j → AtLeastHolds st i j m
 Holds q st (maximum i j u) = Started st i → AtMostHolds st i j u
 Holds q st (finish-maximum i j u) = FinishHolds st i j u (delay-at (q .steps) i)
 
--- At every state of every run of every accepted sheet, every link and every wait holds. Nothing is asked of the durations: a hand may take any time at all. Proof: certificate.
+-- At every state of every run of every accepted sheet, every link and every wait holds. Nothing is asked of the durations: a hand may take any time at all, from its least on. Proof: certificate.
 pub record Certified (q : Records) (st : State) : Type 0 where
   pub links : (c : Constraint) → List·Memᴰ c (links-of q) → Holds q st c
   pub waits : (p : WaitPair) → List·Memᴰ p (sheet-waits q) → Holds q st (wait-link p)
@@ -210,35 +235,38 @@ Certificate = (s : List ℕ) (allow : Bool) (q : Records) (w : ℕ) → Accepted
 
 -- ## The hypotheses are met
 
--- The state after calls that are all lent one table.
-abbrev pub after-calls : State → List ℕ → List Call → State
-after-calls st table [] = st
-after-calls st table (c ∷ cs) = after-calls (state-after st (called st table c)) table cs
+-- The state after calls that are all lent one table, and the same least durations.
+abbrev pub after-calls : State → List ℕ → List ℕ → List Call → State
+after-calls st table leasts [] = st
+after-calls st table leasts (c ∷ cs) = after-calls (state-after st (called st table leasts c)) table leasts cs
 
 -- The plan of a sheet of n steps, written into a table of n × n numbers.
 abbrev pub table-of : List ℕ → ℕ → List ℕ
 table-of bytes n = planned bytes true (replicate (n * n) 0) .numbers
 
--- The sheet is accepted with the verdict; a run of it, begun with n and the map on a state that has not begun and lent its table at each of the calls, starts all n steps, at the ticks given.
-abbrev pub after-begin : List ℕ → ℕ → ℕ → List Call → State
-after-begin bytes n unbounded calls = after-calls idle (table-of bytes n) (Begin n unbounded ∷ calls)
+-- The sheet is accepted with the verdict; a run of it, begun with n, the map and the least durations on a state that has not begun and lent its table at each of the calls, starts all n steps,
+-- at the ticks given.
+abbrev pub after-begin : List ℕ → ℕ → ℕ → List ℕ → List Call → State
+after-begin bytes n unbounded leasts calls = after-calls idle (table-of bytes n) leasts (Begin n unbounded ∷ calls)
 
-pub record WorkedRun (bytes : List ℕ) (verdict n unbounded : ℕ) (calls : List Call) (starts : List ℕ) : Type 0 where
+pub record WorkedRun (bytes : List ℕ) (verdict n unbounded : ℕ) (leasts : List ℕ) (calls : List Call) (starts : List ℕ) : Type 0 where
   pub records : Records
   pub accepted : Accepted bytes true records verdict
   pub lent : IsLent records (table-of bytes n)
-  pub run : Run records (after-begin bytes n unbounded calls)
-  pub all-started : all-below (test-bit (after-begin bytes n unbounded calls .started)) n ≡ true
-  pub ticks : take n (after-begin bytes n unbounded calls .start) ≡ starts
+  pub run : Run records (after-begin bytes n unbounded leasts calls)
+  pub all-started : all-below (test-bit (after-begin bytes n unbounded leasts calls .started)) n ≡ true
+  pub ticks : take n (after-begin bytes n unbounded leasts calls .start) ≡ starts
 
 -- "Run of it: Begin gives 7; Finish 2 gives 0; ticks give 8, 0, 16. A second Finish 2: 17." A run in which the hand takes 10: "Stand sheet, hand 10: starts 0, 0, 0, 10, 12." And a run of two hands, in which step 3
 -- waits for hand 2. Of request L11: the exposure starts when the hand is done, 3 ticks in; of the hand-over, hand 1 starts when hand 2 is done, and step 3 when hand 1 is; and
--- the hand that is held back is done at 7, while step 2 waits for tick 10. Of request L1: the hand is done at 3, and the step after it starts six ticks later. Proof: runs-met.
+-- the hand that is held back is done at 7, while step 2 waits for tick 10. Of request L1: the hand is done at 3, and the step after it starts six ticks later.
+-- Of request L6: the hand of at least eight ticks says at 7 that it is done, which is refused 20, and is done at 8. Proof: runs-met.
 pub record RunsMet : Type 0 where
-  pub stand-at-once : WorkedRun (stand 2) 0 5 4 (Finish 2 ∷ Tick ∷ Tick ∷ Tick ∷ Finish 2 ∷ []) (0 ∷ 0 ∷ 0 ∷ 1 ∷ 3 ∷ [])
-  pub stand-hand-ten : WorkedRun (stand 2) 0 5 4 (Tick ∷ Tick ∷ Tick ∷ Tick ∷ Tick ∷ Tick ∷ Tick ∷ Tick ∷ Tick ∷ Tick ∷ Finish 2 ∷ Tick ∷ Tick ∷ []) (0 ∷ 0 ∷ 0 ∷ 10 ∷ 12 ∷ [])
-  pub two-hands-wait : WorkedRun two-hands 1 5 6 (Finish 1 ∷ Tick ∷ Tick ∷ Tick ∷ Finish 2 ∷ []) (0 ∷ 0 ∷ 0 ∷ 3 ∷ 3 ∷ [])
-  pub exposure-in-time : WorkedRun exposure 0 3 2 (Tick ∷ Tick ∷ Tick ∷ Finish 1 ∷ []) (0 ∷ 0 ∷ 3 ∷ [])
-  pub hand-over-waits : WorkedRun hand-over 1 4 6 (Tick ∷ Tick ∷ Finish 2 ∷ Tick ∷ Tick ∷ Tick ∷ Finish 1 ∷ []) (0 ∷ 2 ∷ 0 ∷ 5 ∷ [])
-  pub held-back-in-time : WorkedRun held-back 0 3 2 (Tick ∷ Tick ∷ Tick ∷ Tick ∷ Tick ∷ Tick ∷ Tick ∷ Finish 1 ∷ Tick ∷ Tick ∷ Tick ∷ []) (0 ∷ 6 ∷ 10 ∷ [])
-  pub lip-lets-go : WorkedRun lip 0 3 2 (Tick ∷ Tick ∷ Tick ∷ Finish 1 ∷ Tick ∷ Tick ∷ Tick ∷ Tick ∷ Tick ∷ Tick ∷ []) (0 ∷ 0 ∷ 9 ∷ [])
+  pub stand-at-once : WorkedRun (stand 2) 0 5 4 (replicate 5 0) (Finish 2 ∷ Tick ∷ Tick ∷ Tick ∷ Finish 2 ∷ []) (0 ∷ 0 ∷ 0 ∷ 1 ∷ 3 ∷ [])
+  pub stand-hand-ten : WorkedRun (stand 2) 0 5 4 (replicate 5 0) (Tick ∷ Tick ∷ Tick ∷ Tick ∷ Tick ∷ Tick ∷ Tick ∷ Tick ∷ Tick ∷ Tick ∷ Finish 2 ∷ Tick ∷ Tick ∷ []) (0 ∷ 0 ∷ 0 ∷ 10 ∷ 12 ∷ [])
+  pub two-hands-wait : WorkedRun two-hands 1 5 6 (replicate 5 0) (Finish 1 ∷ Tick ∷ Tick ∷ Tick ∷ Finish 2 ∷ []) (0 ∷ 0 ∷ 0 ∷ 3 ∷ 3 ∷ [])
+  pub exposure-in-time : WorkedRun exposure 0 3 2 (replicate 3 0) (Tick ∷ Tick ∷ Tick ∷ Finish 1 ∷ []) (0 ∷ 0 ∷ 3 ∷ [])
+  pub hand-over-waits : WorkedRun hand-over 1 4 6 (replicate 4 0) (Tick ∷ Tick ∷ Finish 2 ∷ Tick ∷ Tick ∷ Tick ∷ Finish 1 ∷ []) (0 ∷ 2 ∷ 0 ∷ 5 ∷ [])
+  pub held-back-in-time : WorkedRun held-back 0 3 2 (replicate 3 0) (Tick ∷ Tick ∷ Tick ∷ Tick ∷ Tick ∷ Tick ∷ Tick ∷ Finish 1 ∷ Tick ∷ Tick ∷ Tick ∷ []) (0 ∷ 6 ∷ 10 ∷ [])
+  pub lip-lets-go : WorkedRun lip 0 3 2 (replicate 3 0) (Tick ∷ Tick ∷ Tick ∷ Finish 1 ∷ Tick ∷ Tick ∷ Tick ∷ Tick ∷ Tick ∷ Tick ∷ []) (0 ∷ 0 ∷ 9 ∷ [])
+  pub slow-hand-in-time : WorkedRun (slow-hand 8) 0 3 2 (0 ∷ 8 ∷ 0 ∷ []) (Tick ∷ Tick ∷ Tick ∷ Tick ∷ Tick ∷ Tick ∷ Tick ∷ Finish 1 ∷ Tick ∷ Finish 1 ∷ []) (0 ∷ 0 ∷ 8 ∷ [])

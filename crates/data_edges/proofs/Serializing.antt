@@ -37,6 +37,6 @@ pairs-maps n es h = flatMap-same (λ a. pairs-of (wait-maps n es) a n) (waits-of
         let b : a < n = omega (arith, r .1, r .2) in
         ap (map (λ i. record { anchor = a; target = i })) (select-below-same (λ i. test-bit (getD (wait-maps n es) i 0) a) (waits-for n es a) n (λ i c. wait-bit n es a i h b c))
 
-pub serialized-maps : (n : ℕ) (es : List Edge) → n ≤ most-steps → es ++ wait-edges n (wait-maps n es) ≡ serialized n es
+pub serialized-maps : (n : ℕ) (least : ℕ → ℕ) (es : List Edge) → n ≤ most-steps → es ++ wait-edges n least (wait-maps n es) ≡ serialized n least es
 unfolding wait-edges serialized
-serialized-maps n es h = ap (λ (w : List WaitPair). es ++ map wait-edge w) (pairs-maps n es h)
+serialized-maps n least es h = ap (λ (w : List WaitPair). es ++ map (wait-edge least) w) (pairs-maps n es h)

@@ -5,18 +5,19 @@ use Prim.Native.Nat.{ℕ, _*_}
 use lib.Dec.{ltb, leb}
 use lib.ListN.{length, drop, replicate}
 use Rattle.definitions.specs.Limits.{most-steps}
-use Rattle.definitions.specs.Basics.{any, any-below, Outcome, given, refused, refuse-if, when-given}
+use Rattle.definitions.specs.Basics.{any, any-below, tabulate, bits-below, Outcome, given, refused, refuse-if, when-given}
 use Rattle.definitions.specs.Bytes.{Records, read}
-use Rattle.definitions.specs.Links.{Edge, links-of, edges, forwards, usable}
+use Rattle.definitions.specs.Links.{Edge, is-open, delay-at, least-at, links-of, edges, forwards, usable}
 use Rattle.definitions.specs.Rounds.{rounds, stable, source-row, reaches, after-reaches}
 use Rattle.definitions.specs.Waits.{wait-maps, wait-count, needs-waits, serialized}
+use Rattle.definitions.specs.declared.Operation.{Operation}
 use Rattle.definitions.specs.Plan.{start-times, plan-table, row-part, delays-wrong, delays}
 
 -- 8: forward links close a circle. 9 never occurs any more (request L3): where they close none, every step of a completed sheet has a forward chain from step 0.
 unfoldable pub closes-circle : ℕ → List Edge → Bool
 closes-circle n es = any (λ e. reaches n (forwards es) (e .to) (e .from)) (forwards es)
 
--- 10: with all open durations 0, no start times keep every link. The rounds from step 0 then never come to rest.
+-- 10: with each open step at its least, no start times keep every link. The rounds from step 0 then never come to rest.
 unfoldable pub infeasible : ℕ → List Edge → Bool
 infeasible n es = not (stable es (rounds es n (source-row n 0)))
 
@@ -24,32 +25,35 @@ infeasible n es = not (stable es (rounds es n (source-row n 0)))
 unfoldable pub inconsistent : ℕ → List Edge → Bool
 inconsistent n es = any-below (λ a. after-reaches n (usable es a) a a) n
 
--- 28: the waits close a circle of forward links, or leave no start times with all open durations 0.
-unfoldable pub unserializable : ℕ → List Edge → Bool
-unserializable n es = closes-circle n (serialized n es) || infeasible n (serialized n es)
+-- 28: the waits close a circle of forward links, or leave no start times with each open step at its least.
+unfoldable pub unserializable : ℕ → (ℕ → ℕ) → List Edge → Bool
+unserializable n least es = closes-circle n (serialized n least es) || infeasible n (serialized n least es)
 
 -- 8, 10, 11, 28, 12: verdict 0 is sound, 1 sound with waits.
-unfoldable pub judge-edges : ℕ → List Edge → Bool → Outcome ℕ
-judge-edges n es allow =
+unfoldable pub judge-edges : ℕ → (ℕ → ℕ) → List Edge → Bool → Outcome ℕ
+judge-edges n least es allow =
     refuse-if (closes-circle n es) 8
     (refuse-if (infeasible n es) 10
     (refuse-if (inconsistent n es) 11
-    (refuse-if (unserializable n es) 28
+    (refuse-if (unserializable n least es) 28
     (refuse-if (needs-waits n es && not allow) 12
     (given (cond (needs-waits n es) 1 0))))))
 
--- A sheet's step count and edges, completed and then with its waits in.
+-- A sheet's step count, leasts and edges, completed and then with its waits in.
 abbrev pub count-of : Records → ℕ
 count-of q = length (q .steps)
+
+abbrev pub leasts-of : Records → ℕ → ℕ
+leasts-of q = least-at (q .steps)
 
 unfoldable pub edges-of : Records → List Edge
 edges-of q = edges (q .steps) (links-of q)
 
 unfoldable pub serialized-of : Records → List Edge
-serialized-of q = serialized (count-of q) (edges-of q)
+serialized-of q = serialized (count-of q) (leasts-of q) (edges-of q)
 
 unfoldable pub judge-records : Records → Bool → Outcome ℕ
-judge-records q allow = judge-edges (count-of q) (edges-of q) allow
+judge-records q allow = judge-edges (count-of q) (leasts-of q) (edges-of q) allow
 
 -- Judging.
 unfoldable pub judged : List ℕ → Bool → Outcome ℕ
@@ -94,7 +98,7 @@ unfoldable pub plan-verdict : Records → Bool → List ℕ → Outcome ℕ
 plan-verdict q allow table = when-given (judge-records q allow) (λ v. refuse-if (too-short table (count-of q * count-of q)) 14 (given v))
 
 unfoldable pub plan-read : Outcome Records → Bool → List ℕ → Written
-plan-read (given q) allow table = record { verdict = plan-verdict q allow table; numbers = written (plan-verdict q allow table) (plan-table (count-of q) (serialized-of q)) table }
+plan-read (given q) allow table = record { verdict = plan-verdict q allow table; numbers = written (plan-verdict q allow table) (plan-table (count-of q) (leasts-of q) (serialized-of q)) table }
 plan-read (refused k) allow table = record { verdict = refused k; numbers = table }
 
 unfoldable pub planned : List ℕ → Bool → List ℕ → Written
@@ -107,11 +111,30 @@ starts-verdict q allow list out =
     (λ v. refuse-if (delays-wrong (q .steps) list) 13 (refuse-if (too-short list (count-of q) || too-short out (count-of q)) 14 (given v)))
 
 unfoldable pub starts-read : Outcome Records → Bool → List ℕ → List ℕ → Written
-starts-read (given q) allow list out = record { verdict = starts-verdict q allow list out; numbers = written (starts-verdict q allow list out) (start-times (count-of q) (serialized-of q) (delays list)) out }
+starts-read (given q) allow list out = record { verdict = starts-verdict q allow list out; numbers = written (starts-verdict q allow list out) (start-times (count-of q) (leasts-of q) (serialized-of q) (delays list)) out }
 starts-read (refused k) allow list out = record { verdict = refused k; numbers = out }
 
 unfoldable pub starts-answer : List ℕ → Bool → List ℕ → List ℕ → Written
 starts-answer s allow list out = starts-read (read s) allow list out
+
+-- What a run of a sheet is begun with (request L6): N, the map of its open steps, step 0 among them, and the leasts of its steps, at the front of the numbers that are lent for them.
+pub record Beginning : Type 0 where
+  pub n : ℕ
+  pub unbounded : ℕ
+  pub leasts : List ℕ
+
+unfoldable pub open-map : List Operation → ℕ
+open-map os = bits-below (λ i. is-open (delay-at os i)) (length os)
+
+unfoldable pub beginning : Records → List ℕ → Beginning
+beginning q lent = record { n = count-of q; unbounded = open-map (q .steps); leasts = tabulate (leasts-of q) (count-of q) ++ drop (count-of q) lent }
+
+-- Asked for: the refusals of reading, then 14.
+unfoldable pub steps-read : Records → List ℕ → Outcome Beginning
+steps-read q lent = refuse-if (too-short lent (count-of q)) 14 (given (beginning q lent))
+
+unfoldable pub steps-answer : List ℕ → List ℕ → Outcome Beginning
+steps-answer s lent = when-given (read s) (λ q. steps-read q lent)
 
 -- Row asked for: 2, 5, 14.
 unfoldable pub bad-count : ℕ → Bool

@@ -1,4 +1,4 @@
--- "A sheet in bytes", and the refusals 1 to 7 of "From the input"; with the gap of request L1, and with the limit from the finish and 26 of request L11.
+-- "A sheet in bytes", and the refusals 1 to 7 of "From the input"; with the gap of request L1, the least duration of request L6, and the limit from the finish and 26 of request L11.
 use mathlib.Core.Bool.{Bool, true, false, not, _&&_, _||_}
 use mathlib.Core.List.{List, [], _∷_}
 use Prim.Native.Nat.{ℕ, zero, suc, _+_, _*_}
@@ -55,10 +55,15 @@ unfoldable pub ticks-if : Bool → Parser ℕ
 ticks-if true = two-bytes
 ticks-if false = give 0
 
--- A step record: a bit map, then the fields whose bit stands. Bit 0: open; bit 1: a fixed duration; neither: duration 0; both are not allowed. The map of step 0 is 01.
+unfoldable pub bound-from : Bool → ℕ → Bound
+bound-from true ticks = Ticks ticks
+bound-from false ticks = Absent
+
+-- A step record: a bit map, then the fields whose bit stands. Bit 0: open; bit 1: a fixed duration; neither: duration 0; both are not allowed. The map of step 0 is 01. Bit 2, only with bit 0 and not on
+-- step 0: the least duration of an open step. So the other steps have 00, 01, 02 or 05; no other bit is known.
 unfoldable pub operation-map : Bool → ℕ → Bool
 operation-map true m = eqb m 1
-operation-map false m = leb m 2
+operation-map false m = leb m 2 || eqb m 5
 
 unfoldable pub delay-from : Bool → ℕ → Delay
 delay-from true ticks = Open
@@ -69,7 +74,8 @@ operation first = do
   m ← byte
   demand (operation-map first m) 4
   ticks ← ticks-if (test-bit m 1)
-  give (record { delay = delay-from (test-bit m 0) ticks })
+  least ← ticks-if (test-bit m 2)
+  give (record { delay = delay-from (test-bit m 0) ticks; least = bound-from (test-bit m 2) least })
 
 -- A link record: a bit map, i and j, then the fields whose bit stands. Bit 0: after; bit 1: at least; bit 2: at most; bit 3: the gap; bit 4: at most, from the finish. An empty map is not allowed, nor is an
 -- unknown bit, 5 to 7, nor a gap without bit 0.
@@ -88,10 +94,6 @@ endpoints n i j = ltb i n && ltb j n && not (eqb i j)
 unfoldable pub rises : Previous → ℕ → ℕ → Bool
 rises Nothing i j = true
 rises (Pair i₀ j₀) i j = ltb i₀ i || eqb i₀ i && ltb j₀ j
-
-unfoldable pub bound-from : Bool → ℕ → Bound
-bound-from true ticks = Ticks ticks
-bound-from false ticks = Absent
 
 -- The map is judged first, 4 and then 26; then 5, then 6, then the fields.
 unfoldable pub link : ℕ → Previous → Parser Link
@@ -153,4 +155,4 @@ read s = when-given (sheet s) (λ t. given (t .value))
 
 -- What stands where no step does lasts 0 ticks.
 abbrev pub blank-operation : Operation
-blank-operation = record { delay = Fixed 0 }
+blank-operation = record { delay = Fixed 0; least = Absent }

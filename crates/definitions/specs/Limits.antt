@@ -10,13 +10,17 @@ most-steps = 64
 abbrev pub most-records : ℕ
 most-records = 512
 
--- The largest number of two bytes: a fixed duration, and each field of a link record.
+-- The largest number of two bytes: a fixed duration, a least duration, and each field of a link record.
 abbrev pub most-ticks : ℕ
 most-ticks = 65535
 
 -- "Each at most 16,777,215": an entry of a list of durations.
 abbrev pub most-duration : ℕ
 most-duration = 16777215
+
+-- What a list of durations can give an open step past its least (request L6), whatever the least is.
+abbrev pub most-extra : ℕ
+most-extra = most-duration - most-ticks
 
 -- A link record holds at most four links, and each is one edge; and at most one link is added for each step other than 0 (request L3).
 abbrev pub links-of-record : ℕ
@@ -28,7 +32,7 @@ most-added = most-steps - 1
 abbrev pub most-edges : ℕ
 most-edges = links-of-record * most-records + most-added
 
--- What one edge gains: a fixed duration and the gap after it, or the ticks of an at-least link.
+-- What one edge gains: a duration, fixed or the least of an open step, and the gap after it; or the ticks of an at-least link.
 abbrev pub most-gain : ℕ
 most-gain = most-ticks + most-ticks
 
@@ -36,7 +40,7 @@ most-gain = most-ticks + most-ticks
 abbrev pub most-first-gain : ℕ
 most-first-gain = most-ticks
 
--- What one edge loses: the ticks of an at-most link; from the finish of a fixed step its duration besides.
+-- What one edge loses: the ticks of an at-most link; from the finish of a step its duration besides, that of an open step taken as its least.
 abbrev pub most-loss : ℕ
 most-loss = most-ticks + most-ticks
 
@@ -60,7 +64,7 @@ longest-table = most-steps * most-steps
 abbrev pub most-start : ℕ
 most-start = most-steps * (most-duration + most-offset)
 
--- The longest step record: a map and a duration; that of step 0 is its map. The longest link record: a map, a pair and four fields.
+-- The longest step record: a map and a duration, fixed or least; that of step 0 is its map. The longest link record: a map, a pair and four fields.
 abbrev pub longest-step : ℕ
 longest-step = 1 + 2
 

@@ -39,14 +39,14 @@ unfoldable pub finish-maximum-of : ℕ → ℕ → Bound → List Constraint
 finish-maximum-of i j (Ticks u) = finish-maximum i j u ∷ []
 finish-maximum-of i j Absent = []
 
--- The gap of a record's after link: 0 where none is said.
-unfoldable pub gap-of : Bound → ℕ
-gap-of (Ticks g) = g
-gap-of Absent = 0
+-- The ticks of a field, the gap of an after link or a least duration: 0 where none is said.
+unfoldable pub ticks-said : Bound → ℕ
+ticks-said (Ticks g) = g
+ticks-said Absent = 0
 
 -- The links of a record, and of all records of a sheet.
 unfoldable pub link-constraints : Link → List Constraint
-link-constraints l = sequencing-of (l .from) (l .to) (l .sequencing) (gap-of (l .gap)) ++ minimum-of (l .from) (l .to) (l .minimum) ++ maximum-of (l .from) (l .to) (l .maximum) ++ finish-maximum-of (l .from) (l .to) (l .latest)
+link-constraints l = sequencing-of (l .from) (l .to) (l .sequencing) (ticks-said (l .gap)) ++ minimum-of (l .from) (l .to) (l .minimum) ++ maximum-of (l .from) (l .to) (l .maximum) ++ finish-maximum-of (l .from) (l .to) (l .latest)
 
 unfoldable pub constraints : List Link → List Constraint
 constraints ls = flatMap link-constraints ls
@@ -79,6 +79,11 @@ links-of q = completed (length (q .steps)) (constraints (q .pairs))
 unfoldable pub delay-at : List Operation → ℕ → Delay
 delay-at os i = getD os i blank-operation .delay
 
+-- Whether a step is open.
+unfoldable pub is-open : Delay → Bool
+is-open Open = true
+is-open (Fixed ticks) = false
+
 unfoldable pub duration-with : (ℕ → ℕ) → ℕ → Delay → ℕ
 duration-with d i (Fixed ticks) = ticks
 duration-with d zero Open = 0
@@ -86,6 +91,23 @@ duration-with d (suc i) Open = d (suc i)
 
 unfoldable pub duration : List Operation → (ℕ → ℕ) → ℕ → ℕ
 duration os d i = duration-with d i (delay-at os i)
+
+-- The least duration of a step (request L6). Only an open step other than 0 has one.
+unfoldable pub least-with : ℕ → Delay → Bound → ℕ
+least-with i (Fixed ticks) said = 0
+least-with zero Open said = 0
+least-with (suc i) Open said = ticks-said said
+
+unfoldable pub least-at : List Operation → ℕ → ℕ
+least-at os i = least-with i (delay-at os i) (getD os i blank-operation .least)
+
+-- Durations that respect the leasts: none is below that of its step.
+abbrev pub Respects : List Operation → (ℕ → ℕ) → Type 0
+Respects os d = (i : ℕ) → least-at os i ≤ d i
+
+-- Leasts of 0: those of a sheet without one. With these walks, waits, offsets and starts are what they were before request L6.
+abbrev pub no-leasts : ℕ → ℕ
+no-leasts i = 0
 
 -- Start times keep a link: the three lines of document 01, an after link with its gap besides, and start(j) at most the end of i plus u. Times have no largest one either.
 abbrev pub Keeps : List Operation → (ℕ → ℕ) → (ℕ → ℕ) → Constraint → Type 0
@@ -99,8 +121,8 @@ pub record KeepsAll (os : List Operation) (cs : List Constraint) (d t : ℕ → 
   pub starts : t 0 ≡ 0
   pub keeps : (c : Constraint) → List·Memᴰ c cs → Keeps os d t c
 
--- An edge of the constraint graph. It asks that start times t under delays d have t from + gain ≤ t to + loss, with the delay of `from` on the left where the edge is counted, and the delay of
--- `to` on the right where it is late. `back` marks a return.
+-- An edge of the constraint graph. It asks that start times t have t from + gain ≤ t to + loss; where the edge is counted, with what `from` lasts past its least on the left besides, and where it is
+-- late, with what `to` lasts past its least on the right. `back` marks a return.
 pub record Edge : Type 0 where
   pub from : ℕ
   pub to : ℕ
@@ -110,21 +132,21 @@ pub record Edge : Type 0 where
   pub back : Bool
   pub late : Bool
 
--- After and at-least links are forward edges from i to j; an at-most link is a return from j to i that weighs −u. An after link weighs the duration plus the gap; it is counted where i is open and not
--- step 0. There a return from the finish is late; where i is fixed it is one of its duration plus u, and step 0 ends at tick 0.
-unfoldable pub sequencing-edge : Delay → ℕ → ℕ → ℕ → Edge
-sequencing-edge (Fixed ticks) i j g = record { from = i; to = j; gain = ticks + g; loss = 0; counted = false; back = false; late = false }
-sequencing-edge Open i j g = record { from = i; to = j; gain = g; loss = 0; counted = not (eqb i 0); back = false; late = false }
+-- After and at-least links are forward edges from i to j; an at-most link is a return from j to i that weighs −u. An after link weighs the duration plus the gap, an open duration taken as its least; it
+-- is counted where i is open and not step 0. There a return from the finish is late and weighs minus u minus the least of i; where i is fixed it is one of its duration plus u, and step 0 ends at tick 0.
+unfoldable pub sequencing-edge : Delay → ℕ → ℕ → ℕ → ℕ → Edge
+sequencing-edge (Fixed ticks) least i j g = record { from = i; to = j; gain = ticks + g; loss = 0; counted = false; back = false; late = false }
+sequencing-edge Open least i j g = record { from = i; to = j; gain = least + g; loss = 0; counted = not (eqb i 0); back = false; late = false }
 
-unfoldable pub finish-edge : Delay → ℕ → ℕ → ℕ → Edge
-finish-edge (Fixed ticks) i j u = record { from = j; to = i; gain = 0; loss = ticks + u; counted = false; back = true; late = false }
-finish-edge Open i j u = record { from = j; to = i; gain = 0; loss = u; counted = false; back = true; late = not (eqb i 0) }
+unfoldable pub finish-edge : Delay → ℕ → ℕ → ℕ → ℕ → Edge
+finish-edge (Fixed ticks) least i j u = record { from = j; to = i; gain = 0; loss = ticks + u; counted = false; back = true; late = false }
+finish-edge Open least i j u = record { from = j; to = i; gain = 0; loss = least + u; counted = false; back = true; late = not (eqb i 0) }
 
 unfoldable pub edge-of : List Operation → Constraint → Edge
-edge-of os (sequencing i j g) = sequencing-edge (delay-at os i) i j g
+edge-of os (sequencing i j g) = sequencing-edge (delay-at os i) (least-at os i) i j g
 edge-of os (minimum i j m) = record { from = i; to = j; gain = m; loss = 0; counted = false; back = false; late = false }
 edge-of os (maximum i j u) = record { from = j; to = i; gain = 0; loss = u; counted = false; back = true; late = false }
-edge-of os (finish-maximum i j u) = finish-edge (delay-at os i) i j u
+edge-of os (finish-maximum i j u) = finish-edge (delay-at os i) (least-at os i) i j u
 
 -- The one definition that turns a sheet into its edges.
 unfoldable pub edges : List Operation → List Constraint → List Edge
@@ -148,7 +170,7 @@ Forward E e = E e × (e .back ≡ false)
 unfoldable pub forwards : List Edge → List Edge
 forwards es = without (λ e. e .back) es
 
--- A walk from x to y of k edges, with the sums p of their gains and q of their losses: it weighs p − q, open durations taken as 0.
+-- A walk from x to y of k edges, with the sums p of their gains and q of their losses: it weighs p − q, open durations taken as their leasts.
 pub data Walk (E : Graph) (x : ℕ) : ℕ → ℕ → ℕ → ℕ → Type 0 where
   stop : {y k p q : ℕ} → x ≡ y → k ≡ 0 → p ≡ 0 → q ≡ 0 → Walk E x y k p q
   step : {y k p q z k′ p′ q′ : ℕ} → Walk E x y k p q → (e : Edge) → E e → e .from ≡ y → e .to ≡ z → k′ ≡ suc k → p′ ≡ p + e .gain → q′ ≡ q + e .loss → Walk E x z k′ p′ q′

@@ -9,7 +9,7 @@ use Rattle.definitions.specs.Bytes.{Records, read}
 use Rattle.definitions.specs.Links.{Edge}
 use Rattle.definitions.specs.Waits.{WaitPair, wait-list}
 use Rattle.definitions.specs.Plan.{offset, decides}
-use Rattle.definitions.specs.Answers.{count-of, edges-of, serialized-of, judge-records}
+use Rattle.definitions.specs.Answers.{count-of, leasts-of, edges-of, serialized-of, judge-records}
 
 -- A start line: step, deciding step, offset, in rising order of the first two.
 pub record StartLine : Type 0 where
@@ -17,11 +17,11 @@ pub record StartLine : Type 0 where
   pub decider : ℕ
   pub ticks : ℕ
 
-unfoldable pub lines-of : ℕ → List Edge → ℕ → List StartLine
-lines-of n es v = map (λ a. record { step = v; decider = a; ticks = offset n es a v }) (select-below (λ a. decides n es a v) n)
+unfoldable pub lines-of : ℕ → (ℕ → ℕ) → List Edge → ℕ → List StartLine
+lines-of n least es v = map (λ a. record { step = v; decider = a; ticks = offset n least es a v }) (select-below (λ a. decides n least es a v) n)
 
-unfoldable pub start-lines : ℕ → List Edge → List StartLine
-start-lines n es = flatMap (lines-of n es) (tabulate (λ v. v) n)
+unfoldable pub start-lines : ℕ → (ℕ → ℕ) → List Edge → List StartLine
+start-lines n least es = flatMap (lines-of n least es) (tabulate (λ v. v) n)
 
 -- What is printed of an accepted sheet.
 pub record Listing : Type 0 where
@@ -32,7 +32,7 @@ pub record Listing : Type 0 where
 unfoldable pub list-records : Records → Bool → Outcome Listing
 list-records q allow =
     when-given (judge-records q allow)
-    (λ v. given (record { verdict = v; waits = wait-list (count-of q) (edges-of q); starts = start-lines (count-of q) (serialized-of q) }))
+    (λ v. given (record { verdict = v; waits = wait-list (count-of q) (edges-of q); starts = start-lines (count-of q) (leasts-of q) (serialized-of q) }))
 
 unfoldable pub listed : List ℕ → Bool → Outcome Listing
 listed s allow = when-given (read s) (λ q. list-records q allow)

@@ -4,7 +4,7 @@ use mathlib.Core.Logic.{_⊎_, _≢_}
 use mathlib.Core.List.{List, List·Memᴰ}
 use Prim.Native.Nat.{ℕ, _+_, _<_, _≤_}
 use lib.ListN.{length}
-use Rattle.definitions.specs.Links.{Constraint, sequencing, minimum, maximum, finish-maximum, KeepsAll, delay-at, duration, edges, members}
+use Rattle.definitions.specs.Links.{Constraint, sequencing, minimum, maximum, finish-maximum, KeepsAll, delay-at, Respects, duration, edges, members}
 use Rattle.definitions.specs.Anchors.{WellPosed}
 use Rattle.definitions.specs.declared.Delay.the-variants.{Open}
 use Rattle.definitions.specs.declared.Operation.{Operation}
@@ -28,9 +28,10 @@ pub record Lasts (os : List Operation) (v : ℕ) : Type 0 where
   pub not-source : v ≢ 0
   pub open-step : delay-at os v ≡ Open
 
--- A list of durations with no largest one: 0 for every other step.
-abbrev pub DelayAssignment : List Operation → (ℕ → ℕ) → Type 0
-DelayAssignment os d = (v : ℕ) → ¬ Lasts os v → d v ≡ 0
+-- A list of durations with no largest one: 0 for every other step, and none below its least.
+pub record DelayAssignment (os : List Operation) (d : ℕ → ℕ) : Type 0 where
+  pub idle : (v : ℕ) → ¬ Lasts os v → d v ≡ 0
+  pub respects : Respects os d
 
 -- Step v has finished by tick t, where its start is that of the strategy ρ.
 abbrev pub FinishedBy : List Operation → ((ℕ → ℕ) → ℕ → ℕ) → (ℕ → ℕ) → ℕ → ℕ → Type 0

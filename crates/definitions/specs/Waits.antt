@@ -51,10 +51,10 @@ wait-count n es = length (wait-list n es)
 unfoldable pub needs-waits : ℕ → List Edge → Bool
 needs-waits n es = ltb 0 (wait-count n es)
 
--- A wait is an added after link from a to i, with gap 0.
-abbrev pub wait-edge : WaitPair → Edge
-wait-edge w = record { from = w .anchor; to = w .target; gain = 0; loss = 0; counted = true; back = false; late = false }
+-- A wait is an added after link from a to i, with gap 0: it weighs the least of a.
+abbrev pub wait-edge : (ℕ → ℕ) → WaitPair → Edge
+wait-edge least w = record { from = w .anchor; to = w .target; gain = least (w .anchor); loss = 0; counted = true; back = false; late = false }
 
 -- The sheet with its waits in. Start sets and walks are then taken on it.
-unfoldable pub serialized : ℕ → List Edge → List Edge
-serialized n es = es ++ map wait-edge (wait-list n es)
+unfoldable pub serialized : ℕ → (ℕ → ℕ) → List Edge → List Edge
+serialized n least es = es ++ map (wait-edge least) (wait-list n es)

@@ -1,4 +1,4 @@
--- "Marked and unmarked sheets": the sheets marked ★ in document 01, and sheets of ours for readings that those do not tell apart and for requests L11, L1 and L3. One table, proved against the definitions in one go.
+-- "Marked and unmarked sheets": the sheets marked ★ in document 01, and sheets of ours for readings that those do not tell apart and for requests L11, L1, L3 and L6. One table, proved against the definitions in one go.
 use mathlib.Core.Path.{_≡_, refl}
 use mathlib.Core.Bool.{Bool, true, false}
 use mathlib.Core.Logic.{_⊎_, inl, inr}
@@ -8,13 +8,14 @@ use lib.ListN.{length, replicate}
 use Rattle.definitions.specs.Limits.{most-steps}
 use Rattle.definitions.specs.Basics.{any, all, without, any-below, all-below, tabulate, select-below, largest, test-bit, bits-below, Outcome, given, refused, refuse-if, when-given}
 use Rattle.definitions.specs.Bytes.{Records, demand, byte, two-bytes, ticks-if, operation-map, delay-from, operation, link-map, sequenced, endpoints, rises, bound-from, link, records, operations, pair-of, links, at-end, sheet, read}
-use Rattle.definitions.specs.Links.{sequencing-of, minimum-of, maximum-of, finish-maximum-of, gap-of, link-constraints, constraints, leads-into, follows-nothing, loose-steps, completed, links-of, delay-at, sequencing-edge, finish-edge, edge-of, edges, forwards, late-into, usable}
+use Rattle.definitions.specs.Links.{sequencing-of, minimum-of, maximum-of, finish-maximum-of, ticks-said, least-with, least-at, link-constraints, constraints, leads-into, follows-nothing, loose-steps, completed, links-of, delay-at, is-open, sequencing-edge, finish-edge, edge-of, edges, forwards, late-into, usable}
 use Rattle.definitions.specs.Rounds.{extend, raise, round, rounds, stable, source-row, seed, seeds, after-row, bares, reaches, after-reaches}
 use Rattle.definitions.specs.Anchors.{in-anchor-set}
 use Rattle.definitions.specs.Waits.{WaitPair, waits-for, waits-of, wait-list, wait-count, needs-waits, serialized, wait-pair}
 use Rattle.definitions.specs.Plan.{first-row, offset-row, offset, start-from, start-turns, start-times, overrides, decides, plan-entry, plan-row, plan-rows, plan-table, delay-limit, delay-wrong, delays-wrong}
-use Rattle.definitions.specs.Answers.{closes-circle, infeasible, inconsistent, unserializable, judge-edges, edges-of, serialized-of, judge-records, Written, written, too-short, starts-verdict, starts-read, starts-answer, plan-verdict, plan-read, planned, bad-count}
-use Rattle.definitions.specs.Dispatcher.{entry, names, due, ready, starting, start-ticks, Progress, sweep, begun, not-running, fresh, with-source, begin, ticked, tick, cannot-finish, ended, finish, state-after, called}
+use Rattle.definitions.specs.Answers.{closes-circle, infeasible, inconsistent, unserializable, judge-edges, edges-of, serialized-of, judge-records, Written, written, too-short, starts-verdict, starts-read, starts-answer, plan-verdict, plan-read, planned, open-map, beginning, steps-read, steps-answer, bad-count}
+use Rattle.definitions.specs.Plan.{undecided}
+use Rattle.definitions.specs.Dispatcher.{entry, names, due, ready, starting, start-ticks, Progress, sweep, begun, not-running, kept-leasts, fresh, with-source, begin, ticked, tick, cannot-finish, too-early, ended, finish, state-after, called}
 use Rattle.definitions.specs.declared.Call.{Call}
 use Rattle.definitions.specs.declared.Call.the-variants.{Begin, Tick, Finish}
 use Rattle.definitions.specs.declared.State.{State}
@@ -30,7 +31,7 @@ unfolding demand byte two-bytes ticks-if operation-map delay-from operation link
 every-reading = tt
 
 unfoldable every-links : Unit {0}
-unfolding sequencing-of minimum-of maximum-of finish-maximum-of gap-of link-constraints constraints leads-into follows-nothing loose-steps completed links-of delay-at sequencing-edge finish-edge edge-of edges forwards late-into usable extend raise round rounds stable source-row seed seeds after-row bares reaches after-reaches
+unfolding sequencing-of minimum-of maximum-of finish-maximum-of ticks-said least-with least-at link-constraints constraints leads-into follows-nothing loose-steps completed links-of delay-at is-open sequencing-edge finish-edge edge-of edges forwards late-into usable extend raise round rounds stable source-row seed seeds after-row bares reaches after-reaches
 every-links = tt
 
 unfoldable every-plan : Unit {0}
@@ -38,7 +39,7 @@ unfolding in-anchor-set waits-for waits-of wait-list wait-count needs-waits seri
 every-plan = tt
 
 unfoldable every-answers : Unit {0}
-unfolding closes-circle infeasible inconsistent unserializable judge-edges edges-of serialized-of judge-records written too-short starts-verdict starts-read starts-answer plan-verdict plan-read planned bad-count
+unfolding closes-circle infeasible inconsistent unserializable judge-edges edges-of serialized-of judge-records written too-short starts-verdict starts-read starts-answer plan-verdict plan-read planned open-map beginning steps-read steps-answer bad-count
 every-answers = tt
 
 unfoldable every-text : Unit {0}
@@ -46,7 +47,7 @@ unfolding lines-of start-lines list-records listed digits decimal field wait-tex
 every-text = tt
 
 unfoldable every-runner : Unit {0}
-unfolding entry names due ready starting start-ticks sweep begun not-running fresh with-source begin ticked tick cannot-finish ended finish state-after
+unfolding entry names due ready starting start-ticks sweep begun not-running kept-leasts fresh with-source begin ticked tick cannot-finish too-early ended finish state-after
 every-runner = tt
 
 unfoldable pub every-definition : Unit {0}
@@ -203,7 +204,40 @@ late-return-alone = 0x03 ∷ 0x01 ∷ 0x00 ∷ 0x01 ∷ 0x01 ∷ 0x02 ∷ 0x03 �
 abbrev pub minimum-alone : List ℕ
 minimum-alone = 0x03 ∷ 0x01 ∷ 0x00 ∷ 0x01 ∷ 0x01 ∷ 0x00 ∷ 0x02 ∷ 0x01 ∷ 0x02 ∷ 0x03 ∷ 0x00 ∷ []
 
--- The marked sheets, in document 01's order; then ours: a chain of returns, and the first fault met in sheets that have more than one, or that are cut; then those of request L11, of L1 and of L3.
+-- Request L6. No hand places a folio in under l ticks: open 1 with the least l after 0; 2 after 1.
+abbrev pub slow-hand : ℕ → List ℕ
+slow-hand l = 0x03 ∷ 0x02 ∷ 0x00 ∷ 0x01 ∷ 0x05 ∷ l ∷ 0x00 ∷ 0x00 ∷ 0x01 ∷ 0x00 ∷ 0x01 ∷ 0x01 ∷ 0x01 ∷ 0x02 ∷ []
+
+-- Two slow hands, one after the other: open 1 with the least 8 after 0, open 2 with the least 258 after 1, 3 after 2 with the gap 4, and at least 256 + m on (1, 3):
+-- step 0 decides 3 where that is above the sum of both leasts and the gap.
+abbrev pub slow-hands : ℕ → List ℕ
+slow-hands m = 0x04 ∷ 0x04 ∷ 0x00 ∷ 0x01 ∷ 0x05 ∷ 0x08 ∷ 0x00 ∷ 0x05 ∷ 0x02 ∷ 0x01 ∷ 0x00 ∷ 0x01 ∷ 0x00 ∷ 0x01 ∷ 0x01 ∷ 0x01 ∷ 0x02 ∷ 0x02 ∷ 0x01 ∷ 0x03 ∷ m ∷ 0x01 ∷ 0x09 ∷ 0x02 ∷ 0x03 ∷ 0x04 ∷ 0x00 ∷ []
+
+-- Open 1 with the least l after 0; 2 after 1 and at least 10 on (1, 2): from the least 10 on step 0 no longer decides 2.
+abbrev pub from-start-slow : ℕ → List ℕ
+from-start-slow l = 0x03 ∷ 0x02 ∷ 0x00 ∷ 0x01 ∷ 0x05 ∷ l ∷ 0x00 ∷ 0x00 ∷ 0x01 ∷ 0x00 ∷ 0x01 ∷ 0x03 ∷ 0x01 ∷ 0x02 ∷ 0x0a ∷ 0x00 ∷ []
+
+-- Open 1 with the least l after 0, 2 after 1, at most 9 on (1, 2): 11 while the least is within the limit, 10 above it.
+abbrev pub own-end-slow : ℕ → List ℕ
+own-end-slow l = 0x03 ∷ 0x02 ∷ 0x00 ∷ 0x01 ∷ 0x05 ∷ l ∷ 0x00 ∷ 0x00 ∷ 0x01 ∷ 0x00 ∷ 0x01 ∷ 0x05 ∷ 0x01 ∷ 0x02 ∷ 0x09 ∷ 0x00 ∷ []
+
+-- Open 1 with the least l after 0; at least 10 on (0, 2); 2 after 1, at most 4 from the finish of 1: the hand is held back until 10 less 4 less its least.
+abbrev pub held-back-slow : ℕ → List ℕ
+held-back-slow l = 0x03 ∷ 0x03 ∷ 0x00 ∷ 0x01 ∷ 0x05 ∷ l ∷ 0x00 ∷ 0x00 ∷ 0x01 ∷ 0x00 ∷ 0x01 ∷ 0x02 ∷ 0x00 ∷ 0x02 ∷ 0x0a ∷ 0x00 ∷ 0x11 ∷ 0x01 ∷ 0x02 ∷ 0x04 ∷ 0x00 ∷ []
+
+-- The sheet that is too late, where 1 has the least l: the wait of 2 for 1 weighs it, and so does the late return into 1, so that it is 28 whatever the least.
+abbrev pub too-late-slow : ℕ → List ℕ
+too-late-slow l = 0x05 ∷ 0x06 ∷ 0x00 ∷ 0x01 ∷ 0x05 ∷ l ∷ 0x00 ∷ 0x00 ∷ 0x00 ∷ 0x00 ∷ 0x01 ∷ 0x00 ∷ 0x01 ∷ 0x01 ∷ 0x00 ∷ 0x02 ∷ 0x11 ∷ 0x01 ∷ 0x03 ∷ 0x05 ∷ 0x00 ∷ 0x01 ∷ 0x01 ∷ 0x04 ∷ 0x02 ∷ 0x02 ∷ 0x03 ∷ 0x0a ∷ 0x00 ∷ 0x04 ∷ 0x02 ∷ 0x04 ∷ 0x07 ∷ 0x00 ∷ []
+
+-- Open 1 and open 6 with the least l; 3 after 1, at most 5 from the finish of 1; 4 after 1, at most 7 on (2, 4), so that 2 waits for 1; at least 10 on (2, 5);
+-- at least 3 on (6, 3); 5 after 6, at most 2 from the finish of 6. With the wait in, 3 starts at least 11 less l ticks after the end of 1: 28 below the least 6.
+abbrev pub late-by-least : ℕ → List ℕ
+late-by-least l =
+    0x07 ∷ 0x06 ∷ 0x00 ∷ 0x01 ∷ 0x01 ∷ 0x00 ∷ 0x00 ∷ 0x00 ∷ 0x00 ∷ 0x05 ∷ l ∷ 0x00 ∷
+    0x11 ∷ 0x01 ∷ 0x03 ∷ 0x05 ∷ 0x00 ∷ 0x01 ∷ 0x01 ∷ 0x04 ∷ 0x04 ∷ 0x02 ∷ 0x04 ∷ 0x07 ∷ 0x00 ∷ 0x02 ∷ 0x02 ∷ 0x05 ∷ 0x0a ∷ 0x00 ∷
+    0x02 ∷ 0x06 ∷ 0x03 ∷ 0x03 ∷ 0x00 ∷ 0x11 ∷ 0x06 ∷ 0x05 ∷ 0x02 ∷ 0x00 ∷ []
+
+-- The marked sheets, in document 01's order; then ours: a chain of returns, and the first fault met in sheets that have more than one, or that are cut; then those of request L11, of L1, of L3 and of L6.
 unfoldable pub worked-sheets : List Worked
 worked-sheets =
     record { bytes = smallest; question = listing true; expected = accepted 0 [] (line 0 0 0 ∷ []) } ∷
@@ -275,6 +309,28 @@ worked-sheets =
     record { bytes = return-alone; question = listing false; expected = accepted 0 [] (line 0 0 0 ∷ line 1 0 5 ∷ line 2 0 10 ∷ []) } ∷
     record { bytes = late-return-alone; question = listing false; expected = accepted 0 [] (line 0 0 0 ∷ line 1 0 0 ∷ line 2 1 0 ∷ []) } ∷
     record { bytes = minimum-alone; question = listing false; expected = accepted 0 [] (line 0 0 0 ∷ line 1 0 0 ∷ line 2 0 3 ∷ []) } ∷
+    record { bytes = slow-hand 8; question = listing false; expected = accepted 0 [] (line 0 0 0 ∷ line 1 0 0 ∷ line 2 1 0 ∷ []) } ∷
+    record { bytes = slow-hand 8; question = times-for (0 ∷ 8 ∷ 0 ∷ []); expected = started (0 ∷ 0 ∷ 8 ∷ []) } ∷
+    record { bytes = slow-hand 8; question = times-for (0 ∷ 7 ∷ 0 ∷ []); expected = starts (record { verdict = refused 13; numbers = 0 ∷ 7 ∷ 0 ∷ [] }) } ∷
+    record { bytes = slow-hand 0; question = times-for (0 ∷ 0 ∷ 0 ∷ []); expected = started (0 ∷ 0 ∷ 0 ∷ []) } ∷
+    record { bytes = slow-hands 14; question = listing false; expected = accepted 0 [] (line 0 0 0 ∷ line 1 0 0 ∷ line 2 1 0 ∷ line 3 2 4 ∷ []) } ∷
+    record { bytes = slow-hands 15; question = listing false; expected = accepted 0 [] (line 0 0 0 ∷ line 1 0 0 ∷ line 2 1 0 ∷ line 3 0 271 ∷ line 3 2 4 ∷ []) } ∷
+    record { bytes = from-start-slow 9; question = listing false; expected = accepted 0 [] (line 0 0 0 ∷ line 1 0 0 ∷ line 2 0 10 ∷ line 2 1 0 ∷ []) } ∷
+    record { bytes = from-start-slow 10; question = listing false; expected = accepted 0 [] (line 0 0 0 ∷ line 1 0 0 ∷ line 2 1 0 ∷ []) } ∷
+    record { bytes = own-end-slow 9; question = listing true; expected = refuses 11 } ∷
+    record { bytes = own-end-slow 10; question = listing true; expected = refuses 10 } ∷
+    record { bytes = held-back-slow 5; question = listing false; expected = accepted 0 [] (line 0 0 0 ∷ line 1 0 1 ∷ line 2 0 10 ∷ line 2 1 0 ∷ []) } ∷
+    record { bytes = held-back-slow 5; question = times-for (0 ∷ 11 ∷ 0 ∷ []); expected = started (0 ∷ 1 ∷ 12 ∷ []) } ∷
+    record { bytes = too-late-slow 6; question = listing true; expected = refuses 28 } ∷
+    record { bytes = late-by-least 5; question = listing true; expected = refuses 28 } ∷
+    record { bytes = late-by-least 6; question = listing true; expected = accepted 1 (wait-pair 1 2 ∷ wait-pair 1 6 ∷ []) (line 0 0 0 ∷ line 1 0 0 ∷ line 2 1 0 ∷ line 3 1 5 ∷ line 4 1 0 ∷ line 5 1 10 ∷ line 5 6 0 ∷ line 6 1 2 ∷ []) } ∷
+    faulty (0x01 ∷ 0x00 ∷ 0x00 ∷ 0x05 ∷ 0x01 ∷ 0x00 ∷ []) 4 ∷
+    faulty (0x01 ∷ 0x00 ∷ 0x00 ∷ 0x07 ∷ 0x01 ∷ 0x00 ∷ []) 4 ∷
+    faulty (0x02 ∷ 0x00 ∷ 0x00 ∷ 0x01 ∷ 0x04 ∷ 0x01 ∷ 0x00 ∷ []) 4 ∷
+    faulty (0x02 ∷ 0x00 ∷ 0x00 ∷ 0x01 ∷ 0x06 ∷ 0x01 ∷ 0x00 ∷ 0x01 ∷ 0x00 ∷ []) 4 ∷
+    faulty (0x02 ∷ 0x00 ∷ 0x00 ∷ 0x01 ∷ 0x07 ∷ 0x01 ∷ 0x00 ∷ []) 4 ∷
+    faulty (0x02 ∷ 0x00 ∷ 0x00 ∷ 0x01 ∷ 0x0d ∷ []) 4 ∷
+    faulty (0x02 ∷ 0x00 ∷ 0x00 ∷ 0x01 ∷ 0x05 ∷ 0x01 ∷ []) 1 ∷
     []
 
 -- Request L3: the steps of these sheets that follow nothing.
@@ -321,20 +377,61 @@ pub stand-printed : standplan (stand 2) ≡ stand-text
 unfolding every-definition
 stand-printed = refl
 
--- The run of the stand sheet: Begin gives 7; Finish 2 gives 0; ticks give 8, 0, 16. A second Finish 2 is refused 17.
+-- What the calls of a run answer, one after the other, each lent the same table and least durations: the map, or the refusal.
 unfoldable pub map-or-refusal : Outcome Progress → Outcome ℕ
 map-or-refusal o = when-given o (λ g. given (g .map))
 
-unfoldable pub run : State → List ℕ → List Call → List (Outcome ℕ)
-run st table [] = []
-run st table (c ∷ cs) = map-or-refusal (called st table c) ∷ run (state-after st (called st table c)) table cs
+unfoldable pub run : State → List ℕ → List ℕ → List Call → List (Outcome ℕ)
+run st table leasts [] = []
+run st table leasts (c ∷ cs) = map-or-refusal (called st table leasts c) ∷ run (state-after st (called st table leasts c)) table leasts cs
 
 abbrev pub idle : State
-idle = record { n = 0; unbounded = 0; tick = 0; started = 0; finished = 0; start = replicate most-steps 0; finish = replicate most-steps 0 }
+idle = record { n = 0; unbounded = 0; tick = 0; started = 0; finished = 0; start = replicate most-steps 0; finish = replicate most-steps 0; least = replicate most-steps 0 }
 
+-- The run of the stand sheet: Begin gives 7; Finish 2 gives 0; ticks give 8, 0, 16. A second Finish 2 is refused 17. No step has a least duration.
 unfoldable pub stand-table : List ℕ
 stand-table = planned (stand 2) true (replicate 25 0) .numbers
 
-pub stand-run : run idle stand-table (Begin 5 4 ∷ Finish 2 ∷ Tick ∷ Tick ∷ Tick ∷ Finish 2 ∷ []) ≡ given 7 ∷ given 0 ∷ given 8 ∷ given 0 ∷ given 16 ∷ refused 17 ∷ []
+pub stand-run : run idle stand-table (replicate 5 0) (Begin 5 4 ∷ Finish 2 ∷ Tick ∷ Tick ∷ Tick ∷ Finish 2 ∷ []) ≡ given 7 ∷ given 0 ∷ given 8 ∷ given 0 ∷ given 16 ∷ refused 17 ∷ []
 unfolding every-definition called map-or-refusal run stand-table
 stand-run = refl
+
+-- Request L6. "No hand places a folio in under eight ticks": the plan of open 1 after 0 and open 2 after 1, with the least durations 8 and 3.
+abbrev pub folio-table : List ℕ
+folio-table = 0 ∷ undecided ∷ undecided ∷ 0 ∷ undecided ∷ undecided ∷ undecided ∷ 0 ∷ undecided ∷ []
+
+abbrev pub folio-leasts : List ℕ
+folio-leasts = 0 ∷ 8 ∷ 3 ∷ []
+
+-- Hand 2 has not started at tick 0, which is 17 and not 20. Hand 1 is too early at tick 7, 20, and done at tick 8; a second time that is 17. Hand 2 starts at tick 8, so it is too early at tick
+-- 10 and done at tick 11.
+pub folio-run : run idle folio-table folio-leasts (Begin 3 6 ∷ Finish 2 ∷ Tick ∷ Tick ∷ Tick ∷ Tick ∷ Tick ∷ Tick ∷ Tick ∷ Finish 1 ∷ Tick ∷ Finish 1 ∷ Finish 1 ∷ Tick ∷ Tick ∷ Finish 2 ∷ Tick ∷ Finish 2 ∷ [])
+    ≡ given 3 ∷ refused 17 ∷ given 0 ∷ given 0 ∷ given 0 ∷ given 0 ∷ given 0 ∷ given 0 ∷ given 0 ∷ refused 20 ∷ given 0 ∷ given 4 ∷ refused 17 ∷ given 0 ∷ given 0 ∷ refused 20 ∷ given 0 ∷ given 0 ∷ []
+unfolding every-definition called map-or-refusal run
+folio-run = refl
+
+-- With no least duration both hands are done at once; a list of two numbers is too short for three steps, 14, and so is a table of eight.
+pub folio-at-once : run idle folio-table (0 ∷ 0 ∷ 0 ∷ []) (Begin 3 6 ∷ Finish 1 ∷ Finish 2 ∷ []) ≡ given 3 ∷ given 4 ∷ given 0 ∷ []
+unfolding every-definition called map-or-refusal run
+folio-at-once = refl
+
+pub short-leasts : begin idle 3 6 (0 ∷ 8 ∷ []) folio-table ≡ refused 14
+unfolding every-definition
+short-leasts = refl
+
+pub short-table : begin idle 3 6 folio-leasts (replicate 8 0) ≡ refused 14
+unfolding every-definition
+short-table = refl
+
+-- What a run of the slow hand's sheet is begun with, where a number more than needed is lent; 14 where two are; and the stand sheet with the limit 1, which judging refuses 10, is answered too.
+pub slow-hand-steps : steps-answer (slow-hand 8) (9 ∷ 9 ∷ 9 ∷ 9 ∷ []) ≡ given (record { n = 3; unbounded = 3; leasts = 0 ∷ 8 ∷ 0 ∷ 9 ∷ [] })
+unfolding every-definition
+slow-hand-steps = refl
+
+pub slow-hand-short : steps-answer (slow-hand 8) (9 ∷ 9 ∷ []) ≡ refused 14
+unfolding every-definition
+slow-hand-short = refl
+
+pub refused-stand-steps : steps-answer (stand 1) (replicate 5 9) ≡ given (record { n = 5; unbounded = 5; leasts = replicate 5 0 })
+unfolding every-definition
+refused-stand-steps = refl

@@ -20,19 +20,20 @@ pub enum Delay {
     Fixed(u16),
 }
 
-// A step.
-pub struct Operation {
-    pub delay: Delay,
-}
-
-// ---- What a link record says. No code holds these three: the reader turns each record into edges as its fields are read (DECISIONS 15). The definitions are written with them (specs/Bytes.antt, specs/Links.antt),
-// and the sheet writer of request L4 will take its records as `Link`, with `Bound`.
-
-// A number of ticks that a link record has or not: a field whose bit stands.
+// A number of ticks that a record has or not: a field whose bit stands.
 pub enum Bound {
     Absent,
     Ticks(u16),
 }
+
+// A step, and its least duration where it has one (request L6).
+pub struct Operation {
+    pub delay: Delay,
+    pub least: Bound,
+}
+
+// ---- What a link record says. No code holds these two: the reader turns each record into edges as its fields are read (DECISIONS 15). The definitions are written with them (specs/Bytes.antt, specs/Links.antt),
+// and the sheet writer of request L4 will take its records as `Link`.
 
 // A link record for the pair (from, to): after, at least, at most, the gap of the after link, and at most from the finish.
 pub struct Link {
@@ -53,7 +54,7 @@ pub enum Previous {
 
 // ---- What the calls answer.
 
-// The refusals 1 to 18, in their order, but for 9, which is never given since request L3; then those of later requests, 26 and 28.
+// The refusals 1 to 18, in their order, but for 9, which is never given since request L3; then those of later requests, 20, 26 and 28.
 pub enum Refusal {
     Truncated,
     OperationCount,
@@ -72,6 +73,7 @@ pub enum Refusal {
     AlreadyBegun,
     CannotFinish,
     ClockEnd,
+    TooEarly,
     Unsequenced,
     Unserializable,
 }
@@ -89,7 +91,7 @@ pub enum Reading {
     Refused(Refusal),
 }
 
-// The dispatcher's state (the runner's).
+// The dispatcher's state (the runner's); last in it the least durations that the run was begun with (request L6).
 pub struct State {
     pub n: usize,
     pub unbounded: u64,
@@ -98,6 +100,7 @@ pub struct State {
     pub finished: u64,
     pub start: [u32; 64],
     pub finish: [u32; 64],
+    pub least: [u16; 64],
 }
 
 // Whether a call went through.
@@ -113,7 +116,8 @@ pub struct WaitMaps {
     pub count: u32,
 }
 
-// A call of the runner: a run of so many steps, with the map of those that are open, begins; the tick grows; a step finishes.
+// A call of the runner: a run of so many steps, with the map of those that are open, begins; the tick grows; a step finishes. An enum holds no array: the least durations that a run begins with
+// stand beside it.
 pub enum Call {
     Begin(usize, u64),
     Tick,

@@ -11,14 +11,14 @@ use Rattle.definitions.specs.Basics.{Outcome, given, refused, refuse-if, when-g
 use Rattle.definitions.specs.Bytes.{Records}
 use Rattle.definitions.specs.Rounds.{cell}
 use Rattle.definitions.specs.Plan.{start-times, plan-table, delays-wrong, delays}
-use Rattle.definitions.specs.Answers.{count-of, edges-of, serialized-of, judge-records, judged, Waits, no-waits, waits-when, waits-read, waits-answer, too-short, written, plan-verdict, plan-read, planned, starts-verdict, starts-read, starts-answer}
+use Rattle.definitions.specs.Answers.{count-of, edges-of, serialized-of, judge-records, judged, Waits, no-waits, waits-when, waits-read, waits-answer, too-short, written, plan-verdict, plan-read, planned, starts-verdict, starts-read, starts-answer, leasts-of, steps-read, steps-answer}
 use Rattle.laws.proofs.Bools.{or-neither, or-split, or-left, or-right}
 use Rattle.definitions.specs.Waits.{wait-maps, wait-count}
 use Rattle.laws.proofs.Negations.{passes-unless}
 use Rattle.laws.proofs.Outcomes.{given-not-refused, refuse-own, refuse-other, refuse-given, refuse-never, when-given-by, when-given-has, when-given-refused}
 use Rattle.theory.proofs.PlanTables.{plan-table-length}
 use Rattle.theory.proofs.StartTimes.{start-times-length}
-use Rattle.demands.specs.Demands.{IsSheet, WithinLimits, WaitsCall, PlanCall, StartsCall, CallsFor, ReturnedFor}
+use Rattle.demands.specs.Demands.{IsSheet, WithinLimits, WaitsCall, PlanCall, StartsCall, StepsExactly, CallsFor, ReturnedFor}
 use Rattle.demands.proofs.Reading.{fits-of}
 use Rattle.demands.proofs.Judging.{judge-never-past}
 use Rattle.demands.proofs.DelayLists.{limits-meant}
@@ -39,7 +39,7 @@ module _ (s : List ℕ) (allow : Bool) (q : Records) (sheet : IsSheet s q) where
 
   never-past : {k : ℕ} → 12 < k → 28 ≢ k → judge-records q allow ≢ refused k
   unfolding judge-records
-  never-past = judge-never-past (count-of q) (edges-of q) allow
+  never-past = judge-never-past (count-of q) (leasts-of q) (edges-of q) allow
 
   -- A call that goes on after acceptance, refused with a number that judging does not give, or accepted.
   past : (f : ℕ → Outcome ℕ) (k : ℕ) → 12 < k → 28 ≢ k → (when-given (judge-records q allow) f ≡ refused k) ↔ ((v : ℕ) × (judged s allow ≡ given v) × (f v ≡ refused k))
@@ -64,7 +64,7 @@ module _ (s : List ℕ) (allow : Bool) (q : Records) (sheet : IsSheet s q) where
     unfolding planned plan-read plan-verdict
     plan-is = ap (λ (o : Outcome Records). plan-read o allow table .verdict) (sheet .reads)
 
-    plan-numbers : planned s allow table .numbers ≡ written (planned s allow table .verdict) (plan-table (count-of q) (serialized-of q)) table
+    plan-numbers : planned s allow table .numbers ≡ written (planned s allow table .verdict) (plan-table (count-of q) (leasts-of q) (serialized-of q)) table
     unfolding planned plan-read
     plan-numbers = rw (sheet .reads)
 
@@ -79,8 +79,8 @@ module _ (s : List ℕ) (allow : Bool) (q : Records) (sheet : IsSheet s q) where
         λ h. let a = answered after-plan v .0 (sym plan-is ∙ h) in let b = refuse-given short 14 (given (a .0)) v .0 (a .2) in (a .1 ∙ b .1, long-iff table (count-of q * count-of q) .0 (b .0)),
         λ x. plan-is ∙ answered after-plan v .1 (v, x .0, refuse-given short 14 (given v) v .1 (long-iff table (count-of q * count-of q) .1 (x .1), refl)),
       );
-      numbers = λ v h. plan-numbers ∙ ap (λ (o : Outcome ℕ). written o (plan-table (count-of q) (serialized-of q)) table) h ∙ ap (λ (k : ℕ). plan-table (count-of q) (serialized-of q) ++ drop k table) (plan-table-length (count-of q) (serialized-of q));
-      untouched = λ k h. plan-numbers ∙ ap (λ (o : Outcome ℕ). written o (plan-table (count-of q) (serialized-of q)) table) h;
+      numbers = λ v h. plan-numbers ∙ ap (λ (o : Outcome ℕ). written o (plan-table (count-of q) (leasts-of q) (serialized-of q)) table) h ∙ ap (λ (k : ℕ). plan-table (count-of q) (leasts-of q) (serialized-of q) ++ drop k table) (plan-table-length (count-of q) (leasts-of q) (serialized-of q));
+      untouched = λ k h. plan-numbers ∙ ap (λ (o : Outcome ℕ). written o (plan-table (count-of q) (leasts-of q) (serialized-of q)) table) h;
     }
 
   module _ (list out : List ℕ) where
@@ -119,7 +119,7 @@ module _ (s : List ℕ) (allow : Bool) (q : Records) (sheet : IsSheet s q) where
     unfolding starts-answer starts-read starts-verdict
     starts-are = ap (λ (o : Outcome Records). starts-read o allow list out .verdict) (sheet .reads)
 
-    starts-numbers : starts-answer s allow list out .numbers ≡ written (starts-answer s allow list out .verdict) (start-times (count-of q) (serialized-of q) (delays list)) out
+    starts-numbers : starts-answer s allow list out .numbers ≡ written (starts-answer s allow list out .verdict) (start-times (count-of q) (leasts-of q) (serialized-of q) (delays list)) out
     unfolding starts-answer starts-read
     starts-numbers = rw (sheet .reads)
 
@@ -153,8 +153,8 @@ module _ (s : List ℕ) (allow : Bool) (q : Records) (sheet : IsSheet s q) where
         λ h. let a = answered after-starts v .0 (sym starts-are ∙ h) in let b = worked-out (a .0) v .0 (a .2) in let e = enough-iff .0 (b .1) in (a .1 ∙ b .2, right-iff .0 (b .0), e .0, e .1),
         λ x. starts-are ∙ answered after-starts v .1 (v, x .0, worked-out v v .1 (right-iff .1 (x .1), enough-iff .1 (x .2, x .3), refl)),
       );
-      numbers = λ v h. starts-numbers ∙ ap (λ (o : Outcome ℕ). written o (start-times (count-of q) (serialized-of q) (delays list)) out) h ∙ ap (λ (k : ℕ). start-times (count-of q) (serialized-of q) (delays list) ++ drop k out) (start-times-length (count-of q) (serialized-of q) (delays list));
-      untouched = λ k h. starts-numbers ∙ ap (λ (o : Outcome ℕ). written o (start-times (count-of q) (serialized-of q) (delays list)) out) h;
+      numbers = λ v h. starts-numbers ∙ ap (λ (o : Outcome ℕ). written o (start-times (count-of q) (leasts-of q) (serialized-of q) (delays list)) out) h ∙ ap (λ (k : ℕ). start-times (count-of q) (leasts-of q) (serialized-of q) (delays list) ++ drop k out) (start-times-length (count-of q) (leasts-of q) (serialized-of q) (delays list));
+      untouched = λ k h. starts-numbers ∙ ap (λ (o : Outcome ℕ). written o (start-times (count-of q) (leasts-of q) (serialized-of q) (delays list)) out) h;
     }
 
 -- Listing waits.
@@ -199,5 +199,14 @@ pub returned : (s : List ℕ) (allow : Bool) (q : Records) (v : ℕ) (list out :
 returned s allow q v list out sheet h =
     let C = starts-call s allow q sheet list out in
     let a = C .accepted v .0 h in
-    let times = start-times (count-of q) (serialized-of q) (delays list) in
-    record { accepted = record { sheet = sheet; accepts = a .0 }; source = a .1 .source; numbers = λ i b. ap (λ (l : List ℕ). cell l i) (C .numbers v h) ∙ List·getD-append times (drop (count-of q) out) 0 i (omega (arith, start-times-length (count-of q) (serialized-of q) (delays list))) }
+    let times = start-times (count-of q) (leasts-of q) (serialized-of q) (delays list) in
+    record { accepted = record { sheet = sheet; accepts = a .0 }; source = a .1 .source; numbers = λ i b. ap (λ (l : List ℕ). cell l i) (C .numbers v h) ∙ List·getD-append times (drop (count-of q) out) 0 i (omega (arith, start-times-length (count-of q) (leasts-of q) (serialized-of q) (delays list))) }
+
+-- What a run is begun with: by the answer of reading, and then by the test for 14.
+pub steps-by : StepsExactly
+unfolding steps-answer steps-read when-given too-short refuse-if
+steps-by = record {
+  unread = λ s lent k e. rw e refl;
+  short = λ s lent q e b. rw (e, lt-ltb (length lent) (count-of q) b) refl;
+  enough = λ s lent q e b. rw (e, le-ltb (length lent) (count-of q) b) refl;
+}

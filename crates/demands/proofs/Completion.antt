@@ -9,10 +9,10 @@ use lib.Dec.{eqb}
 use borrow.Author.Tests.{eq-eqb, ne-eqb, not-true}
 use Rattle.definitions.specs.Basics.{any, refused, refuse-if}
 use Rattle.definitions.specs.Bytes.{Records}
-use Rattle.definitions.specs.Links.{Constraint, sequencing, minimum, maximum, finish-maximum, constraints, leads-into, follows-nothing, source-link, loose-steps, completed, links-of, delay-at, duration-with, duration}
+use Rattle.definitions.specs.Links.{Constraint, sequencing, minimum, maximum, finish-maximum, constraints, leads-into, follows-nothing, source-link, loose-steps, completed, links-of, delay-at, duration-with, duration, least-at}
 use Rattle.definitions.specs.Links.{Keeps, KeepsAll, Edge, step, sequencing-edge, finish-edge, edge-of, edges, members, forwards}
 use Rattle.definitions.specs.Rounds.{reaches}
-use Rattle.definitions.specs.Answers.{closes-circle, judge-edges, judged, count-of, edges-of}
+use Rattle.definitions.specs.Answers.{closes-circle, judge-edges, judged, count-of, edges-of, leasts-of}
 use Rattle.definitions.specs.declared.Delay.{Delay}
 use Rattle.definitions.specs.declared.Delay.the-variants.{Open, Fixed}
 use Rattle.definitions.specs.declared.Operation.{Operation}
@@ -62,7 +62,7 @@ into-source s allow q sheet x = go (bool-cases (closes-circle (count-of q) (edge
     fits = fits-of sheet
 
     go : (closes-circle (count-of q) (edges-of q) ≡ true) ⊎ (closes-circle (count-of q) (edges-of q) ≡ false) → judged s allow ≡ refused 8
-    go (inl h) = judged-edges s (sheet .reads) allow ∙ judge-8 (count-of q) (edges-of q) allow .1 h
+    go (inl h) = judged-edges s (sheet .reads) allow ∙ judge-8 (count-of q) (leasts-of q) (edges-of q) allow .1 h
     go (inr h) =
         let J = acyclic-rooted (fits .some) (sheet-shape fits) (sheet-entered fits) h (x .edge .from) (sheet-shape fits .from-below (x .edge) (x .mem)) in
         absurd (not-8 (fits .some) (sheet-shape fits) h 0 (J .k) _ _ (step (J .walk) (x .edge) (x .mem, x .forward) refl (x .enters) refl refl refl))
@@ -74,14 +74,14 @@ forward-leads : (os : List Operation) (v : ℕ) (c : Constraint) → edge-of os 
 unfolding edge-of leads-into sequencing-edge finish-edge
 forward-leads os v (sequencing i j g) h e = go (delay-at os i) e
   where
-    go : (d : Delay) → sequencing-edge d i j g .to ≡ v → eqb j v ≡ true
+    go : (d : Delay) → sequencing-edge d (least-at os i) i j g .to ≡ v → eqb j v ≡ true
     go (Fixed x) e = eq-eqb j v e
     go Open e = eq-eqb j v e
 forward-leads os v (minimum i j m) h e = eq-eqb j v e
 forward-leads os v (maximum i j u) h e = absurd (both-ways refl h)
 forward-leads os v (finish-maximum i j u) h e = go (delay-at os i) h
   where
-    go : (d : Delay) → finish-edge d i j u .back ≡ false → false ≡ true
+    go : (d : Delay) → finish-edge d (least-at os i) i j u .back ≡ false → false ≡ true
     go (Fixed x) h = absurd (both-ways refl h)
     go Open h = absurd (both-ways refl h)
 
@@ -119,11 +119,11 @@ module _ {q : Records} (fits : Fits q) (entered : AllEntered q) where
       reached : (v : ℕ) → v < count-of q → reaches (count-of q) (forwards (sent-edges q)) 0 v ≡ true
       reached = all-below-each (reaches (count-of q) (forwards (sent-edges q)) 0) (count-of q) (rooted-iff (fits .some) shape .1 (acyclic-rooted (fits .some) shape entered h))
 
-  same-judgement : (allow : Bool) → judge-edges (count-of q) (edges-of q) allow ≡ judge-with-9 (count-of q) (sent-edges q) allow
+  same-judgement : (allow : Bool) → judge-edges (count-of q) (leasts-of q) (edges-of q) allow ≡ judge-with-9 (count-of q) (leasts-of q) (sent-edges q) allow
   unfolding judge-edges judge-with-9 refuse-if
   same-judgement allow = rw same-edges (go (bool-cases (closes-circle (count-of q) (sent-edges q))))
     where
-      go : (closes-circle (count-of q) (sent-edges q) ≡ true) ⊎ (closes-circle (count-of q) (sent-edges q) ≡ false) → judge-edges (count-of q) (sent-edges q) allow ≡ judge-with-9 (count-of q) (sent-edges q) allow
+      go : (closes-circle (count-of q) (sent-edges q) ≡ true) ⊎ (closes-circle (count-of q) (sent-edges q) ≡ false) → judge-edges (count-of q) (leasts-of q) (sent-edges q) allow ≡ judge-with-9 (count-of q) (leasts-of q) (sent-edges q) allow
       go (inl h) = rw h
       go (inr h) = rw (h, all-reached h)
 

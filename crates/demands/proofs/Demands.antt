@@ -1,7 +1,7 @@
 -- The theorems: one for each statement of specs/Demands.antt, in its order.
 use mathlib.Core.Path.{refl}
-use Rattle.demands.specs.Demands.{EdgesMeant, ListsMeant, ImpossibleExactly, ReadExactly, WellFormedExactly, JudgedExactly, EachCallRefuses, StartsReturned, CallsExactly, StartsKept, NobodyEarlier, NobodyEarlierWithWaits, OursAmongRivals, NobodyEarlierWithoutForesight}
-use Rattle.demands.specs.Demands.{OursWithoutForesight, Refused28Exactly, NothingNew, PlansAsBefore, AddedLinksFree, IntoSourceCircle, EnteredAsBefore, TestsMeant, WaitsListed, WaitsSound, OffsetsRight, StartRule, DecidingSets, PlanTable, LinesListed, FrontDecides, HypothesesMet}
+use Rattle.demands.specs.Demands.{EdgesMeant, ListsMeant, ImpossibleExactly, ReadExactly, WellFormedExactly, JudgedExactly, EachCallRefuses, StartsReturned, CallsExactly, StepsExactly, StartsKept, NobodyEarlier, NobodyEarlierWithWaits, OursAmongRivals, NobodyEarlierWithoutForesight}
+use Rattle.demands.specs.Demands.{OursWithoutForesight, Refused28Exactly, NothingNew, PlansAsBefore, AddedLinksFree, IntoSourceCircle, EnteredAsBefore, LeastlessAsBefore, TestsMeant, WaitsListed, WaitsSound, OffsetsRight, StartRule, DecidingSets, PlanTable, LinesListed, FrontDecides, HypothesesMet}
 use Rattle.demands.proofs.Reading.{fits-of}
 use Rattle.demands.proofs.FirstBytes.{front-for}
 use Rattle.demands.proofs.Meaning.{meant-for}
@@ -10,12 +10,13 @@ use Rattle.demands.proofs.Calls.{same-refusal}
 use Rattle.demands.proofs.Impossibility.{keeps-sheet, impossible-for}
 use Rattle.demands.proofs.DelayLists.{limits-meant}
 use Rattle.demands.proofs.Refusals as Refusals
-use Rattle.demands.proofs.Answering.{calls-for, returned}
+use Rattle.demands.proofs.Answering.{calls-for, returned, steps-by}
 use Rattle.demands.proofs.Verdicts.{judged-for}
 use Rattle.demands.proofs.Foresight.{earliest-of-strategies, nothing-new-for, ours-dynamic, rivals-28}
 use Rattle.demands.proofs.OurStarts.{kept-for, ours-among, earliest, earliest-of-rivals}
 use Rattle.demands.proofs.Planning.{waits-for-sheet, offset-for, start-rule-for, deciding-for, plan-for}
 use Rattle.demands.proofs.Gapless.{as-before-all}
+use Rattle.demands.proofs.Leastless.{leastless-all}
 use Rattle.demands.proofs.Completion.{added-free, as-entered, into-source}
 use Rattle.demands.proofs.Examples.{examples}
 
@@ -59,6 +60,9 @@ starts-returned = returned
 -- From the row of refusals in each call.
 pub calls-exactly : CallsExactly
 calls-exactly = calls-for
+
+pub steps-exactly : StepsExactly
+steps-exactly = steps-by
 
 -- Offsets along an edge differ by at least its weight, and a sound graph carries each anchor along it, but for a late return into the anchor itself: it closes a walk, which is not above 0.
 pub starts-kept : StartsKept
@@ -113,6 +117,12 @@ into-source-circle = into-source
 -- No step passes the test for the link that is added; and where forward edges lead into every step and close no circle, each has a chain from step 0.
 pub entered-as-before : EnteredAsBefore
 entered-as-before = as-entered
+
+-- ## Request L6
+
+-- The parser before answers 4, or as the parser of now does, part by part; what it reads says no least, and a least of 0 adds nothing.
+pub leastless-as-before : LeastlessAsBefore
+leastless-as-before = leastless-all
 
 -- ## Demand 2
 

@@ -3,18 +3,18 @@ use mathlib.Core.Path.{_≡_, refl, sym, ap, subst, _∙_}
 use mathlib.Core.Bool.{Bool, true, false, not, false≢true}
 use mathlib.Core.Logic.{_⊎_, inl, inr, _≢_, _↔_}
 use mathlib.Core.List.{List, _++_, List·Memᴰ, List·Memᴰ·not-nil, List·Memᴰ·append-cases, List·Memᴰ·eq-of-singleton, Memᴰ·append-left, Memᴰ·append-right, Memᴰ·map, Memᴰ·of-map, map}
-use Prim.Native.Nat.{ℕ, zero, suc, _+_, _≤_, _<_}
+use Prim.Native.Nat.{ℕ, zero, suc, _+_, _-_, _≤_, _<_}
 use native.Mathlib.Omega.{arith}
 use lib.Dec.{eqb}
 use borrow.Author.Tests.{eq-eqb, eqb-true, ne-eqb}
 use Rattle.definitions.specs.Limits.{most-ticks, most-gain, most-first-gain, most-loss}
 use Rattle.definitions.specs.Basics.{any, select-below}
 use Rattle.definitions.specs.Bytes.{Records}
-use Rattle.definitions.specs.Links.{Constraint, sequencing, minimum, maximum, finish-maximum, sequencing-of, minimum-of, maximum-of, finish-maximum-of, gap-of, link-constraints, constraints, delay-at}
+use Rattle.definitions.specs.Links.{Constraint, sequencing, minimum, maximum, finish-maximum, sequencing-of, minimum-of, maximum-of, finish-maximum-of, ticks-said, link-constraints, constraints, delay-at, least-at, Respects}
 use Rattle.definitions.specs.Links.{leads-into, follows-nothing, source-link, loose-steps, completed, links-of}
 use Rattle.definitions.specs.Links.{duration-with, duration, Keeps, KeepsAll, Edge, sequencing-edge, finish-edge, edge-of, edges, members, _⊑_}
 use Rattle.definitions.specs.Rival.{Further, Extension, Lasts}
-use Rattle.definitions.specs.Answers.{count-of, edges-of}
+use Rattle.definitions.specs.Answers.{count-of, leasts-of, edges-of}
 use Rattle.definitions.specs.declared.Delay.{Delay}
 use Rattle.definitions.specs.declared.Delay.the-variants.{Open, Fixed}
 use Rattle.definitions.specs.declared.Operation.{Operation}
@@ -23,7 +23,8 @@ use Rattle.definitions.specs.declared.Bound.the-variants.{Absent, Ticks}
 use Rattle.definitions.specs.declared.Link.{Link}
 use Rattle.laws.proofs.Bools.{and-join, bool-cases, both-ways, same-or-not}
 use Rattle.laws.proofs.Tests.{any-has, flatMap-only, select-below-has, select-below-only}
-use Rattle.theory.specs.Graphs.{KeepsEdge, Schedule, Shape, Entered, Entry, FirstGains, Gains, Losses, Timely}
+use Rattle.theory.specs.Graphs.{KeepsEdge, Schedule, Shape, Entered, Entry, FirstGains, Gains, Leasts, Losses, Timely}
+use Rattle.theory.proofs.DelayLimits.{least-source}
 use Rattle.demands.specs.Demands.{NoLateLinks}
 use Rattle.demands.proofs.Reading.{Fits, LinkFits}
 
@@ -52,6 +53,7 @@ pub record EdgeFits (os : List Operation) (n : ℕ) (e : Edge) : Type 0 where
   pub forward-timely : e .back ≡ false → e .late ≡ false
   pub late-open : e .late ≡ true → delay-at os (e .to) ≡ Open
   pub late-not-source : e .late ≡ true → e .to ≢ 0
+  pub least-gained : e .counted ≡ true → least-at os (e .from) ≤ e .gain
 
 false-true : {A : Type 0} → false ≡ true → A
 false-true e = absurd (false≢true e)
@@ -72,9 +74,10 @@ plain-fits from to uncounted timely lossless = record {
   forward-timely = λ z. timely;
   late-open = λ z. absurd (both-ways z timely);
   late-not-source = λ z. absurd (both-ways z timely);
+  least-gained = λ z. absurd (both-ways z uncounted);
 }
 
-sequencing-fits : (os : List Operation) (n i j g : ℕ) (d : Delay) → delay-at os i ≡ d → i < n → j < n → EdgeFits os n (sequencing-edge d i j g)
+sequencing-fits : (os : List Operation) (n i j g : ℕ) (d : Delay) → delay-at os i ≡ d → i < n → j < n → EdgeFits os n (sequencing-edge d (least-at os i) i j g)
 unfolding sequencing-edge
 sequencing-fits os n i j g (Fixed x) h a b = plain-fits a b refl refl (λ z. refl)
 sequencing-fits os n i j g Open h a b = record {
@@ -87,9 +90,10 @@ sequencing-fits os n i j g Open h a b = record {
   forward-timely = λ z. refl;
   late-open = λ z. false-true z;
   late-not-source = λ z. false-true z;
+  least-gained = λ z. omega arith;
 }
 
-finish-fits : (os : List Operation) (n i j u : ℕ) (d : Delay) → delay-at os i ≡ d → i < n → j < n → EdgeFits os n (finish-edge d i j u)
+finish-fits : (os : List Operation) (n i j u : ℕ) (d : Delay) → delay-at os i ≡ d → i < n → j < n → EdgeFits os n (finish-edge d (least-at os i) i j u)
 unfolding finish-edge
 finish-fits os n i j u (Fixed x) h a b = plain-fits b a refl refl (λ z. false-true (sym z))
 finish-fits os n i j u Open h a b = record {
@@ -102,6 +106,7 @@ finish-fits os n i j u Open h a b = record {
   forward-timely = λ z. false-true (sym z);
   late-open = λ z. h;
   late-not-source = λ z e. false-true (sym (ap not (eq-eqb i 0 e)) ∙ z);
+  least-gained = λ z. false-true z;
 }
 
 edge-fits : (os : List Operation) (n : ℕ) (c : Constraint) → Ends n c → EdgeFits os n (edge-of os c)
@@ -136,7 +141,7 @@ edges-shape os n cs ends = record {
 }
 
 -- A link's edge is late where it counts from the finish of an open step other than 0, and nowhere else.
-finish-timely : (os : List Operation) (i j u : ℕ) (d : Delay) → delay-at os i ≡ d → ¬ Lasts os i → finish-edge d i j u .late ≡ false
+finish-timely : (os : List Operation) (i j u : ℕ) (d : Delay) → delay-at os i ≡ d → ¬ Lasts os i → finish-edge d (least-at os i) i j u .late ≡ false
 unfolding finish-edge
 finish-timely os i j u (Fixed x) h none = refl
 finish-timely os i j u Open h none = go (same-or-not i 0)
@@ -149,70 +154,75 @@ link-timely : (os : List Operation) (c : Constraint) → ((i j u : ℕ) → c �
 unfolding edge-of sequencing-edge
 link-timely os (sequencing i j g) none = sequencing-timely (delay-at os i)
   where
-    sequencing-timely : (d : Delay) → sequencing-edge d i j g .late ≡ false
+    sequencing-timely : (d : Delay) → sequencing-edge d (least-at os i) i j g .late ≡ false
     sequencing-timely (Fixed x) = refl
     sequencing-timely Open = refl
 link-timely os (minimum i j m) none = refl
 link-timely os (maximum i j u) none = refl
 link-timely os (finish-maximum i j u) none = finish-timely os i j u (delay-at os i) refl (none i j u refl)
 
--- Start times keep a link exactly if they keep its edge: the edge is counted, or late, just where the duration is the delay. By the kind of link and the delay of its first step.
-module _ (os : List Operation) (d t : ℕ → ℕ) where
-  sequencing-keeps : (i j g : ℕ) (x : Delay) → (t i + duration-with d i x + g ≤ t j) ↔ KeepsEdge d t (sequencing-edge x i j g)
+-- What steps last past their leasts.
+abbrev pub past : List Operation → (ℕ → ℕ) → ℕ → ℕ
+past os d i = d i - least-at os i
+
+-- Start times keep a link exactly if they keep its edge under the delays past the leasts: the edge is counted, or late, just where the duration is the delay, and gains or loses the least there. By the kind
+-- of link and the delay of its first step.
+module _ (os : List Operation) (d t : ℕ → ℕ) (respects : Respects os d) where
+  sequencing-keeps : (i j g : ℕ) (x : Delay) → (t i + duration-with d i x + g ≤ t j) ↔ KeepsEdge (past os d) t (sequencing-edge x (least-at os i) i j g)
   unfolding duration-with sequencing-edge
   sequencing-keeps i j g (Fixed x) = (λ h. omega arith, λ h. omega arith)
-  sequencing-keeps zero j g Open = (λ h. omega arith, λ h. omega arith)
+  sequencing-keeps zero j g Open = (λ h. omega (arith, least-source os), λ h. omega (arith, least-source os))
   sequencing-keeps (suc i) j g Open =
       let c : eqb (suc i) 0 ≡ false = ne-eqb (suc i) 0 (λ e. omega arith) in
-      rw c (λ h. omega arith, λ h. omega arith)
+      rw c (λ h. omega (arith, respects (suc i)), λ h. omega (arith, respects (suc i)))
 
-  finish-keeps : (i j u : ℕ) (x : Delay) → (t j ≤ t i + duration-with d i x + u) ↔ KeepsEdge d t (finish-edge x i j u)
+  finish-keeps : (i j u : ℕ) (x : Delay) → (t j ≤ t i + duration-with d i x + u) ↔ KeepsEdge (past os d) t (finish-edge x (least-at os i) i j u)
   unfolding duration-with finish-edge
   finish-keeps i j u (Fixed x) = (λ h. omega arith, λ h. omega arith)
-  finish-keeps zero j u Open = (λ h. omega arith, λ h. omega arith)
+  finish-keeps zero j u Open = (λ h. omega (arith, least-source os), λ h. omega (arith, least-source os))
   finish-keeps (suc i) j u Open =
       let c : eqb (suc i) 0 ≡ false = ne-eqb (suc i) 0 (λ e. omega arith) in
-      rw c (λ h. omega arith, λ h. omega arith)
+      rw c (λ h. omega (arith, respects (suc i)), λ h. omega (arith, respects (suc i)))
 
-  pub link-keeps : (c : Constraint) → Keeps os d t c ↔ KeepsEdge d t (edge-of os c)
+  pub link-keeps : (c : Constraint) → Keeps os d t c ↔ KeepsEdge (past os d) t (edge-of os c)
   unfolding edge-of duration
   link-keeps (sequencing i j g) = sequencing-keeps i j g (delay-at os i)
   link-keeps (minimum i j m) = (λ h. omega arith, λ h. omega arith)
   link-keeps (maximum i j u) = (λ h. omega arith, λ h. omega arith)
   link-keeps (finish-maximum i j u) = finish-keeps i j u (delay-at os i)
 
-  pub keeps-schedule : (cs : List Constraint) → KeepsAll os cs d t → Schedule (members (edges os cs)) d t
-  keeps-schedule cs K = record { starts = K .starts; keeps = λ e m. let r = edge-link os cs e m in subst (KeepsEdge d t) (r .2) (link-keeps (r .0) .0 (K .keeps (r .0) (r .1))) }
+  pub keeps-schedule : (cs : List Constraint) → KeepsAll os cs d t → Schedule (members (edges os cs)) (past os d) t
+  keeps-schedule cs K = record { starts = K .starts; keeps = λ e m. let r = edge-link os cs e m in subst (KeepsEdge (past os d) t) (r .2) (link-keeps (r .0) .0 (K .keeps (r .0) (r .1))) }
 
-  pub schedule-keeps : (cs : List Constraint) → Schedule (members (edges os cs)) d t → KeepsAll os cs d t
+  pub schedule-keeps : (cs : List Constraint) → Schedule (members (edges os cs)) (past os d) t → KeepsAll os cs d t
   schedule-keeps cs S = record { starts = S .starts; keeps = λ c m. link-keeps c .1 (S .keeps (edge-of os c) (link-edge os cs c m)) }
 
--- Gains and losses: of a fixed duration, or of the link's ticks, or of both: an after link out of a fixed step gains both, and a return from its finish loses both. An edge that is counted or leaves
--- step 0, which is open, gains the link's ticks alone.
-record Weighs (g : ℕ) (e : Edge) : Type 0 where
+-- Gains and losses: of a fixed duration or a least, or of the link's ticks, or of both: an after link gains both, and a return from the finish loses both. An edge that is counted or leaves step 0, which is
+-- open, gains the least and the link's ticks alone.
+record Weighs (os : List Operation) (g : ℕ) (e : Edge) : Type 0 where
   gain : e .gain ≤ g + g
   loss : e .loss ≤ g + g
-  first : (e .from ≡ 0) ⊎ (e .counted ≡ true) → e .gain ≤ g
+  first : (e .from ≡ 0) ⊎ (e .counted ≡ true) → e .gain ≤ least-at os (e .from) + g
 
-weighs-light : {g : ℕ} {e : Edge} → e .gain ≤ g → e .loss ≤ g + g → Weighs g e
-weighs-light light loss = record { gain = omega arith; loss = loss; first = λ h. light }
+weighs-light : {os : List Operation} {g : ℕ} {e : Edge} → e .gain ≤ g → e .loss ≤ g + g → Weighs os g e
+weighs-light light loss = record { gain = omega arith; loss = loss; first = λ h. omega arith }
 
-module _ (os : List Operation) (g : ℕ) (source : delay-at os 0 ≡ Open) (ticks : (i x : ℕ) → delay-at os i ≡ Fixed x → x ≤ g) where
-  sequencing-weighs : (i j gap : ℕ) (x : Delay) → delay-at os i ≡ x → gap ≤ g → Weighs g (sequencing-edge x i j gap)
+module _ (os : List Operation) (g : ℕ) (source : delay-at os 0 ≡ Open) (ticks : (i x : ℕ) → delay-at os i ≡ Fixed x → x ≤ g) (leasts : (i : ℕ) → least-at os i ≤ g) where
+  sequencing-weighs : (i j gap : ℕ) (x : Delay) → delay-at os i ≡ x → gap ≤ g → Weighs os g (sequencing-edge x (least-at os i) i j gap)
   unfolding sequencing-edge
-  sequencing-weighs i j gap Open h w = weighs-light w (omega arith)
+  sequencing-weighs i j gap Open h w = record { gain = omega (arith, leasts i); loss = omega arith; first = λ k. omega arith }
   sequencing-weighs i j gap (Fixed x) h w = record { gain = omega (arith, ticks i x h); loss = omega arith; first = λ k. absurd (none k) }
     where
       none : (i ≡ 0) ⊎ (false ≡ true) → ⊥
       none (inl e) = fixed-open (sym h ∙ ap (delay-at os) e ∙ source)
       none (inr e) = false-true e
 
-  finish-weighs : (i j u : ℕ) (x : Delay) → delay-at os i ≡ x → u ≤ g → Weighs g (finish-edge x i j u)
+  finish-weighs : (i j u : ℕ) (x : Delay) → delay-at os i ≡ x → u ≤ g → Weighs os g (finish-edge x (least-at os i) i j u)
   unfolding finish-edge
   finish-weighs i j u (Fixed x) h w = weighs-light (omega arith) (omega (arith, ticks i x h))
-  finish-weighs i j u Open h w = weighs-light (omega arith) (omega arith)
+  finish-weighs i j u Open h w = weighs-light (omega arith) (omega (arith, leasts i))
 
-  edge-weighs : (c : Constraint) → TicksWithin g c → Weighs g (edge-of os c)
+  edge-weighs : (c : Constraint) → TicksWithin g c → Weighs os g (edge-of os c)
   unfolding edge-of
   edge-weighs (sequencing i j gap) w = sequencing-weighs i j gap (delay-at os i) refl w
   edge-weighs (minimum i j m) w = weighs-light w (omega arith)
@@ -224,8 +234,8 @@ pub record LinkIs (n g : ℕ) (c : Constraint) : Type 0 where
   pub ends : Ends n c
   pub within : TicksWithin g c
 
-sequencing-is : (n g i j : ℕ) (there : Bool) (gap : Bound) (c : Constraint) → i < n → j < n → ((x : ℕ) → gap ≡ Ticks x → x ≤ g) → List·Memᴰ c (sequencing-of i j there (gap-of gap)) → LinkIs n g c
-unfolding sequencing-of gap-of
+sequencing-is : (n g i j : ℕ) (there : Bool) (gap : Bound) (c : Constraint) → i < n → j < n → ((x : ℕ) → gap ≡ Ticks x → x ≤ g) → List·Memᴰ c (sequencing-of i j there (ticks-said gap)) → LinkIs n g c
+unfolding sequencing-of ticks-said
 sequencing-is n g i j true (Ticks x) c a b h m = subst (LinkIs n g) (sym (List·Memᴰ·eq-of-singleton m)) (record { ends = (a, b); within = h x refl })
 sequencing-is n g i j true Absent c a b h m = subst (LinkIs n g) (sym (List·Memᴰ·eq-of-singleton m)) (record { ends = (a, b); within = omega arith })
 sequencing-is n g i j false gap c a b h m = absurd (List·Memᴰ·not-nil m)
@@ -250,7 +260,7 @@ unfolding link-constraints
 record-is n l c f m = go (List·Memᴰ·append-cases (three l) m)
   where
     one : Link → List Constraint
-    one l = sequencing-of (l .from) (l .to) (l .sequencing) (gap-of (l .gap))
+    one l = sequencing-of (l .from) (l .to) (l .sequencing) (ticks-said (l .gap))
 
     two : Link → List Constraint
     two l = one l ++ minimum-of (l .from) (l .to) (l .minimum)
@@ -275,7 +285,7 @@ leads-forward : (os : List Operation) (v : ℕ) (c : Constraint) → leads-into 
 unfolding leads-into edge-of sequencing-edge
 leads-forward os v (sequencing i j g) h = go (delay-at os i)
   where
-    go : (d : Delay) → (sequencing-edge d i j g .back ≡ false) × (sequencing-edge d i j g .to ≡ v)
+    go : (d : Delay) → (sequencing-edge d (least-at os i) i j g .back ≡ false) × (sequencing-edge d (least-at os i) i j g .to ≡ v)
     go (Fixed x) = (refl, eqb-true j v h)
     go Open = (refl, eqb-true j v h)
 leads-forward os v (minimum i j m) h = (refl, eqb-true j v h)
@@ -326,16 +336,19 @@ module _ {q : Records} (fits : Fits q) where
   sheet-shape = edges-shape (q .steps) (count-of q) (links-of q) sheet-ends
 
   -- The numbers of a sheet are of two bytes: a gain is one or two of them, and so is a loss.
-  sheet-weighs : (e : Edge) → members (edges-of q) e → Weighs most-ticks e
+  sheet-weighs : (e : Edge) → members (edges-of q) e → Weighs (q .steps) most-ticks e
   unfolding edges-of
   sheet-weighs e m =
       let r = edge-link (q .steps) (links-of q) e m in
-      subst (Weighs most-ticks) (r .2) (edge-weighs (q .steps) most-ticks (fits .source) (fits .ticks) (r .0) (sheet-link (r .0) (r .1) .within))
+      subst (Weighs (q .steps) most-ticks) (r .2) (edge-weighs (q .steps) most-ticks (fits .source) (fits .ticks) (fits .leasts) (r .0) (sheet-link (r .0) (r .1) .within))
 
   pub sheet-gains : Gains (members (edges-of q)) most-gain
   sheet-gains e m = sheet-weighs e m .gain
 
-  pub sheet-first-gains : FirstGains (members (edges-of q)) most-first-gain
+  pub sheet-leasts : Leasts (leasts-of q) (members (edges-of q))
+  sheet-leasts e m = sheet-fits e m .least-gained
+
+  pub sheet-first-gains : FirstGains (leasts-of q) (members (edges-of q)) most-first-gain
   sheet-first-gains e m = sheet-weighs e m .first
 
   pub sheet-losses : Losses (members (edges-of q)) most-loss
@@ -362,6 +375,9 @@ module _ {q : Records} (fits : Fits q) where
         go : List·Memᴰ c (links-of q) ⊎ Further (count-of q) c → Ends (count-of q) c
         go (inl i) = sheet-ends c i
         go (inr h) = further-ends c h
+
+    pub rival-leasts : Leasts (leasts-of q) (members (edges (q .steps) fs))
+    rival-leasts e m = all-fit (q .steps) (count-of q) fs rival-ends e m .least-gained
 
     pub rival-shape : Shape (count-of q) (members (edges (q .steps) fs))
     rival-shape = edges-shape (q .steps) (count-of q) fs rival-ends

@@ -3,22 +3,24 @@ use mathlib.Core.Path.{_≡_, refl, sym, subst}
 use mathlib.Core.Bool.{Bool, true, false}
 use mathlib.Core.Logic.{_⊎_, inl, inr}
 use mathlib.Core.List.{List, [], _∷_, _++_, List·Memᴰ, List·Memᴰ·head, List·Memᴰ·tail, List·Memᴰ·not-nil, List·Memᴰ·cases-cons, List·Memᴰ·append-cases, Memᴰ·append-left}
-use Prim.Native.Nat.{ℕ, zero, suc, _+_, _<_}
+use Prim.Native.Nat.{ℕ, zero, suc, _+_, _≤_, _<_}
 use native.Mathlib.Omega.{arith}
-use lib.Dec.{leb, ltb}
+use native.Mathlib.Decide.{decLt}
+use lib.Dec.{eqb, leb, ltb}
 use lib.ListN.{length, getD}
-use borrow.Author.Tests.{ltb-true, leb-true}
-use Rattle.definitions.specs.Basics.{all, Outcome, given, refused}
+use borrow.Author.Tests.{eqb-true, ltb-true, leb-true}
+use Rattle.definitions.specs.Basics.{all, all-below, Outcome, given, refused}
 use Rattle.definitions.specs.Bytes.{links, Records, sheet, read}
-use Rattle.definitions.specs.Links.{Constraint, sequencing, minimum, maximum, finish-maximum, links-of, delay-at, duration-with, duration, Keeps, edges}
+use Rattle.definitions.specs.Links.{Constraint, sequencing, minimum, maximum, finish-maximum, links-of, delay-at, Respects, duration-with, duration, Keeps, edges}
 use Rattle.definitions.specs.Anchors.{well-posed}
-use Rattle.definitions.specs.Rival.{Further, DelayAssignment}
-use Rattle.definitions.specs.Answers.{closes-circle, infeasible, inconsistent, count-of, edges-of, serialized-of, judged}
+use Rattle.definitions.specs.Rival.{Further, DelayAssignment, Lasts}
+use Rattle.definitions.specs.Answers.{closes-circle, infeasible, inconsistent, count-of, leasts-of, edges-of, serialized-of, judged}
 use Rattle.definitions.specs.Worked.{Worked, every-definition, listing, lists, worked-sheets}
 use Rattle.definitions.specs.declared.Delay.the-variants.{Open}
 use Rattle.definitions.specs.declared.Operation.{Operation}
-use Rattle.laws.proofs.Tests.{all-each}
+use Rattle.laws.proofs.Tests.{all-below-each, all-each}
 use Rattle.laws.proofs.Lists.{mem-at}
+use Rattle.theory.proofs.DelayLimits.{least-past}
 use Rattle.theory.proofs.Reachability.{well-posed-iff}
 use Rattle.demands.specs.Demands.{Bytes, IsSheet, WellFormed, WorkedBytes, RivalMet, ForesightEarlier, HypothesesMet, our-start}
 use Rattle.demands.proofs.Reading.{fits-of}
@@ -86,12 +88,12 @@ abbrev foresight-times : ℕ → ℕ
 foresight-times i = getD (0 ∷ 0 ∷ 10 ∷ []) i 0
 
 -- All that is computed: the stand sheet (1 of the table) is sound, with limit 1 (2) it is refused 10, two hands (3) is accepted with waits, and 5 is refused 11; both-finish (35) and too-late (37) are
--- refused 28, and held-back (43) is sound.
+-- refused 28, held-back (43) is sound, and slow-hand (69) is sound with a least.
 abbrev used : List ℕ
-used = 1 ∷ 2 ∷ 3 ∷ 5 ∷ 35 ∷ 37 ∷ 43 ∷ []
+used = 1 ∷ 2 ∷ 3 ∷ 5 ∷ 35 ∷ 37 ∷ 43 ∷ 69 ∷ []
 
 record Computed : Type 0 where
-  size : length worked-sheets ≡ 69
+  size : ltb 69 (length worked-sheets) ≡ true
   bytes : (k : ℕ) → List·Memᴰ k used → all (λ b. ltb b 256) (worked k) ≡ true
   reads : (k : ℕ) → List·Memᴰ k used → read (worked k) ≡ given (worked-records k)
   formed : (k : ℕ) → List·Memᴰ k used → closes-circle (count-of (worked-records k)) (edges-of (worked-records k)) ≡ false
@@ -103,48 +105,56 @@ record Computed : Type 0 where
   rival-keeps : all (keeps-test (hands .steps) hands-take rival-times) rival-links ≡ true
   our-third : our-start hands hands-take 3 ≡ 4
   five : count-of hands ≡ 5
+  hands-no-leasts : all-below (λ v. eqb (leasts-of hands v) 0) (count-of hands) ≡ true
   held-back : judged (worked 43) false ≡ given 0
   hand-open : delay-at (back .steps) 1 ≡ Open
   foresight-keeps : all (keeps-test (back .steps) hand-takes foresight-times) (links-of back) ≡ true
   our-first : our-start back hand-takes 1 ≡ 6
   three : count-of back ≡ 3
+  back-no-leasts : all-below (λ v. eqb (leasts-of back v) 0) (count-of back) ≡ true
   circle : judged (worked 35) false ≡ refused 28
   with-circle : closes-circle (count-of (worked-records 35)) (serialized-of (worked-records 35)) ≡ true
   too-late : judged (worked 37) false ≡ refused 28
   no-circle : closes-circle (count-of (worked-records 37)) (serialized-of (worked-records 37)) ≡ false
+  slow : judged (worked 69) false ≡ given 0
+  slow-least : leasts-of (worked-records 69) 1 ≡ 8
 
--- What holds of the seven sheets that are used holds of each.
-each-used : (P : ℕ → Type 0) → P 1 → P 2 → P 3 → P 5 → P 35 → P 37 → P 43 → (k : ℕ) → List·Memᴰ k used → P k
-each-used P a b c d e f g k m = go (List·Memᴰ·cases-cons m)
+-- What holds of the eight sheets that are used holds of each.
+each-used : (P : ℕ → Type 0) → P 1 → P 2 → P 3 → P 5 → P 35 → P 37 → P 43 → P 69 → (k : ℕ) → List·Memᴰ k used → P k
+each-used P a b c d e f g h k m = go (List·Memᴰ·cases-cons m)
   where
     put : {l : ℕ} → P l → k ≡ l → P k
-    put h i = subst P (sym i) h
+    put p i = subst P (sym i) p
 
-    seventh : (k ≡ 43) ⊎ List·Memᴰ k [] → P k
+    eighth : (k ≡ 69) ⊎ List·Memᴰ k [] → P k
+    eighth (inl i) = put h i
+    eighth (inr i) = absurd (List·Memᴰ·not-nil i)
+
+    seventh : (k ≡ 43) ⊎ List·Memᴰ k (69 ∷ []) → P k
     seventh (inl i) = put g i
-    seventh (inr i) = absurd (List·Memᴰ·not-nil i)
+    seventh (inr i) = eighth (List·Memᴰ·cases-cons i)
 
-    sixth : (k ≡ 37) ⊎ List·Memᴰ k (43 ∷ []) → P k
+    sixth : (k ≡ 37) ⊎ List·Memᴰ k (43 ∷ 69 ∷ []) → P k
     sixth (inl i) = put f i
     sixth (inr i) = seventh (List·Memᴰ·cases-cons i)
 
-    fifth : (k ≡ 35) ⊎ List·Memᴰ k (37 ∷ 43 ∷ []) → P k
+    fifth : (k ≡ 35) ⊎ List·Memᴰ k (37 ∷ 43 ∷ 69 ∷ []) → P k
     fifth (inl i) = put e i
     fifth (inr i) = sixth (List·Memᴰ·cases-cons i)
 
-    fourth : (k ≡ 5) ⊎ List·Memᴰ k (35 ∷ 37 ∷ 43 ∷ []) → P k
+    fourth : (k ≡ 5) ⊎ List·Memᴰ k (35 ∷ 37 ∷ 43 ∷ 69 ∷ []) → P k
     fourth (inl i) = put d i
     fourth (inr i) = fifth (List·Memᴰ·cases-cons i)
 
-    third : (k ≡ 3) ⊎ List·Memᴰ k (5 ∷ 35 ∷ 37 ∷ 43 ∷ []) → P k
+    third : (k ≡ 3) ⊎ List·Memᴰ k (5 ∷ 35 ∷ 37 ∷ 43 ∷ 69 ∷ []) → P k
     third (inl i) = put c i
     third (inr i) = fourth (List·Memᴰ·cases-cons i)
 
-    second : (k ≡ 2) ⊎ List·Memᴰ k (3 ∷ 5 ∷ 35 ∷ 37 ∷ 43 ∷ []) → P k
+    second : (k ≡ 2) ⊎ List·Memᴰ k (3 ∷ 5 ∷ 35 ∷ 37 ∷ 43 ∷ 69 ∷ []) → P k
     second (inl i) = put b i
     second (inr i) = third (List·Memᴰ·cases-cons i)
 
-    go : (k ≡ 1) ⊎ List·Memᴰ k (2 ∷ 3 ∷ 5 ∷ 35 ∷ 37 ∷ 43 ∷ []) → P k
+    go : (k ≡ 1) ⊎ List·Memᴰ k (2 ∷ 3 ∷ 5 ∷ 35 ∷ 37 ∷ 43 ∷ 69 ∷ []) → P k
     go (inl i) = put a i
     go (inr i) = second (List·Memᴰ·cases-cons i)
 
@@ -152,9 +162,9 @@ computed : Computed
 unfolding every-definition duration-with duration well-posed judged worked-sheets keeps-test
 computed = record {
   size = refl;
-  bytes = each-used (λ k. all (λ b. ltb b 256) (worked k) ≡ true) refl refl refl refl refl refl refl;
-  reads = each-used (λ k. read (worked k) ≡ given (worked-records k)) refl refl refl refl refl refl refl;
-  formed = each-used (λ k. closes-circle (count-of (worked-records k)) (edges-of (worked-records k)) ≡ false) refl refl refl refl refl refl refl;
+  bytes = each-used (λ k. all (λ b. ltb b 256) (worked k) ≡ true) refl refl refl refl refl refl refl refl;
+  reads = each-used (λ k. read (worked k) ≡ given (worked-records k)) refl refl refl refl refl refl refl refl;
+  formed = each-used (λ k. closes-circle (count-of (worked-records k)) (edges-of (worked-records k)) ≡ false) refl refl refl refl refl refl refl refl;
   sound = refl;
   with-waits = refl;
   infeasible = refl;
@@ -163,15 +173,19 @@ computed = record {
   rival-keeps = refl;
   our-third = refl;
   five = refl;
+  hands-no-leasts = refl;
   held-back = refl;
   hand-open = refl;
   foresight-keeps = refl;
   our-first = refl;
   three = refl;
+  back-no-leasts = refl;
   circle = refl;
   with-circle = refl;
   too-late = refl;
   no-circle = refl;
+  slow = refl;
+  slow-least = refl;
 }
 
 -- Where each stands among them.
@@ -196,14 +210,17 @@ is-37 = List·Memᴰ·tail (List·Memᴰ·tail (List·Memᴰ·tail (List·Memᴰ
 is-43 : List·Memᴰ 43 used
 is-43 = List·Memᴰ·tail (List·Memᴰ·tail (List·Memᴰ·tail (List·Memᴰ·tail (List·Memᴰ·tail (List·Memᴰ·tail (List·Memᴰ·head refl))))))
 
+is-69 : List·Memᴰ 69 used
+is-69 = List·Memᴰ·tail (List·Memᴰ·tail (List·Memᴰ·tail (List·Memᴰ·tail (List·Memᴰ·tail (List·Memᴰ·tail (List·Memᴰ·tail (List·Memᴰ·head refl)))))))
+
 is-sheet : (k : ℕ) → List·Memᴰ k used → IsSheet (worked k) (worked-records k)
 is-sheet k h = record { bytes = are-bytes (worked k) (computed .bytes k h); reads = computed .reads k h }
 
 is-formed : (k : ℕ) → List·Memᴰ k used → WellFormed (worked k) (worked-records k)
 is-formed k h = record { sheet = is-sheet k h; no-circle = computed .formed k h }
 
-in-worked : (k : ℕ) → k < 69 → WorkedBytes (worked k)
-in-worked k h = in-table k (omega (arith, computed .size))
+in-worked : (k : ℕ) → k < 70 → WorkedBytes (worked k)
+in-worked k h = in-table k (omega (arith, ltb-true 69 (length worked-sheets) (computed .size)))
 
 -- The rival's sheet is an extension: by the computed test for sound.
 further-each : (c : Constraint) → List·Memᴰ c further → Further (count-of hands) c
@@ -234,6 +251,14 @@ rival-ends c m = go (rival-only c (List·Memᴰ·append-cases (links-of hands) m
     go (inl i) = sheet-ends (fits-of (is-sheet 3 is-3)) c i
     go (inr f) = further-ends c f
 
+-- Neither sheet has leasts.
+hands-respected : Respects (hands .steps) hands-take
+hands-respected v = go v (decLt v (count-of hands))
+  where
+    go : (v : ℕ) → Dec (v < count-of hands) → leasts-of hands v ≤ hands-take v
+    go v (yes b) = omega (arith, eqb-true (leasts-of hands v) 0 (all-below-each (λ v. eqb (leasts-of hands v) 0) (count-of hands) (computed .hands-no-leasts) v b))
+    go v (no b) = omega (arith, least-past (hands .steps) v (omega arith))
+
 rival-met : RivalMet hands
 rival-met = record {
   links = rival-links;
@@ -243,7 +268,7 @@ rival-met = record {
     well-posed = well-posed-iff (edges-shape (hands .steps) (count-of hands) rival-links rival-ends) .0 (computed .rival-sound);
   };
   durations = hands-take;
-  source = refl;
+  respected = record { source = refl; respects = hands-respected };
   times = rival-times;
   kept = record { starts = refl; keeps = λ c m. keeps-tested (hands .steps) hands-take rival-times c (all-each (keeps-test (hands .steps) hands-take rival-times) rival-links (computed .rival-keeps) c m) };
   step = 3;
@@ -253,9 +278,19 @@ rival-met = record {
 
 -- Only the hand lasts.
 hand-assigned : DelayAssignment (back .steps) hand-takes
-hand-assigned zero none = refl
-hand-assigned (suc zero) none = absurd (none (record { not-source = λ e. omega arith; open-step = computed .hand-open }))
-hand-assigned (suc (suc v)) none = refl
+hand-assigned = record { idle = idle; respects = respected }
+  where
+    idle : (v : ℕ) → ¬ Lasts (back .steps) v → hand-takes v ≡ 0
+    idle zero none = refl
+    idle (suc zero) none = absurd (none (record { not-source = λ e. omega arith; open-step = computed .hand-open }))
+    idle (suc (suc v)) none = refl
+
+    respected : (v : ℕ) → leasts-of back v ≤ hand-takes v
+    respected v = go v (decLt v (count-of back))
+      where
+        go : (v : ℕ) → Dec (v < count-of back) → leasts-of back v ≤ hand-takes v
+        go v (yes b) = omega (arith, eqb-true (leasts-of back v) 0 (all-below-each (λ v. eqb (leasts-of back v) 0) (count-of back) (computed .back-no-leasts) v b))
+        go v (no b) = omega (arith, least-past (back .steps) v (omega arith))
 
 foresight-met : ForesightEarlier back
 foresight-met = record {
@@ -279,4 +314,5 @@ examples =
       foresight = (worked 43, back, in-worked 43 (omega arith), record { sheet = is-sheet 43 is-43; accepts = computed .held-back }, foresight-met);
       circle = (worked 35, worked-records 35, in-worked 35 (omega arith), is-formed 35 is-35, computed .circle, computed .with-circle);
       no-circle = (worked 37, worked-records 37, in-worked 37 (omega arith), is-formed 37 is-37, computed .too-late, computed .no-circle);
+      least = (worked 69, worked-records 69, in-worked 69 (omega arith), record { sheet = is-sheet 69 is-69; accepts = computed .slow }, 1, omega (arith, computed .slow-least));
     }

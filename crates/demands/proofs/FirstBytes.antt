@@ -3,19 +3,21 @@
 use mathlib.Core.Path.{_≡_, refl, ap, _∙_}
 use mathlib.Core.Bool.{Bool, true, false, _&&_}
 use mathlib.Core.List.{List, [], _∷_}
-use Prim.Native.Nat.{ℕ, zero, suc, _+_, _-_, _*_, _≤_}
+use mathlib.Core.Logic.{_⊎_, inl, inr}
+use Prim.Native.Nat.{ℕ, zero, suc, _+_, _-_, _*_, _/_, _%_, _^_, _≤_}
 use native.Mathlib.Omega.{arith}
 use native.Mathlib.Nat.{suc-mul}
-use lib.Dec.{leb}
+use lib.Dec.{eqb, leb}
 use lib.ListN.{take}
 use borrow.Author.Tests.{leb-true, eqb-true}
 use Rattle.definitions.specs.Limits.{most-steps, most-records, longest-sheet, longest-step, longest-record}
 use Rattle.definitions.specs.Basics.{test-bit, Outcome, given, refused, when-given}
-use Rattle.definitions.specs.Bytes.{Taken, Parser, _>>=_, _>>_, give, demand, byte, two-bytes, ticks-if, operation-map, operation, link-map, sequenced, endpoints, rises, link, records, operations, pair-of, links, at-end, Records, sheet, read}
+use Rattle.definitions.specs.Bytes.{Taken, Parser, _>>=_, _>>_, give, demand, byte, two-bytes, ticks-if, operation-map, delay-from, operation, bound-from, link-map, sequenced, endpoints, rises, link, records, operations, pair-of, links, at-end, Records, sheet, read}
 use Rattle.definitions.specs.Output.{listed, list-records, listing-text, standplan}
+use Rattle.definitions.specs.declared.Operation.{Operation}
 use Rattle.definitions.specs.declared.Previous.{Previous}
 use Rattle.definitions.specs.declared.Previous.the-variants.{Nothing}
-use Rattle.laws.proofs.Bools.{and-split}
+use Rattle.laws.proofs.Bools.{and-split, or-split}
 use Rattle.demands.specs.Demands.{FrontDecides}
 
 -- An outcome with what it leaves cut at l bytes.
@@ -73,19 +75,43 @@ looks-two-bytes : Looks two-bytes 2
 unfolding two-bytes
 looks-two-bytes = looks-bind looks-byte (λ low. looks-bind looks-byte (λ high. looks-give (low + 256 * high)))
 
+looks-no-ticks : Looks (ticks-if false) 0
+unfolding ticks-if
+looks-no-ticks = looks-give 0
+
 looks-ticks : (b : Bool) → Looks (ticks-if b) 2
 unfolding ticks-if
 looks-ticks true = looks-two-bytes
-looks-ticks false = looks-more (omega arith) (looks-give 0)
+looks-ticks false = looks-more (omega arith) looks-no-ticks
+
+-- No step record has two fields: a map that is allowed has not both bits.
+one-field : (first : Bool) (m : ℕ) → operation-map first m ≡ true → (test-bit m 1 ≡ false) ⊎ (test-bit m 2 ≡ false)
+unfolding operation-map test-bit
+one-field true m h = inl (rw (eqb-true m 1 h))
+one-field false m h = go (or-split (leb m 2) (eqb m 5) h)
+  where
+    small : (k : ℕ) → k ≤ 2 → eqb (k / 2 ^ 2 % 2) 1 ≡ false
+    small zero b = refl
+    small (suc zero) b = refl
+    small (suc (suc zero)) b = refl
+    small (suc (suc (suc k))) b = absurd (omega arith)
+
+    go : (leb m 2 ≡ true) ⊎ (eqb m 5 ≡ true) → (eqb (m / 2 ^ 1 % 2) 1 ≡ false) ⊎ (eqb (m / 2 ^ 2 % 2) 1 ≡ false)
+    go (inl l) = inr (small m (leb-true m 2 l))
+    go (inr e) = inl (rw (eqb-true m 5 e))
 
 -- A step record, that of step 0 with one byte.
 looks-operation : (first : Bool) → Looks (operation first) longest-step
 unfolding operation
-looks-operation first = looks-bind looks-byte (λ m. looks-demand (operation-map first m) 4 (λ h. looks-bind (looks-ticks (test-bit m 1)) (λ ticks. looks-give _)))
+looks-operation first = looks-bind looks-byte (λ m. looks-demand (operation-map first m) 4 (λ h. fields m (one-field first m h)))
+  where
+    fields : (m : ℕ) → (test-bit m 1 ≡ false) ⊎ (test-bit m 2 ≡ false) → Looks {A = Operation} (ticks-if (test-bit m 1) >>= (λ ticks. ticks-if (test-bit m 2) >>= (λ least. give (record { delay = delay-from (test-bit m 0) ticks; least = bound-from (test-bit m 2) least })))) 2
+    fields m (inl h) = rw h (looks-bind looks-no-ticks (λ ticks. looks-bind (looks-ticks (test-bit m 2)) (λ least. looks-give _)))
+    fields m (inr h) = rw h (looks-bind (looks-ticks (test-bit m 1)) (λ ticks. looks-bind looks-no-ticks (λ least. looks-give _)))
 
 looks-first : Looks (operation true) 1
 unfolding operation operation-map test-bit ticks-if
-looks-first = looks-bind {k = 0} looks-byte (λ m. looks-demand (operation-map true m) 4 (λ h. rw (eqb-true m 1 h) (looks-bind (looks-give 0) (λ ticks. looks-give _))))
+looks-first = looks-bind {k = 0} looks-byte (λ m. looks-demand (operation-map true m) 4 (λ h. rw (eqb-true m 1 h) (looks-bind (looks-give 0) (λ ticks. looks-bind (looks-give 0) (λ least. looks-give _)))))
 
 -- A link record.
 looks-link : (n : ℕ) (previous : Previous) → Looks (link n previous) longest-record

@@ -8,7 +8,7 @@ use Rattle.definitions.specs.Basics.{Outcome, refused}
 use Rattle.definitions.specs.Bytes.{Records}
 use Rattle.definitions.specs.Links.{members}
 use Rattle.definitions.specs.Waits.{needs-waits, serialized}
-use Rattle.definitions.specs.Answers.{infeasible, inconsistent, unserializable, judged, judge-edges, count-of, edges-of}
+use Rattle.definitions.specs.Answers.{infeasible, inconsistent, unserializable, judged, judge-edges, count-of, edges-of, leasts-of}
 use Rattle.laws.proofs.Bools.{not-passing}
 use Rattle.theory.specs.Graphs.{ForwardAcyclic, Rooted, Serializable, Shape, Well}
 use Rattle.demands.specs.Demands.{Accepted, WellFormed}
@@ -38,21 +38,21 @@ module _ {s : List ℕ} {q : Records} (formed : WellFormed s q) where
   pub formed-well : infeasible (count-of q) (edges-of q) ≡ false → inconsistent (count-of q) (edges-of q) ≡ false → Well (count-of q) (members (edges-of q))
   formed-well = not-10-11 (formed-fits .some) formed-shape formed-rooted
 
-  pub formed-serial : (unserializable (count-of q) (edges-of q) ≡ false) ↔ Serializable (members (serialized (count-of q) (edges-of q)))
-  formed-serial = serializable-iff (formed-fits .some) formed-shape formed-rooted
+  pub formed-serial : (unserializable (count-of q) (leasts-of q) (edges-of q) ≡ false) ↔ Serializable (members (serialized (count-of q) (leasts-of q) (edges-of q)))
+  formed-serial = serializable-iff (leasts-of q) (formed-fits .some) formed-shape formed-rooted
 
   module _ (allow : Bool) where
-    as-judged : judged s allow ≡ judge-edges (count-of q) (edges-of q) allow
+    as-judged : judged s allow ≡ judge-edges (count-of q) (leasts-of q) (edges-of q) allow
     as-judged = judged-edges s (formed .sheet .reads) allow
 
     pub judged-10 : (judged s allow ≡ refused 10) ↔ (infeasible (count-of q) (edges-of q) ≡ true)
-    judged-10 = on-bytes as-judged (judge-10 (count-of q) (edges-of q) allow (formed .no-circle))
+    judged-10 = on-bytes as-judged (judge-10 (count-of q) (leasts-of q) (edges-of q) allow (formed .no-circle))
 
     pub judged-11 : (judged s allow ≡ refused 11) ↔ ((infeasible (count-of q) (edges-of q) ≡ false) × (inconsistent (count-of q) (edges-of q) ≡ true))
-    judged-11 = on-bytes as-judged (judge-11 (count-of q) (edges-of q) allow (formed .no-circle))
+    judged-11 = on-bytes as-judged (judge-11 (count-of q) (leasts-of q) (edges-of q) allow (formed .no-circle))
 
-    pub judged-28 : (judged s allow ≡ refused 28) ↔ ((infeasible (count-of q) (edges-of q) ≡ false) × (inconsistent (count-of q) (edges-of q) ≡ false) × (unserializable (count-of q) (edges-of q) ≡ true))
-    judged-28 = on-bytes as-judged (judge-28 (count-of q) (edges-of q) allow (formed .no-circle))
+    pub judged-28 : (judged s allow ≡ refused 28) ↔ ((infeasible (count-of q) (edges-of q) ≡ false) × (inconsistent (count-of q) (edges-of q) ≡ false) × (unserializable (count-of q) (leasts-of q) (edges-of q) ≡ true))
+    judged-28 = on-bytes as-judged (judge-28 (count-of q) (leasts-of q) (edges-of q) allow (formed .no-circle))
 
     pub not-judged-10 : judged s allow ≢ refused 10 → infeasible (count-of q) (edges-of q) ≡ false
     not-judged-10 h = not-passing (infeasible (count-of q) (edges-of q)) (λ t. h (judged-10 .1 t))
@@ -65,8 +65,8 @@ module _ {s : List ℕ} {allow : Bool} {q : Records} {v : ℕ} (accepted : Accep
   pub accepted-fits : Fits q
   accepted-fits = fits-of (accepted .sheet)
 
-  accepted-judged : Passes (count-of q) (edges-of q) × (unserializable (count-of q) (edges-of q) ≡ false) × ((needs-waits (count-of q) (edges-of q) && not allow) ≡ false) × (cond (needs-waits (count-of q) (edges-of q)) 1 0 ≡ v)
-  accepted-judged = judge-given (count-of q) (edges-of q) allow v .0 (sym (judged-edges s (accepted .sheet .reads) allow) ∙ accepted .accepts)
+  accepted-judged : Passes (count-of q) (edges-of q) × (unserializable (count-of q) (leasts-of q) (edges-of q) ≡ false) × ((needs-waits (count-of q) (edges-of q) && not allow) ≡ false) × (cond (needs-waits (count-of q) (edges-of q)) 1 0 ≡ v)
+  accepted-judged = judge-given (count-of q) (leasts-of q) (edges-of q) allow v .0 (sym (judged-edges s (accepted .sheet .reads) allow) ∙ accepted .accepts)
 
   pub accepted-verdict : cond (needs-waits (count-of q) (edges-of q)) 1 0 ≡ v
   accepted-verdict = accepted-judged .3
@@ -74,5 +74,5 @@ module _ {s : List ℕ} {allow : Bool} {q : Records} {v : ℕ} (accepted : Accep
   pub accepted-well : Well (count-of q) (members (edges-of q))
   accepted-well = passes-well (accepted-fits .some) (sheet-shape accepted-fits) (sheet-entered accepted-fits) (accepted-judged .0)
 
-  pub accepted-serial : Serializable (members (serialized (count-of q) (edges-of q)))
-  accepted-serial = serializable-iff (accepted-fits .some) (sheet-shape accepted-fits) (accepted-well .rooted) .0 (accepted-judged .1)
+  pub accepted-serial : Serializable (members (serialized (count-of q) (leasts-of q) (edges-of q)))
+  accepted-serial = serializable-iff (leasts-of q) (accepted-fits .some) (sheet-shape accepted-fits) (accepted-well .rooted) .0 (accepted-judged .1)

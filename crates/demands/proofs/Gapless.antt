@@ -3,15 +3,15 @@ use mathlib.Core.Path.{_≡_, refl, sym, ap₂, subst, _∙_}
 use mathlib.Core.Bool.{Bool, true, false, cond, not, _&&_, _||_}
 use mathlib.Core.Logic.{_⊎_, inl, inr, _≢_}
 use mathlib.Core.List.{List, [], _∷_, _++_, map, flatMap, List·Memᴰ, List·Memᴰ·head, List·Memᴰ·tail, Memᴰ·of-map, map-append}
-use Prim.Native.Nat.{ℕ, zero, suc, _+_, _-_, _≤_, _<_}
+use Prim.Native.Nat.{ℕ, _+_, _-_, _≤_, _<_}
 use native.Mathlib.Omega.{arith}
 use native.Mathlib.Nat.{mul-le-mul-right}
 use lib.Dec.{leb}
 use borrow.Author.Tests.{leb-true, not-true}
 use Rattle.definitions.specs.Limits.{most-steps, most-records, most-ticks}
 use Rattle.definitions.specs.Basics.{all-below, test-bit, Outcome, given, refused, when-given}
-use Rattle.definitions.specs.Bytes.{Parser, _>>=_, give, demand, byte, two-bytes, ticks-if, link-map, sequenced, endpoints, rises, bound-from, link, records, operations, pair-of, links, at-end, Records, sheet, read}
-use Rattle.definitions.specs.Links.{Constraint, sequencing, minimum, maximum, finish-maximum, sequencing-of, minimum-of, maximum-of, finish-maximum-of, gap-of, link-constraints, constraints, delay-at}
+use Rattle.definitions.specs.Bytes.{give, demand, byte, two-bytes, ticks-if, link-map, sequenced, endpoints, rises, bound-from, link, operations, pair-of, links, at-end, Records, sheet, read}
+use Rattle.definitions.specs.Links.{Constraint, sequencing, minimum, maximum, finish-maximum, sequencing-of, minimum-of, maximum-of, finish-maximum-of, ticks-said, link-constraints, constraints, delay-at, least-at}
 use Rattle.definitions.specs.Links.{source-link, loose-steps, completed, links-of}
 use Rattle.definitions.specs.Links.{Edge, sequencing-edge, finish-edge, edge-of, edges, members}
 use Rattle.definitions.specs.Answers.{count-of, edges-of}
@@ -23,36 +23,18 @@ use Rattle.definitions.specs.declared.Bound.the-variants.{Absent, Ticks}
 use Rattle.definitions.specs.declared.Link.{Link}
 use Rattle.definitions.specs.declared.Previous.{Previous}
 use Rattle.definitions.specs.declared.Previous.the-variants.{Nothing}
-use Rattle.laws.proofs.Bools.{and-split, or-split}
+use Rattle.laws.proofs.Bools.{and-split, or-split, same-truth}
 use Rattle.laws.proofs.Outcomes.{given-not-refused, given-same, refused-same, when-given-has}
 use Rattle.laws.proofs.Tests.{all-below-each}
 use Rattle.theory.specs.Graphs.{Gains}
 use Rattle.demands.specs.Gapless.{gapless-map, gapless-link, gapless-links, gapless-sheet, gapless-read, gapless-sequencing, gapless-edge, gapless-edges-of}
 use Rattle.demands.specs.Demands.{AsBefore, Bytes, IsSheet, PlansAsBefore}
 use Rattle.demands.proofs.Reading.{Takes, fits-of, row-each, takes-bind, takes-byte, takes-demand, takes-end, takes-give, takes-operations, takes-records, takes-ticks, takes-two-bytes}
+use Rattle.demands.proofs.Agreeing.{Agree, Agrees, agree-same, agree-then, agrees-bind, agrees-demand, agrees-records, agrees-self}
 use Rattle.demands.proofs.Edges.{TicksWithin, sheet-link}
 use Rattle.demands.proofs.Planning.{offset-by-gains}
 
 -- ## Reading
-
--- The first parser refuses with 4, or the second answers as it does. Carried through the parsers that are built from others.
-abbrev Agree : {A : Type 0} → Outcome A → Outcome A → Type 0
-Agree before now = (before ≡ refused 4) ⊎ (now ≡ before)
-
-abbrev Agrees : {A : Type 0} → Parser A → Parser A → Type 0
-Agrees before now = (s : List ℕ) → Agree (before s) (now s)
-
-agrees-self : {A : Type 0} (p : Parser A) → Agrees p p
-agrees-self p s = inr refl
-
-agree-then : {A B : Type 0} {o o′ : Outcome A} {f g : A → Outcome B} → Agree o o′ → ((a : A) → Agree (f a) (g a)) → Agree (when-given o f) (when-given o′ g)
-unfolding when-given
-agree-then (inl e) h = rw e (inl refl)
-agree-then {o = given a} (inr e) h = rw e (h a)
-agree-then {o = refused k} (inr e) h = rw e (inr refl)
-
-agrees-bind : {A B : Type 0} {p q : Parser A} {f g : A → Parser B} → Agrees p q → ((a : A) → Agrees (f a) (g a)) → Agrees (p >>= f) (q >>= g)
-agrees-bind h k s = agree-then (h s) (λ t. k (t .value) (t .rest))
 
 -- A map without bit 3 is allowed as before: a test computed for each below 24.
 abbrev same-map : ℕ → Bool
@@ -70,12 +52,6 @@ map-known : (m : ℕ) → gapless-map m ≡ true → link-map m && not (test-bit
 unfolding all-below gapless-map link-map test-bit
 map-known m h = rw h at (all-below-each same-map 24 refl m (map-below m (unfold gapless-map in h)))
 
--- A map that is allowed as before, and the rest as before.
-agrees-demand : {B : Type 0} (before now : Bool) {f g : Parser B} → (before ≡ true → now ≡ true) → (before ≡ true → Agrees f g) → Agrees (demand before 4 >>= (λ u. f)) (demand now 4 >>= (λ u. g))
-unfolding demand when-given
-agrees-demand false now still h s = inl refl
-agrees-demand true now still h s = rw (still refl) (h refl s)
-
 -- Behind the map nothing differs where bit 3 does not stand: no gap is read, and none is said.
 agrees-link : (n : ℕ) (previous : Previous) → Agrees (gapless-link n previous) (link n previous)
 unfolding gapless-link link bound-from ticks-if when-given
@@ -85,12 +61,6 @@ agrees-link n previous =
     (λ h s.
     let none : test-bit m 3 ≡ false = not-true (test-bit m 3) (and-split (link-map m) (not (test-bit m 3)) (map-known m h) .1) in
     rw none (inr refl)))
-
--- Records in a row. Induction on their number.
-agrees-records : {A S : Type 0} (before now : S → Parser A) (next : A → S) → ((state : S) → Agrees (before state) (now state)) → (k : ℕ) (state : S) → Agrees (records before next k state) (records now next k state)
-unfolding records
-agrees-records before now next h zero state = agrees-self (give [])
-agrees-records before now next h (suc k) state = agrees-bind (h state) (λ x. agrees-bind (agrees-records before now next h k (next x)) (λ xs. agrees-self (give (x ∷ xs))))
 
 agrees-sheet : Agrees gapless-sheet sheet
 unfolding gapless-sheet sheet gapless-links links
@@ -109,11 +79,7 @@ unfolding gapless-read read
 agrees-read s = agree-then (agrees-sheet s) (λ t. inr refl)
 
 read-same : (s : List ℕ) {o : Outcome Records} → gapless-read s ≡ o → o ≢ refused 4 → read s ≡ o
-read-same s {o} e other = go (agrees-read s)
-  where
-    go : Agree (gapless-read s) (read s) → read s ≡ o
-    go (inl four) = absurd (other (sym e ∙ four))
-    go (inr same) = same ∙ e
+read-same s = agree-same (agrees-read s)
 
 -- ## Edges
 
@@ -163,14 +129,14 @@ module _ (os : List Operation) where
   record Same (cs : List Constraint) : Type 0 where
     same : map (edge-of os) cs ≡ map (gapless-edge os) cs
 
-  sequencing-same : (i j : ℕ) (x : Delay) → sequencing-edge x i j 0 ≡ gapless-sequencing x i j
+  sequencing-same : (i j l : ℕ) (x : Delay) → sequencing-edge x l i j 0 ≡ gapless-sequencing x l i j
   unfolding sequencing-edge gapless-sequencing
-  sequencing-same i j Open = refl
-  sequencing-same i j (Fixed x) = let same : x + 0 ≡ x = omega arith in rw same
+  sequencing-same i j l Open = let same : l + 0 ≡ l = omega arith in rw same
+  sequencing-same i j l (Fixed x) = let same : x + 0 ≡ x = omega arith in rw same
 
-  after-same : (i j : ℕ) (there : Bool) (gap : Bound) → gap ≡ Absent → Same (sequencing-of i j there (gap-of gap))
-  unfolding sequencing-of gap-of edge-of gapless-edge
-  after-same i j true gap e = record { same = rw (e, sequencing-same i j (delay-at os i)) }
+  after-same : (i j : ℕ) (there : Bool) (gap : Bound) → gap ≡ Absent → Same (sequencing-of i j there (ticks-said gap))
+  unfolding sequencing-of ticks-said edge-of gapless-edge
+  after-same i j true gap e = record { same = rw (e, sequencing-same i j (least-at os i) (delay-at os i)) }
   after-same i j false gap e = record { same = refl }
 
   least-same : (i j : ℕ) (x : Bound) → Same (minimum-of i j x)
@@ -208,29 +174,29 @@ module _ (os : List Operation) where
   added-same : (vs : List ℕ) → Same (map source-link vs)
   unfolding edge-of gapless-edge
   added-same [] = record { same = refl }
-  added-same (v ∷ vs) = let rest = added-same vs .same in record { same = rw (sequencing-same 0 v (delay-at os 0), rest) }
+  added-same (v ∷ vs) = let rest = added-same vs .same in record { same = rw (sequencing-same 0 v (least-at os 0) (delay-at os 0), rest) }
 
   completed-same : (n : ℕ) (ls : List Link) → ((l : Link) → List·Memᴰ l ls → NoGap l) → Same (completed n (constraints ls))
   unfolding completed
   completed-same n ls none = both-same (records-same ls none) (added-same (loose-steps n (constraints ls)))
 
   -- Each gains a number of two bytes at most.
-  sequencing-few : (i j : ℕ) (x : Delay) → ((ticks : ℕ) → x ≡ Fixed ticks → ticks ≤ most-ticks) → gapless-sequencing x i j .gain ≤ most-ticks
+  sequencing-few : (i j l : ℕ) (x : Delay) → ((ticks : ℕ) → x ≡ Fixed ticks → ticks ≤ most-ticks) → l ≤ most-ticks → gapless-sequencing x l i j .gain ≤ most-ticks
   unfolding gapless-sequencing
-  sequencing-few i j Open h = omega arith
-  sequencing-few i j (Fixed x) h = h x refl
+  sequencing-few i j l Open h few = few
+  sequencing-few i j l (Fixed x) h few = h x refl
 
-  finish-few : (i j u : ℕ) (x : Delay) → finish-edge x i j u .gain ≤ most-ticks
+  finish-few : (i j u l : ℕ) (x : Delay) → finish-edge x l i j u .gain ≤ most-ticks
   unfolding finish-edge
-  finish-few i j u Open = omega arith
-  finish-few i j u (Fixed x) = omega arith
+  finish-few i j u l Open = omega arith
+  finish-few i j u l (Fixed x) = omega arith
 
-  link-few : ((i x : ℕ) → delay-at os i ≡ Fixed x → x ≤ most-ticks) → (c : Constraint) → TicksWithin most-ticks c → gapless-edge os c .gain ≤ most-ticks
+  link-few : ((i x : ℕ) → delay-at os i ≡ Fixed x → x ≤ most-ticks) → ((i : ℕ) → least-at os i ≤ most-ticks) → (c : Constraint) → TicksWithin most-ticks c → gapless-edge os c .gain ≤ most-ticks
   unfolding gapless-edge edge-of
-  link-few h (sequencing i j g) w = sequencing-few i j (delay-at os i) (h i)
-  link-few h (minimum i j m) w = w
-  link-few h (maximum i j u) w = omega arith
-  link-few h (finish-maximum i j u) w = finish-few i j u (delay-at os i)
+  link-few h few (sequencing i j g) w = sequencing-few i j (least-at os i) (delay-at os i) (h i) (few i)
+  link-few h few (minimum i j m) w = w
+  link-few h few (maximum i j u) w = omega arith
+  link-few h few (finish-maximum i j u) w = finish-few i j u (least-at os i) (delay-at os i)
 
 -- ## Maps
 
@@ -243,12 +209,7 @@ unfolding all-below link-map gapless-map test-bit
 each-allowed = refl
 
 maps-same : (m : ℕ) → m < 256 → test-bit m 3 ≡ false → link-map m ≡ gapless-map m
-maps-same m b none = by (link-map m) (gapless-map m) (rw none at (all-below-each as-allowed 256 each-allowed m b))
-  where
-    by : (x y : Bool) → cond x y (not y) ≡ true → x ≡ y
-    by true y h = sym h
-    by false true h = h
-    by false false h = refl
+maps-same m b none = same-truth (link-map m) (gapless-map m) (rw none at (all-below-each as-allowed 256 each-allowed m b))
 
 -- ## The statement
 
@@ -267,7 +228,7 @@ module _ (s : List ℕ) (q : Records) (bytes : Bytes s) (before : gapless-read s
   unfolding gapless-edges-of
   gains e m =
       let r = Memᴰ·of-map (gapless-edge (q .steps)) (links-of q) (subst (λ (es : List Edge). members es e) edges-same m) in
-      subst (λ (x : Edge). x .gain ≤ most-ticks) (r .2) (link-few (q .steps) (fits-of sheet-is .ticks) (r .0) (sheet-link (fits-of sheet-is) (r .0) (r .1) .within))
+      subst (λ (x : Edge). x .gain ≤ most-ticks) (r .2) (link-few (q .steps) (fits-of sheet-is .ticks) (fits-of sheet-is .leasts) (r .0) (sheet-link (fits-of sheet-is) (r .0) (r .1) .within))
 
   pub as-before : AsBefore s q
   as-before = record {

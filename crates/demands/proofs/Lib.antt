@@ -16,7 +16,9 @@ pub mod Verdicts
 pub mod Foresight
 pub mod OurStarts
 pub mod Planning
+pub mod Agreeing
 pub mod Gapless
+pub mod Leastless
 pub mod Completion
 pub mod Examples
 pub mod Demands

@@ -14,11 +14,12 @@ use Rattle.definitions.specs.Links.{Edge, members}
 use Rattle.definitions.specs.Rounds.{cell}
 use Rattle.definitions.specs.Waits.{Wait, waits-for, waits-of, wait-list, wait-map, wait-maps, wait-count, wait-pair}
 use Rattle.definitions.specs.Plan.{offset, decides}
-use Rattle.definitions.specs.Answers.{count-of, edges-of, judge-records, judged}
+use Rattle.definitions.specs.Answers.{count-of, edges-of, judge-records, judged, leasts-of}
 use Rattle.definitions.specs.Output.{StartLine, lines-of, start-lines, list-records, listed}
 use Rattle.laws.proofs.Outcomes.{when-given-by}
 use Rattle.theory.proofs.Walks.{member-below}
-use Rattle.theory.proofs.DecidingSets.{decides-iff}
+use Rattle.theory.proofs.DecidingSets.{decides-member}
+use Rattle.theory.proofs.Reachability.{in-anchor-set-iff}
 use Rattle.demands.proofs.Meaning.{waits-shape, wait-of}
 use Rattle.laws.proofs.Tests.{tabulate-length}
 use Rattle.theory.specs.Graphs.{Shape}
@@ -69,29 +70,29 @@ module _ {q : Records} (fits : Fits q) where
   }
 
 -- Start lines are the pairs of a step and one that decides it, in rising order. One that decides is a member of a start set, and so a step.
-line-of : (n : ℕ) (es : List Edge) (i a : ℕ) → StartLine
-line-of n es i a = record { step = i; decider = a; ticks = offset n es a i }
+line-of : (n : ℕ) (least : ℕ → ℕ) (es : List Edge) (i a : ℕ) → StartLine
+line-of n least es i a = record { step = i; decider = a; ticks = offset n least es a i }
 
-module _ {n : ℕ} {es : List Edge} (shape : Shape n (members es)) where
-  lines-iff : (i a ticks : ℕ) → List·Memᴰ (record { step = i; decider = a; ticks = ticks }) (start-lines n es) ↔ ((i < n) × (decides n es a i ≡ true) × (ticks ≡ offset n es a i))
+module _ (least : ℕ → ℕ) {n : ℕ} {es : List Edge} (shape : Shape n (members es)) where
+  lines-iff : (i a ticks : ℕ) → List·Memᴰ (record { step = i; decider = a; ticks = ticks }) (start-lines n least es) ↔ ((i < n) × (decides n least es a i ≡ true) × (ticks ≡ offset n least es a i))
   unfolding start-lines lines-of line-of
   lines-iff i a ticks = (only, λ r. has (r .0) (r .1) (r .2))
     where
-      only : List·Memᴰ (record { step = i; decider = a; ticks = ticks }) (start-lines n es) → (i < n) × (decides n es a i ≡ true) × (ticks ≡ offset n es a i)
+      only : List·Memᴰ (record { step = i; decider = a; ticks = ticks }) (start-lines n least es) → (i < n) × (decides n least es a i ≡ true) × (ticks ≡ offset n least es a i)
       only m =
-          let r = pairs-only (line-of n es) (λ j b. decides n es b j) n m in
+          let r = pairs-only (line-of n least es) (λ j b. decides n least es b j) n m in
           let si : r .0 ≡ i = ap (λ (l : StartLine). l .step) (r .4) in
           let sa : r .1 ≡ a = ap (λ (l : StartLine). l .decider) (r .4) in
-          (omega (arith, r .2), sym (ap₂ (λ (b j : ℕ). decides n es b j) sa si) ∙ r .3, sym (ap (λ (l : StartLine). l .ticks) (r .4)) ∙ ap₂ (λ (b j : ℕ). offset n es b j) sa si)
+          (omega (arith, r .2), sym (ap₂ (λ (b j : ℕ). decides n least es b j) sa si) ∙ r .3, sym (ap (λ (l : StartLine). l .ticks) (r .4)) ∙ ap₂ (λ (b j : ℕ). offset n least es b j) sa si)
 
-      has : i < n → decides n es a i ≡ true → ticks ≡ offset n es a i → List·Memᴰ (record { step = i; decider = a; ticks = ticks }) (start-lines n es)
+      has : i < n → decides n least es a i ≡ true → ticks ≡ offset n least es a i → List·Memᴰ (record { step = i; decider = a; ticks = ticks }) (start-lines n least es)
       has b h e =
-          let inside : a < n = member-below shape b (decides-iff shape a i b .0 h .inside) in
-          Memᴰ·cast (ap (λ (t : ℕ). record { step = i; decider = a; ticks = t }) e) (pairs-has (line-of n es) (λ j b. decides n es b j) n i a b inside h)
+          let inside : a < n = member-below shape b (in-anchor-set-iff shape a i .0 (decides-member n least es a i h)) in
+          Memᴰ·cast (ap (λ (t : ℕ). record { step = i; decider = a; ticks = t }) e) (pairs-has (line-of n least es) (λ j b. decides n least es b j) n i a b inside h)
 
-  lines-rising : Rising LineBefore (start-lines n es)
+  lines-rising : Rising LineBefore (start-lines n least es)
   unfolding start-lines lines-of line-of
-  lines-rising = pairs-rising (line-of n es) (λ j b. decides n es b j) n LineBefore (λ i j k l h. h)
+  lines-rising = pairs-rising (line-of n least es) (λ j b. decides n least es b j) n LineBefore (λ i j k l h. h)
 
 pub lines-for : {s : List ℕ} {allow : Bool} {q : Records} {v : ℕ} → Fits q → Accepted s allow q v → LinesFor s allow q v
 unfolding listed list-records judged
@@ -100,6 +101,6 @@ lines-for {s} {allow} {q} {v} fits accepted =
     let judges = sym (when-given-by (λ q. judge-records q allow) (accepted .sheet .reads)) ∙ accepted .accepts in
     record {
       listing = when-given-by (λ q. list-records q allow) (accepted .sheet .reads) ∙ when-given-by (λ v. given (record { verdict = v; waits = sheet-waits q; starts = sheet-lines q })) judges;
-      lines = lines-iff shape;
-      order = lines-rising shape;
+      lines = lines-iff (leasts-of q) shape;
+      order = lines-rising (leasts-of q) shape;
     }

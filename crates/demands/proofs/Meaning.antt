@@ -9,7 +9,7 @@ use Rattle.definitions.specs.Bytes.{Records}
 use Rattle.definitions.specs.Links.{Edge, members, Forward, Walk, stop, step, Joined, After, forwards, delay-at}
 use Rattle.definitions.specs.Rounds.{reaches}
 use Rattle.definitions.specs.Anchors.{InAnchorSet, is-source, chain}
-use Rattle.definitions.specs.Answers.{closes-circle, count-of, edges-of, serialized-of}
+use Rattle.definitions.specs.Answers.{closes-circle, count-of, edges-of, serialized-of, leasts-of}
 use Rattle.definitions.specs.declared.Delay.the-variants.{Open}
 use Rattle.laws.proofs.Tests.{any-has, any-by}
 use Rattle.theory.specs.Graphs.{Shape}
@@ -75,7 +75,7 @@ wait-of {q} fits w m =
 module _ {q : Records} (fits : Fits q) where
   pub waits-shape : Shape (count-of q) (members (serialized-of q))
   unfolding serialized-of
-  waits-shape = serialized-shape (sheet-shape fits)
+  waits-shape = serialized-shape (sheet-shape fits) (leasts-of q)
 
   -- A member of a start set is step 0 or open, waits or not: a walk over waits stands for one of the sheet as sent.
   member-open : {a v : ℕ} → InAnchorSet (members (serialized-of q)) a v → (a ≡ 0) ⊎ (delay-at (q .steps) a ≡ Open)

@@ -13,16 +13,19 @@ use borrow.Author.Tests.{ltb-true, leb-true, eqb-true, eqb-false, not-true}
 use Rattle.definitions.specs.Limits.{most-steps, most-records, most-ticks}
 use Rattle.definitions.specs.Basics.{test-bit, Outcome, given, refused, when-given}
 use Rattle.definitions.specs.Bytes.{Taken, Parser, _>>=_, give, demand, byte, two-bytes, ticks-if, operation-map, delay-from, operation, link-map, sequenced, endpoints, rises, bound-from, link, records, operations, pair-of, links, at-end, Records, sheet, read, blank-operation}
-use Rattle.definitions.specs.Links.{delay-at}
+use Rattle.definitions.specs.Links.{delay-at, least-at, least-with, ticks-said}
+use Rattle.definitions.specs.declared.Delay.{Delay}
 use Rattle.definitions.specs.declared.Delay.the-variants.{Open, Fixed}
 use Rattle.definitions.specs.declared.Operation.{Operation}
-use Rattle.definitions.specs.declared.Bound.the-variants.{Ticks}
+use Rattle.definitions.specs.declared.Bound.{Bound}
+use Rattle.definitions.specs.declared.Bound.the-variants.{Absent, Ticks}
 use Rattle.definitions.specs.declared.Link.{Link}
 use Rattle.definitions.specs.declared.Previous.{Previous}
 use Rattle.definitions.specs.declared.Previous.the-variants.{Nothing}
 use Rattle.laws.proofs.Bools.{and-split}
 use Rattle.laws.proofs.Lists.{mem-at}
 use Rattle.laws.proofs.Outcomes.{given-same, given-not-refused, refused-same, when-given-has}
+use Rattle.theory.proofs.DelayLimits.{least-past}
 use Rattle.demands.specs.Demands.{Bytes, FromReading, IsSheet}
 
 -- Whatever a parser takes from bytes has the property P, and bytes are left; whatever it refuses with is a refusal of reading.
@@ -73,10 +76,16 @@ unfolding ticks-if
 takes-ticks true = takes-two-bytes
 takes-ticks false = takes-give 0 (omega arith)
 
--- A step record: the first one is open, and a fixed duration is of two bytes.
+bound-fits : (b : Bool) (ticks x : ℕ) → ticks ≤ most-ticks → bound-from b ticks ≡ Ticks x → x ≤ most-ticks
+unfolding bound-from
+bound-fits true ticks x h e = let z : ticks ≡ x = cc in omega arith
+bound-fits false ticks x h e = let z : _≡_ {A = ℕ} 0 1 = cc in absurd (omega arith)
+
+-- A step record: the first one is open, and a fixed or least duration is of two bytes.
 pub record OperationFits (first : Bool) (o : Operation) : Type 0 where
   pub source : first ≡ true → o .delay ≡ Open
   pub ticks : (x : ℕ) → o .delay ≡ Fixed x → x ≤ most-ticks
+  pub least-few : (x : ℕ) → o .least ≡ Ticks x → x ≤ most-ticks
 
 delay-fits : (b : Bool) (ticks x : ℕ) → ticks ≤ most-ticks → delay-from b ticks ≡ Fixed x → x ≤ most-ticks
 unfolding delay-from
@@ -94,7 +103,11 @@ takes-operation first =
     takes-bind takes-byte
     (λ m bm. takes-bind (takes-demand (operation-map first m) 4 (inl (omega arith)))
     (λ u allowed. takes-bind (takes-ticks (test-bit m 1))
-    (λ ticks few. takes-give (record { delay = delay-from (test-bit m 0) ticks }) (record { source = source-open first m ticks allowed; ticks = λ x e. delay-fits (test-bit m 0) ticks x few e }))))
+    (λ ticks few. takes-bind (takes-ticks (test-bit m 2))
+    (λ least few-least.
+    takes-give
+    (record { delay = delay-from (test-bit m 0) ticks; least = bound-from (test-bit m 2) least })
+    (record { source = source-open first m ticks allowed; ticks = λ x e. delay-fits (test-bit m 0) ticks x few e; least-few = λ x e. bound-fits (test-bit m 2) least x few-least e })))))
 
 -- A link record: both ends are steps, and differ; its ticks are of two bytes.
 pub record LinkFits (n : ℕ) (l : Link) : Type 0 where
@@ -105,11 +118,6 @@ pub record LinkFits (n : ℕ) (l : Link) : Type 0 where
   pub maximum-few : (u : ℕ) → l .maximum ≡ Ticks u → u ≤ most-ticks
   pub gap-few : (g : ℕ) → l .gap ≡ Ticks g → g ≤ most-ticks
   pub latest-few : (u : ℕ) → l .latest ≡ Ticks u → u ≤ most-ticks
-
-bound-fits : (b : Bool) (ticks x : ℕ) → ticks ≤ most-ticks → bound-from b ticks ≡ Ticks x → x ≤ most-ticks
-unfolding bound-from
-bound-fits true ticks x h e = let z : ticks ≡ x = cc in omega arith
-bound-fits false ticks x h e = let z : _≡_ {A = ℕ} 0 1 = cc in absurd (omega arith)
 
 endpoints-fit : (n i j : ℕ) → endpoints n i j ≡ true → (i < n) × (j < n) × (i ≢ j)
 unfolding endpoints
@@ -164,6 +172,7 @@ pub record Fits (q : Records) : Type 0 where
   pub few : length (q .steps) ≤ most-steps
   pub source : delay-at (q .steps) 0 ≡ Open
   pub ticks : (i x : ℕ) → delay-at (q .steps) i ≡ Fixed x → x ≤ most-ticks
+  pub leasts : (i : ℕ) → least-at (q .steps) i ≤ most-ticks
   pub links : (l : Link) → List·Memᴰ l (q .pairs) → LinkFits (length (q .steps)) l
 
 first-open : (os : List Operation) → 1 ≤ length os → Row OperationFits (λ o. false) true os → delay-at os 0 ≡ Open
@@ -184,6 +193,22 @@ each-few os r i x e = go (decLt i (length os))
         let none : 0 ≡ x = cc in
         omega arith
 
+-- A least is 0 or what its field says.
+least-within : (i : ℕ) (x : Delay) (b : Bound) → ((t : ℕ) → b ≡ Ticks t → t ≤ most-ticks) → least-with i x b ≤ most-ticks
+unfolding least-with ticks-said
+least-within zero Open b h = omega arith
+least-within (suc i) Open Absent h = omega arith
+least-within (suc i) Open (Ticks t) h = h t refl
+least-within zero (Fixed x) b h = omega arith
+least-within (suc i) (Fixed x) b h = omega arith
+
+each-least : (os : List Operation) → Row OperationFits (λ o. false) true os → (i : ℕ) → least-at os i ≤ most-ticks
+each-least os r i = go (decLt i (length os))
+  where
+    go : Dec (i < length os) → least-at os i ≤ most-ticks
+    go (yes h) = unfold least-at in least-within i (delay-at os i) (getD os i blank-operation .least) (row-each OperationFits (λ o. false) (λ o. (x : ℕ) → o .least ≡ Ticks x → x ≤ most-ticks) (λ state o f. f .least-few) true os r (getD os i blank-operation) (mem-at os i blank-operation h))
+    go (no h) = omega (arith, least-past os i (omega arith))
+
 -- n step records, and r link records.
 abbrev StepRow : ℕ → List Operation → Type 0
 StepRow n os = (length os ≡ n) × Row OperationFits (λ o. false) true os
@@ -195,7 +220,7 @@ pub takes-operations : (n : ℕ) → Takes (operations n) (StepRow n)
 unfolding operations
 takes-operations n = takes-records OperationFits (λ o. false) operation takes-operation n true
 
-takes-links : (n r : ℕ) → Takes (links n r) (LinkRow n r)
+pub takes-links : (n r : ℕ) → Takes (links n r) (LinkRow n r)
 unfolding links
 takes-links n r = takes-records (λ previous. LinkFits n) pair-of (link n) (takes-link n) r Nothing
 
@@ -218,7 +243,7 @@ fits-by n r os ls hn hr O L =
     let high = leb-true n most-steps (c .1) in
     let most = leb-true r most-records hr in
     let links-fit = row-each (λ previous. LinkFits n) pair-of (LinkFits n) (λ state x h. h) Nothing ls (L .1) in
-    record { some = omega (arith, O .0); few = omega (arith, O .0); source = first-open os (omega (arith, O .0)) (O .1); ticks = each-few os (O .1); links = λ l m. rw (O .0) (links-fit l m) }
+    record { some = omega (arith, O .0); few = omega (arith, O .0); source = first-open os (omega (arith, O .0)) (O .1); ticks = each-few os (O .1); leasts = each-least os (O .1); links = λ l m. rw (O .0) (links-fit l m) }
 
 takes-sheet : Takes sheet Fits
 unfolding sheet

@@ -59,20 +59,20 @@ module _ {n : ℕ} {es : List Edge} (some : 0 < n) (shape : Shape n (members es)
   passes-well entered P = not-10-11 (acyclic-rooted entered (P .no-circle)) (P .feasible) (P .consistent)
 
 -- Not 28: the waits can be put in.
-module _ {n : ℕ} {es : List Edge} (some : 0 < n) (shape : Shape n (members es)) (rooted : Rooted n (members es)) where
-  pub serialized-rooted : Rooted n (members (serialized n es))
+module _ (least : ℕ → ℕ) {n : ℕ} {es : List Edge} (some : 0 < n) (shape : Shape n (members es)) (rooted : Rooted n (members es)) where
+  pub serialized-rooted : Rooted n (members (serialized n least es))
   serialized-rooted = waited-rooted (serialized-waited shape) rooted
 
-  pub serializable-iff : (unserializable n es ≡ false) ↔ Serializable (members (serialized n es))
+  pub serializable-iff : (unserializable n least es ≡ false) ↔ Serializable (members (serialized n least es))
   unfolding unserializable
   serializable-iff =
-      let both = or-neither (closes-circle n (serialized n es)) (infeasible n (serialized n es)) in
-      let c = circle-free some (serialized-shape shape) in
-      let f = feasible-iff some (serialized-shape shape) serialized-rooted in
+      let both = or-neither (closes-circle n (serialized n least es)) (infeasible n (serialized n least es)) in
+      let c = circle-free some (serialized-shape shape least) in
+      let f = feasible-iff some (serialized-shape shape least) serialized-rooted in
       (λ h. let r = both .0 h in record { acyclic = c .0 (r .0); never = f .0 (r .1) }, λ s. both .1 (c .1 (s .acyclic), f .1 (s .never)))
 
 -- Where no waits are needed they can be put in: the sheet is as sent.
-pub unneeded-serializable : {n : ℕ} {es : List Edge} → Well n (members es) → ForwardAcyclic (members es) → needs-waits n es ≡ false → unserializable n es ≡ false
-unneeded-serializable well once none =
-    serializable-iff (well .some) (well .shape) (well .rooted) .1
-    (subst (λ (l : List Edge). Serializable (members l)) (sym (serialized-none (well .shape) none)) (record { acyclic = once; never = well .never }))
+pub unneeded-serializable : (least : ℕ → ℕ) {n : ℕ} {es : List Edge} → Well n (members es) → ForwardAcyclic (members es) → needs-waits n es ≡ false → unserializable n least es ≡ false
+unneeded-serializable least well once none =
+    serializable-iff least (well .some) (well .shape) (well .rooted) .1
+    (subst (λ (l : List Edge). Serializable (members l)) (sym (serialized-none (well .shape) least none)) (record { acyclic = once; never = well .never }))

@@ -8,9 +8,9 @@ use native.Mathlib.Omega.{arith}
 use borrow.Author.Tests.{not-true}
 use Rattle.definitions.specs.Basics.{refused}
 use Rattle.definitions.specs.Bytes.{Records}
-use Rattle.definitions.specs.Links.{Edge, KeepsAll, members}
+use Rattle.definitions.specs.Links.{Edge, KeepsAll, Respects, edges, members}
 use Rattle.definitions.specs.Waits.{needs-waits, serialized}
-use Rattle.definitions.specs.Answers.{closes-circle, infeasible, unserializable, judged, judge-edges, count-of, edges-of, serialized-of}
+use Rattle.definitions.specs.Answers.{closes-circle, infeasible, unserializable, judged, judge-edges, count-of, leasts-of, edges-of, serialized-of}
 use Rattle.laws.proofs.Bools.{and-split, and-join, not-passing, both-ways, or-left, or-right, or-split}
 use Rattle.laws.proofs.Negations.{fails-unless, passes-unless}
 use Rattle.laws.proofs.Outcomes.{refused-same}
@@ -23,6 +23,7 @@ use Rattle.demands.proofs.Judging.{Passes, judge-8, judge-12, judge-28,
 use Rattle.demands.proofs.Meaning.{meant-for, waits-shape}
 use Rattle.demands.proofs.Sheets.{is-10, not-8, passes-well, serialized-rooted, unneeded-serializable}
 use Rattle.demands.proofs.Formed.{formed-rooted, judged-10, judged-11, not-judged-10, not-judged-11}
+use Rattle.demands.proofs.DelayLists.{least-durations, least-extras}
 use Rattle.demands.proofs.Impossibility.{impossible-for}
 use Rattle.demands.proofs.OurStarts.{edges-with-waits}
 
@@ -30,13 +31,16 @@ module _ (s : List ℕ) (allow : Bool) (q : Records) (sheet : IsSheet s q) where
   abbrev n : ℕ
   n = count-of q
 
+  abbrev ls : ℕ → ℕ
+  ls = leasts-of q
+
   abbrev es : List Edge
   es = edges-of q
 
   fits : Fits q
   fits = fits-of sheet
 
-  on-edges : judged s allow ≡ judge-edges n es allow
+  on-edges : judged s allow ≡ judge-edges n ls es allow
   on-edges = judged-edges s (sheet .reads) allow
 
   circled : (closes-circle n es ≡ true) ↔ Circle q
@@ -71,57 +75,63 @@ module _ (s : List ℕ) (allow : Bool) (q : Records) (sheet : IsSheet s q) where
   needed = passes-unless (needs-waits n es) unneeded
 
   -- What is refused with another number than 8 is well-formed.
-  formed-by : {k : ℕ} → 8 ≢ k → judge-edges n es allow ≡ refused k → closes-circle n es ≡ false
-  formed-by {k} not-8 h = not-passing (closes-circle n es) (λ t. not-8 (refused-same (sym (judge-8 n es allow .1 t) ∙ h)))
+  formed-by : {k : ℕ} → 8 ≢ k → judge-edges n ls es allow ≡ refused k → closes-circle n es ≡ false
+  formed-by {k} not-8 h = not-passing (closes-circle n es) (λ t. not-8 (refused-same (sym (judge-8 n ls es allow .1 t) ∙ h)))
 
   pub refused-formed : {k : ℕ} → 8 ≢ k → judged s allow ≡ refused k → WellFormed s q
   refused-formed a h = record { sheet = sheet; no-circle = formed-by a (sym on-edges ∙ h) }
 
   -- 28: by the tests of circles and of 10, on the sheet with its waits.
-  clash-iff : WellFormed s q → (unserializable n es ≡ true) ↔ WaitsClash q
+  clash-iff : WellFormed s q → (unserializable n ls es ≡ true) ↔ WaitsClash q
   unfolding unserializable serialized-of
-  clash-iff f = (λ h. found (or-split (closes-circle n (serialized n es)) (infeasible n (serialized n es)) h), test)
+  clash-iff f = (λ h. found (or-split (closes-circle n (serialized n ls es)) (infeasible n (serialized n ls es)) h), test)
     where
-      ten : (infeasible n (serialized n es) ≡ true) ↔ ((t : ℕ → ℕ) → ¬ Schedule (members (serialized n es)) (λ a. 0) t)
-      ten = is-10 (fits .some) (waits-shape fits) (serialized-rooted (fits .some) (sheet-shape fits) (formed-rooted f))
+      ten : (infeasible n (serialized n ls es) ≡ true) ↔ ((t : ℕ → ℕ) → ¬ Schedule (members (serialized n ls es)) (λ a. 0) t)
+      ten = is-10 (fits .some) (waits-shape fits) (serialized-rooted ls (fits .some) (sheet-shape fits) (formed-rooted f))
 
-      kept : (t : ℕ → ℕ) → KeepsAll (q .steps) (links-and-waits q) (λ a. 0) t ↔ Schedule (members (serialized n es)) (λ a. 0) t
+      respects : Respects (q .steps) ls
+      respects = least-durations q .respects
+
+      kept : (t : ℕ → ℕ) → KeepsAll (q .steps) (links-and-waits q) ls t ↔ Schedule (members (serialized n ls es)) (λ a. 0) t
       kept t =
           subst
-          (λ (l : List Edge). KeepsAll (q .steps) (links-and-waits q) (λ a. 0) t ↔ Schedule (members l) (λ a. 0) t)
+          (λ (l : List Edge). KeepsAll (q .steps) (links-and-waits q) ls t ↔ Schedule (members l) (λ a. 0) t)
           (edges-with-waits fits)
-          (keeps-schedule (q .steps) (λ a. 0) t (links-and-waits q), schedule-keeps (q .steps) (λ a. 0) t (links-and-waits q))
+          (subst
+          (λ (x : ℕ → ℕ). KeepsAll (q .steps) (links-and-waits q) ls t ↔ Schedule (members (edges (q .steps) (links-and-waits q))) x t)
+          (least-extras q)
+          (keeps-schedule (q .steps) ls t respects (links-and-waits q), schedule-keeps (q .steps) ls t respects (links-and-waits q)))
 
-      around : (closes-circle n (serialized n es) ≡ true) ↔ ForwardCircle (serialized n es)
+      around : (closes-circle n (serialized n ls es) ≡ true) ↔ ForwardCircle (serialized n ls es)
       around = meant-for fits .with-waits .circle
 
-      found : (closes-circle n (serialized n es) ≡ true) ⊎ (infeasible n (serialized n es) ≡ true) → WaitsClash q
+      found : (closes-circle n (serialized n ls es) ≡ true) ⊎ (infeasible n (serialized n ls es) ≡ true) → WaitsClash q
       found (inl h) = circle (around .0 h)
       found (inr h) = no-times (λ t k. ten .0 h t (kept t .0 k))
 
-      test : WaitsClash q → (closes-circle n (serialized n es) || infeasible n (serialized n es)) ≡ true
-      test (circle r) = or-left (infeasible n (serialized n es)) (around .1 r)
-      test (no-times none) = or-right (closes-circle n (serialized n es)) (ten .1 (λ t k. none t (kept t .1 k)))
+      test : WaitsClash q → (closes-circle n (serialized n ls es) || infeasible n (serialized n ls es)) ≡ true
+      test (circle r) = or-left (infeasible n (serialized n ls es)) (around .1 r)
+      test (no-times none) = or-right (closes-circle n (serialized n ls es)) (ten .1 (λ t k. none t (kept t .1 k)))
 
-  twenty-eight : (judge-edges n es allow ≡ refused 28) ↔ (Passes n es × (unserializable n es ≡ true))
+  twenty-eight : (judge-edges n ls es allow ≡ refused 28) ↔ (Passes n es × (unserializable n ls es ≡ true))
   twenty-eight = (
     λ h. let f = formed-by (λ e. omega arith) h in
-        let r = judge-28 n es allow f .0 h in
+        let r = judge-28 n ls es allow f .0 h in
         (record { no-circle = f; feasible = r .0; consistent = r .1 }, r .2),
-    λ r. judge-28 n es allow (r .0 .no-circle) .1 (r .0 .feasible, r .0 .consistent, r .1),
+    λ r. judge-28 n ls es allow (r .0 .no-circle) .1 (r .0 .feasible, r .0 .consistent, r .1),
   )
 
   -- A sheet that needs no waits passes 28.
-  unneeded-passes : Passes n es → needs-waits n es ≡ false → unserializable n es ≡ false
-  unneeded-passes P h = unneeded-serializable (passes-well (fits .some) (sheet-shape fits) (sheet-entered fits) P) (not-8 (fits .some) (sheet-shape fits) (P .no-circle)) h
+  unneeded-passes : Passes n es → needs-waits n es ≡ false → unserializable n ls es ≡ false
+  unneeded-passes P h = unneeded-serializable ls (passes-well (fits .some) (sheet-shape fits) (sheet-entered fits) P) (not-8 (fits .some) (sheet-shape fits) (P .no-circle)) h
 
-  twelve : (judge-edges n es allow ≡ refused 12) ↔ (Passes n es × (unserializable n es ≡ false) × (needs-waits n es ≡ true) × (allow ≡ false))
+  twelve : (judge-edges n ls es allow ≡ refused 12) ↔ (Passes n es × (unserializable n ls es ≡ false) × (needs-waits n es ≡ true) × (allow ≡ false))
   twelve = (
     λ h. let f = formed-by (λ e. omega arith) h in
-        let r = judge-12 n es allow f .0 h in
+        let r = judge-12 n ls es allow f .0 h in
         let w = and-split (needs-waits n es) (not allow) (r .3) in
         (record { no-circle = f; feasible = r .0; consistent = r .1 }, r .2, w .0, not-true allow (w .1)),
-    λ r. judge-12 n es allow (r .0 .no-circle) .1 (r .0 .feasible, r .0 .consistent, r .1, and-join (r .2) (ap not (r .3))),
+    λ r. judge-12 n ls es allow (r .0 .no-circle) .1 (r .0 .feasible, r .0 .consistent, r .1, and-join (r .2) (ap not (r .3))),
   )
 
   verdict-bool : (b a : Bool) → (((b && not a) ≡ false) × (cond {A = ℕ} b 1 0 ≡ 1)) ↔ ((b ≡ true) × (a ≡ true))
@@ -135,13 +145,13 @@ module _ (s : List ℕ) (allow : Bool) (q : Records) (sheet : IsSheet s q) where
 
   pub judged-for : JudgedFor s allow q
   judged-for =
-      let given-0 = judge-given n es allow 0 in
-      let given-1 = judge-given n es allow 1 in
+      let given-0 = judge-given n ls es allow 0 in
+      let given-1 = judge-given n ls es allow 1 in
       let none = verdict-none (needs-waits n es) allow in
       let some = verdict-bool (needs-waits n es) allow in
       record {
-        refused-8 = (λ h. circled .0 (judge-8 n es allow .0 (sym on-edges ∙ h)), λ x. on-edges ∙ judge-8 n es allow .1 (circled .1 x));
-        never-9 = λ h. judge-never-9 n es allow (sym on-edges ∙ h);
+        refused-8 = (λ h. circled .0 (judge-8 n ls es allow .0 (sym on-edges ∙ h)), λ x. on-edges ∙ judge-8 n ls es allow .1 (circled .1 x));
+        never-9 = λ h. judge-never-9 n ls es allow (sym on-edges ∙ h);
         reached = λ none. formed-rooted (formed-iff .1 none);
         well-formed = formed-iff;
         refused-28 = (
@@ -162,5 +172,5 @@ module _ (s : List ℕ) (allow : Bool) (q : Records) (sheet : IsSheet s q) where
         );
       }
     where
-      clear : WellFormed s q → (unserializable n es ≡ false) ↔ (¬ WaitsClash q)
-      clear f = fails-unless (unserializable n es) (clash-iff f)
+      clear : WellFormed s q → (unserializable n ls es ≡ false) ↔ (¬ WaitsClash q)
+      clear f = fails-unless (unserializable n ls es) (clash-iff f)

@@ -7,32 +7,34 @@
 -- L11. On sheets with a limit from the finish of an open step, nobody without foresight is earlier; refused 28 exactly if, not being 10 or 11, there is no such rival.
 -- L1. All this holds of after links with a gap, and sheets without one plan as before.
 -- L3. All this is read on the completed sheet; 9 never occurs, and sheets on which nothing is added plan as before.
+-- L6. All this is said of the durations that respect the leasts, and sheets without one plan as before.
 --
 -- Words that are not defined here are those of the crate definitions, in the words of document 01: Bytes, Links, Anchors, Waits, Plan, Rival, Answers, to be read in this order. Quoted sentences are
--- document 01's, and document 02's where they speak of requests L11, L1 and L3.
--- Start times and durations are functions from steps to whole numbers, with no largest one: a hand may take any time at all. Lists of durations are a case of them.
+-- document 01's, and document 02's where they speak of requests L11, L1, L3 and L6.
+-- Start times and durations are functions from steps to whole numbers, with no largest one: a hand may take any time at all that is not below its least. Lists of durations are a case of them.
 use mathlib.Core.Path.{_≡_}
 use mathlib.Core.Bool.{Bool, true, false, cond}
 use mathlib.Core.Logic.{_⊎_, _≢_, _↔_}
 use mathlib.Core.List.{List, [], _∷_, _++_, map, List·Memᴰ}
-use Prim.Native.Nat.{ℕ, suc, _+_, _*_, _^_, _≤_, _<_}
+use Prim.Native.Nat.{ℕ, suc, _+_, _-_, _*_, _^_, _≤_, _<_}
 use lib.ListN.{length, getD, take, drop, replicate}
 use Rattle.definitions.specs.Limits.{most-steps, most-duration, most-offset, most-gapless-offset, most-start, longest-sheet}
 use Rattle.definitions.specs.Basics.{largest, test-bit, given, refused}
-use Rattle.definitions.specs.Bytes.{Records, link-map, read}
-use Rattle.definitions.specs.Links.{Constraint, sequencing, finish-maximum, constraints, links-of, delay-at, Keeps, KeepsAll, Edge, Graph, members, Forward, Walk, Joined, After, UsableFrom, usable}
+use Rattle.definitions.specs.Bytes.{Records, operation-map, link-map, read}
+use Rattle.definitions.specs.Links.{Constraint, sequencing, finish-maximum, constraints, links-of, delay-at, Respects, no-leasts, Keeps, KeepsAll, Edge, Graph, members, Forward, Walk, Joined, After, UsableFrom, usable}
 use Rattle.definitions.specs.Rounds.{cell, reaches, after-reaches}
 use Rattle.definitions.specs.Anchors.{InAnchorSet, in-anchor-set, WellPosed, well-posed}
 use Rattle.definitions.specs.Waits.{Wait, WaitPair, wait-list, wait-maps, wait-count, wait-pair}
-use Rattle.definitions.specs.Plan.{Offset, offset, start-times, decides, plan-row, plan-table, row-part, undecided, delays-wrong, delays}
+use Rattle.definitions.specs.Plan.{Offset, offset, start-times, overrides, decides, plan-row, plan-table, row-part, undecided, delay-wrong, delays-wrong, delays}
 use Rattle.definitions.specs.Rival.{Extension, Lasts, DelayAssignment, DynamicStrategy}
-use Rattle.definitions.specs.Answers.{closes-circle, count-of, edges-of, serialized-of, judge-edges, judged, waits-answer, planned, starts-answer}
+use Rattle.definitions.specs.Answers.{closes-circle, count-of, leasts-of, edges-of, serialized-of, judge-edges, judged, waits-answer, planned, starts-answer, beginning, steps-answer}
 use Rattle.definitions.specs.Output.{StartLine, start-lines, listed, standplan}
 use Rattle.definitions.specs.Worked.{Worked, worked-sheets}
 use Rattle.definitions.specs.declared.Delay.the-variants.{Open, Fixed}
 use Rattle.theory.specs.Counts.{standing-bits}
 use Rattle.theory.specs.Graphs.{Carries, Entered, Entry, Schedule}
 use Rattle.demands.specs.Gapless.{gapless-map, gapless-read, gapless-edges-of}
+use Rattle.demands.specs.Leastless.{leastless-map, leastless-read, leastless-edges-of, leastless-serialized, leastless-offset, leastless-overrides, leastless-wrong}
 use Rattle.demands.specs.Entered.{sent-edges, judge-with-9}
 
 -- ## The words
@@ -68,9 +70,18 @@ pub record Accepted (s : List ℕ) (allow : Bool) (q : Records) (v : ℕ) : Type
 abbrev pub KeepsLinks : Records → (ℕ → ℕ) → (ℕ → ℕ) → Type 0
 KeepsLinks q d t = KeepsAll (q .steps) (links-of q) d t
 
--- The edges of a sheet ask of start times what its links do; offsets and start sets are taken over the edges. Proof: edges-meant.
+-- Durations that respect the leasts of the sheet; that of step 0 is 0. Earliest starts and impossible sheets are judged over these.
+pub record Durations (q : Records) (d : ℕ → ℕ) : Type 0 where
+  pub source : d 0 ≡ 0
+  pub respects : Respects (q .steps) d
+
+-- What each step lasts past its least: the edges hold the leasts.
+abbrev pub extras : Records → (ℕ → ℕ) → ℕ → ℕ
+extras q d a = d a - leasts-of q a
+
+-- The edges of a sheet ask of start times what its links do, for durations that respect the leasts; offsets and start sets are taken over the edges. Proof: edges-meant.
 abbrev pub EdgesMeant : Type 0
-EdgesMeant = (q : Records) (d t : ℕ → ℕ) → KeepsLinks q d t ↔ Schedule (members (edges-of q)) d t
+EdgesMeant = (q : Records) (d t : ℕ → ℕ) → Respects (q .steps) d → KeepsLinks q d t ↔ Schedule (members (edges-of q)) (extras q d) t
 
 -- The durations d leave no start times.
 abbrev pub NoStarts : Records → (ℕ → ℕ) → Type 0
@@ -81,11 +92,12 @@ pub record IsDelayList (q : Records) (list : List ℕ) : Type 0 where
   pub size : length list ≡ count-of q
   pub within : delays-wrong (q .steps) list ≡ false
 
--- What the test for refusal 13 says: document 01's words. An entry that is not there counts as 0. Proof: lists-meant.
+-- What the test for refusal 13 says: document 01's words, and "A list entry below it is 13." An entry that is not there counts as 0, and is not below a least. Proof: lists-meant.
 pub record WithinLimits (q : Records) (list : List ℕ) : Type 0 where
   pub most : (i : ℕ) → i < count-of q → delays list i ≤ most-duration
   pub source : delays list 0 ≡ 0
   pub fixed : (i ticks : ℕ) → i < count-of q → delay-at (q .steps) i ≡ Fixed ticks → delays list i ≡ 0
+  pub respects : (i : ℕ) → i < count-of q → i < length list → leasts-of q i ≤ delays list i
 
 abbrev pub ListsMeant : Type 0
 ListsMeant = (s : List ℕ) (q : Records) → IsSheet s q → (list : List ℕ) → (delays-wrong (q .steps) list ≡ false) ↔ WithinLimits q list
@@ -101,13 +113,13 @@ abbrev pub in-start-set : Records → ℕ → ℕ → Bool
 in-start-set q a v = in-anchor-set (count-of q) (serialized-of q) a v
 
 abbrev pub sheet-offset : Records → ℕ → ℕ → ℕ
-sheet-offset q a v = offset (count-of q) (serialized-of q) a v
+sheet-offset q a v = offset (count-of q) (leasts-of q) (serialized-of q) a v
 
 abbrev pub sheet-decides : Records → ℕ → ℕ → Bool
-sheet-decides q a v = decides (count-of q) (serialized-of q) a v
+sheet-decides q a v = decides (count-of q) (leasts-of q) (serialized-of q) a v
 
 abbrev pub our-start : Records → (ℕ → ℕ) → ℕ → ℕ
-our-start q d v = cell (start-times (count-of q) (serialized-of q) d) v
+our-start q d v = cell (start-times (count-of q) (leasts-of q) (serialized-of q) d) v
 
 -- start(a) + duration(a) + offset of v for a.
 abbrev pub term : Records → (ℕ → ℕ) → ℕ → ℕ → ℕ
@@ -130,13 +142,13 @@ NoLateLinks q = (i j u : ℕ) → List·Memᴰ (finish-maximum i j u) (links-of 
 
 -- ## Demand 3
 
--- "10. With all open durations 0, no start times keep every link. 11. Not 10, yet some list of durations leaves none." "Impossible means 10 or 11."
--- And where a sheet is not impossible, all durations leave start times, those past a list's limit too. Proof: impossible-exactly.
+-- "10. With all open durations 0, no start times keep every link. 11. Not 10, yet some list of durations leaves none." "Impossible means 10 or 11." "Where the papers take open durations as 0,
+-- they now take the least". And where a sheet is not impossible, all durations that respect the leasts leave start times, those past a list's limit too. Proof: impossible-exactly.
 pub record ImpossibleFor (s : List ℕ) (allow : Bool) (q : Records) : Type 0 where
-  pub refused-10 : (judged s allow ≡ refused 10) ↔ NoStarts q (λ a. 0)
+  pub refused-10 : (judged s allow ≡ refused 10) ↔ NoStarts q (leasts-of q)
   pub refused-11 : (judged s allow ≡ refused 11) ↔ ((judged s allow ≢ refused 10) × SomeListLeavesNone q)
   pub impossible : ((judged s allow ≡ refused 10) ⊎ (judged s allow ≡ refused 11)) ↔ SomeListLeavesNone q
-  pub otherwise : judged s allow ≢ refused 10 → judged s allow ≢ refused 11 → (d : ℕ → ℕ) → d 0 ≡ 0 → (t : ℕ → ℕ) × KeepsLinks q d t
+  pub otherwise : judged s allow ≢ refused 10 → judged s allow ≢ refused 11 → (d : ℕ → ℕ) → Durations q d → (t : ℕ → ℕ) × KeepsLinks q d t
 
 abbrev pub ImpossibleExactly : Type 0
 ImpossibleExactly = (s : List ℕ) (allow : Bool) (q : Records) → WellFormed s q → ImpossibleFor s allow q
@@ -163,7 +175,7 @@ Sound q = WellPosed (members (edges-of q))
 
 pub data WaitsClash (q : Records) : Type 0 where
   circle : ForwardCircle (serialized-of q) → WaitsClash q
-  no-times : ((t : ℕ → ℕ) → ¬ KeepsAll (q .steps) (links-and-waits q) (λ a. 0) t) → WaitsClash q
+  no-times : ((t : ℕ → ℕ) → ¬ KeepsAll (q .steps) (links-and-waits q) (leasts-of q) t) → WaitsClash q
 
 pub record JudgedFor (s : List ℕ) (allow : Bool) (q : Records) : Type 0 where
   pub refused-8 : (judged s allow ≡ refused 8) ↔ Circle q
@@ -211,14 +223,14 @@ pub record WaitsCall (s : List ℕ) (q : Records) : Type 0 where
 pub record PlanCall (s : List ℕ) (allow : Bool) (q : Records) (table : List ℕ) : Type 0 where
   pub refused-14 : (planned s allow table .verdict ≡ refused 14) ↔ (IsAccepted s allow × (length table < count-of q * count-of q))
   pub accepted : (v : ℕ) → (planned s allow table .verdict ≡ given v) ↔ ((judged s allow ≡ given v) × (count-of q * count-of q ≤ length table))
-  pub numbers : (v : ℕ) → planned s allow table .verdict ≡ given v → planned s allow table .numbers ≡ plan-table (count-of q) (serialized-of q) ++ drop (count-of q * count-of q) table
+  pub numbers : (v : ℕ) → planned s allow table .verdict ≡ given v → planned s allow table .numbers ≡ plan-table (count-of q) (leasts-of q) (serialized-of q) ++ drop (count-of q * count-of q) table
   pub untouched : (k : ℕ) → planned s allow table .verdict ≡ refused k → planned s allow table .numbers ≡ table
 
 pub record StartsCall (s : List ℕ) (allow : Bool) (q : Records) (list out : List ℕ) : Type 0 where
   pub refused-13 : (starts-answer s allow list out .verdict ≡ refused 13) ↔ (IsAccepted s allow × (¬ WithinLimits q list))
   pub refused-14 : (starts-answer s allow list out .verdict ≡ refused 14) ↔ (IsAccepted s allow × WithinLimits q list × ((length list < count-of q) ⊎ (length out < count-of q)))
   pub accepted : (v : ℕ) → (starts-answer s allow list out .verdict ≡ given v) ↔ ((judged s allow ≡ given v) × WithinLimits q list × (count-of q ≤ length list) × (count-of q ≤ length out))
-  pub numbers : (v : ℕ) → starts-answer s allow list out .verdict ≡ given v → starts-answer s allow list out .numbers ≡ start-times (count-of q) (serialized-of q) (delays list) ++ drop (count-of q) out
+  pub numbers : (v : ℕ) → starts-answer s allow list out .verdict ≡ given v → starts-answer s allow list out .numbers ≡ start-times (count-of q) (leasts-of q) (serialized-of q) (delays list) ++ drop (count-of q) out
   pub untouched : (k : ℕ) → starts-answer s allow list out .verdict ≡ refused k → starts-answer s allow list out .numbers ≡ out
 
 pub record CallsFor (s : List ℕ) (allow : Bool) (q : Records) : Type 0 where
@@ -229,25 +241,32 @@ pub record CallsFor (s : List ℕ) (allow : Bool) (q : Records) : Type 0 where
 abbrev pub CallsExactly : Type 0
 CallsExactly = (s : List ℕ) (allow : Bool) (q : Records) → IsSheet s q → CallsFor s allow q
 
+-- What a run of a sheet is begun with: refused as reading refuses, then 14 where fewer than N numbers are lent for the leasts; else N, the map of the open steps and the leasts are given, also where judging
+-- refuses the sheet. Proof: steps-exactly.
+pub record StepsExactly : Type 0 where
+  pub unread : (s lent : List ℕ) (k : ℕ) → read s ≡ refused k → steps-answer s lent ≡ refused k
+  pub short : (s lent : List ℕ) (q : Records) → read s ≡ given q → length lent < count-of q → steps-answer s lent ≡ refused 14
+  pub enough : (s lent : List ℕ) (q : Records) → read s ≡ given q → count-of q ≤ length lent → steps-answer s lent ≡ given (beginning q lent)
+
 -- "For every accepted sheet and every list our starts keep every link and wait." Proof: starts-kept.
 pub record KeptFor (q : Records) (d : ℕ → ℕ) : Type 0 where
   pub links : KeepsLinks q d (our-start q d)
   pub waits : (w : WaitPair) → List·Memᴰ w (sheet-waits q) → Keeps (q .steps) d (our-start q d) (wait-link w)
 
 abbrev pub StartsKept : Type 0
-StartsKept = (s : List ℕ) (allow : Bool) (q : Records) (v : ℕ) → Accepted s allow q v → (d : ℕ → ℕ) → d 0 ≡ 0 → KeptFor q d
+StartsKept = (s : List ℕ) (allow : Bool) (q : Records) (v : ℕ) → Accepted s allow q v → (d : ℕ → ℕ) → Durations q d → KeptFor q d
 
 -- "Nobody is earlier: not a rival who knows every duration beforehand and gives any start times that keep every link (no waits needed)." The rival's t may depend on d in any way. On sheets without
 -- late links. Proof: nobody-earlier.
 abbrev pub NobodyEarlier : Type 0
 NobodyEarlier =
-    (s : List ℕ) (allow : Bool) (q : Records) → Accepted s allow q 0 → NoLateLinks q → (d t : ℕ → ℕ) → d 0 ≡ 0 → KeepsLinks q d t → (i : ℕ) → i < count-of q → our-start q d i ≤ t i
+    (s : List ℕ) (allow : Bool) (q : Records) → Accepted s allow q 0 → NoLateLinks q → (d t : ℕ → ℕ) → Durations q d → KeepsLinks q d t → (i : ℕ) → i < count-of q → our-start q d i ≤ t i
 
 -- "Nor one who picks any sound sheet with these steps, these links and further after or at-least links, and any start times that keep it (waits added)." It holds where no waits are needed too.
 -- Proof: nobody-earlier-with-waits.
 abbrev pub NobodyEarlierWithWaits : Type 0
 NobodyEarlierWithWaits =
-    (s : List ℕ) (allow : Bool) (q : Records) (v : ℕ) → Accepted s allow q v → NoLateLinks q → (fs : List Constraint) → Extension (q .steps) (links-of q) fs → (d t : ℕ → ℕ) → d 0 ≡ 0 → KeepsAll (q .steps) fs d t → (i : ℕ) → i < count-of q → our-start q d i ≤ t i
+    (s : List ℕ) (allow : Bool) (q : Records) (v : ℕ) → Accepted s allow q v → NoLateLinks q → (fs : List Constraint) → Extension (q .steps) (links-of q) fs → (d t : ℕ → ℕ) → Durations q d → KeepsAll (q .steps) fs d t → (i : ℕ) → i < count-of q → our-start q d i ≤ t i
 
 -- The sheet with our waits put in as after links is one of these rivals' sheets, and our starts keep it. So the bound is met. Proof: ours-among-rivals.
 pub record OursAmong (q : Records) (d : ℕ → ℕ) (fs : List Constraint) : Type 0 where
@@ -256,7 +275,7 @@ pub record OursAmong (q : Records) (d : ℕ → ℕ) (fs : List Constraint) : Ty
 
 abbrev pub OursAmongRivals : Type 0
 OursAmongRivals =
-    (s : List ℕ) (allow : Bool) (q : Records) (v : ℕ) → Accepted s allow q v → (d : ℕ → ℕ) → d 0 ≡ 0 → OursAmong q d (links-and-waits q)
+    (s : List ℕ) (allow : Bool) (q : Records) (v : ℕ) → Accepted s allow q v → (d : ℕ → ℕ) → Durations q d → OursAmong q d (links-and-waits q)
 
 -- ## Request L11
 
@@ -294,7 +313,7 @@ pub record NothingNewFor (s : List ℕ) (allow : Bool) (q : Records) : Type 0 wh
   pub with-waits : (a : ℕ) → usable (serialized-of q) a ≡ serialized-of q
   pub sound : Sound q ↔ ((a : ℕ) → Carries (members (edges-of q)) a)
   pub waits : (a i : ℕ) → List·Memᴰ (wait-pair a i) (sheet-waits q) ↔ PlainWait (members (edges-of q)) a i
-  pub offsets : (v : ℕ) → judged s allow ≡ given v → (a i : ℕ) → i < count-of q → in-start-set q a i ≡ true → Offset (members (serialized-of q)) a i (sheet-offset q a i)
+  pub offsets : (v : ℕ) → judged s allow ≡ given v → (a i : ℕ) → i < count-of q → in-start-set q a i ≡ true → Offset (leasts-of q) (members (serialized-of q)) a i (sheet-offset q a i)
   pub never-28 : judged s allow ≢ refused 28
 
 abbrev pub NothingNew : Type 0
@@ -334,10 +353,30 @@ AllEntered q = Entered (count-of q) (members (sent-edges q))
 pub record NothingAdded (q : Records) : Type 0 where
   pub links : links-of q ≡ constraints (q .pairs)
   pub edges : edges-of q ≡ sent-edges q
-  pub judges : (allow : Bool) → judge-edges (count-of q) (edges-of q) allow ≡ judge-with-9 (count-of q) (sent-edges q) allow
+  pub judges : (allow : Bool) → judge-edges (count-of q) (leasts-of q) (edges-of q) allow ≡ judge-with-9 (count-of q) (leasts-of q) (sent-edges q) allow
 
 abbrev pub EnteredAsBefore : Type 0
 EnteredAsBefore = (s : List ℕ) (q : Records) → IsSheet s q → AllEntered q → NothingAdded q
+
+-- ## Request L6
+
+-- "Where the papers take open durations as 0, they now take the least". On a sheet without bit 2 every least is 0, so it means and plans what it did: its edges, its waits, its offsets, who is left
+-- out of a deciding set and which list entries are 13 are what they were, and all else is worked out from these. All durations respect its leasts, so what is promised is promised for the same ones.
+pub record LeastlessFor (q : Records) : Type 0 where
+  pub leasts : leasts-of q ≡ no-leasts
+  pub edges : edges-of q ≡ leastless-edges-of q
+  pub waits : serialized-of q ≡ leastless-serialized (count-of q) (edges-of q)
+  pub offsets : (a v : ℕ) → sheet-offset q a v ≡ leastless-offset (count-of q) (serialized-of q) a v
+  pub left-out : (a v b : ℕ) → overrides (count-of q) (leasts-of q) (serialized-of q) a v b ≡ leastless-overrides (count-of q) (serialized-of q) a v b
+  pub lists : (list : List ℕ) (i : ℕ) → delay-wrong (q .steps) list i ≡ leastless-wrong (q .steps) list i
+  pub durations : (d : ℕ → ℕ) → d 0 ≡ 0 → Durations q d
+
+-- What was read before is read as the same records, and they are as above. What was refused is refused as before, unless it was a map; and of the step maps those without bit 2 are allowed as before:
+-- "Step map bit 2, only with bit 0 and not on step 0, gives an open step a two-byte least duration." Proof: leastless-as-before.
+pub record LeastlessAsBefore : Type 0 where
+  pub sheets : (s : List ℕ) (q : Records) → Bytes s → leastless-read s ≡ given q → (read s ≡ given q) × LeastlessFor q
+  pub refusals : (s : List ℕ) (k : ℕ) → k ≢ 4 → leastless-read s ≡ refused k → read s ≡ refused k
+  pub maps : (first : Bool) (m : ℕ) → m < 256 → test-bit m 2 ≡ false → operation-map first m ≡ leastless-map first m
 
 -- ## Demand 2: the tests mean what document 01 says
 
@@ -409,10 +448,11 @@ WaitsSound = (s : List ℕ) (allow : Bool) (q : Records) (v : ℕ) → Accepted 
 
 -- ## Demand 2: offsets and starts
 
--- "Offset of v for a in its start set: the heaviest walk from a to v that begins with an after link out of a; for a = 0, the heaviest walk from 0." "A walk that counts from the end of i, for a wait or
--- an offset, never takes" i's own return from the finish. "Offsets may now reach 8,191,875". Proof: offsets-right.
+-- "Offset of v for a in its start set: the heaviest walk from a to v that begins with an after link out of a; for a = 0, the heaviest walk from 0." "A walk that counts from the end of i, for a wait
+-- or an offset, never takes" i's own return from the finish. "An offset still counts from the end of its open step, so its walk's first link adds no least." "Offsets may now reach 8,191,875".
+-- Proof: offsets-right.
 pub record OffsetFor (q : Records) (a v : ℕ) : Type 0 where
-  pub heaviest : Offset (UsableFrom (members (serialized-of q)) a) a v (sheet-offset q a v)
+  pub heaviest : Offset (leasts-of q) (UsableFrom (members (serialized-of q)) a) a v (sheet-offset q a v)
   pub small : sheet-offset q a v ≤ most-offset
 
 abbrev pub OffsetsRight : Type 0
@@ -443,17 +483,17 @@ pub record Needed (q : Records) (a v : ℕ) : Type 0 where
   pub allowed : IsDelayList q list
   pub alone : (b : ℕ) → b ≢ a → in-start-set q b v ≡ true → term q (delays list) v b < term q (delays list) v a
 
--- "Member a is left out exactly when another member b has a in its start set and offset of b for a, plus offset of v for b, reaches the offset of v for a."
+-- "Member a is left out exactly when another member b has a in its start set and offset of b for a, plus offset of v for b, reaches the offset of v for a." "(the least of b is added)".
 pub record LeftOut (q : Records) (a v b : ℕ) : Type 0 where
   pub other : b ≢ a
   pub member : in-start-set q b v ≡ true
   pub behind : in-start-set q a b ≡ true
-  pub reaches : sheet-offset q a v ≤ sheet-offset q a b + sheet-offset q b v
+  pub reaches : sheet-offset q a v ≤ sheet-offset q a b + leasts-of q b + sheet-offset q b v
 
 -- "Deciding set of v: the smallest part of the start set with the same largest value for every list of durations." For durations past a list's limit too. An open step is listed exactly if some
 -- durations need it. Proof: deciding-sets.
 pub record DecidingFor (q : Records) (v : ℕ) : Type 0 where
-  pub enough : (d : ℕ → ℕ) → d 0 ≡ 0 → our-start q d v ≡ largest (λ a. sheet-decides q a v) (term q d v) (count-of q)
+  pub enough : (d : ℕ → ℕ) → Durations q d → our-start q d v ≡ largest (λ a. sheet-decides q a v) (term q d v) (count-of q)
   pub part : GivesStart q v (λ a. sheet-decides q a v)
   pub smallest : (part : ℕ → Bool) → GivesStart q v part → (a : ℕ) → sheet-decides q a v ≡ true → part a ≡ true
   pub needed : (a : ℕ) → in-start-set q a v ≡ true → (sheet-decides q a v ≡ true) ↔ Needed q a v
@@ -465,10 +505,10 @@ DecidingSets = (s : List ℕ) (allow : Bool) (q : Records) (v : ℕ) → Accepte
 -- "A plan is a table of N by N numbers of 32 bits .. The number at v × N + a is the offset, or 4,294,967,295 where a does not decide v." No offset is that number.
 -- "Row v can be asked for: that part of the caller's table is handed back, N numbers." The table may be longer than the plan. Proof: plan-table.
 pub record PlanFor (q : Records) : Type 0 where
-  pub size : length (plan-table (count-of q) (serialized-of q)) ≡ count-of q * count-of q
-  pub entry : (v a : ℕ) → v < count-of q → a < count-of q → getD (plan-table (count-of q) (serialized-of q)) (v * count-of q + a) 0 ≡ cond (sheet-decides q a v) (sheet-offset q a v) undecided
+  pub size : length (plan-table (count-of q) (leasts-of q) (serialized-of q)) ≡ count-of q * count-of q
+  pub entry : (v a : ℕ) → v < count-of q → a < count-of q → getD (plan-table (count-of q) (leasts-of q) (serialized-of q)) (v * count-of q + a) 0 ≡ cond (sheet-decides q a v) (sheet-offset q a v) undecided
   pub apart : (v a : ℕ) → v < count-of q → sheet-decides q a v ≡ true → sheet-offset q a v < undecided
-  pub row : (v : ℕ) → v < count-of q → (rest : List ℕ) → row-part (plan-table (count-of q) (serialized-of q) ++ rest) (count-of q) v ≡ plan-row (count-of q) (serialized-of q) v
+  pub row : (v : ℕ) → v < count-of q → (rest : List ℕ) → row-part (plan-table (count-of q) (leasts-of q) (serialized-of q) ++ rest) (count-of q) v ≡ plan-row (count-of q) (leasts-of q) (serialized-of q) v
 
 abbrev pub PlanTable : Type 0
 PlanTable = (s : List ℕ) (allow : Bool) (q : Records) (v : ℕ) → Accepted s allow q v → PlanFor q
@@ -476,7 +516,7 @@ PlanTable = (s : List ℕ) (allow : Bool) (q : Records) (v : ℕ) → Accepted s
 -- "A start line is step, deciding step, offset, in rising order of the first two." What is listed of an accepted sheet is its verdict, its waits and these lines. Proof:
 -- lines-listed.
 abbrev pub sheet-lines : Records → List StartLine
-sheet-lines q = start-lines (count-of q) (serialized-of q)
+sheet-lines q = start-lines (count-of q) (leasts-of q) (serialized-of q)
 
 abbrev pub LineBefore : StartLine → StartLine → Type 0
 LineBefore k l = (k .step < l .step) ⊎ ((k .step ≡ l .step) × (k .decider < l .decider))
@@ -508,12 +548,12 @@ WorkedBytes s = (w : Worked) × List·Memᴰ w worked-sheets × (w .bytes ≡ s)
 
 -- There are accepted sheets of both verdicts; sheets refused 10, and 11 with a list that leaves none; and for one with waits a rival's sheet, with links of its own, and start times that keep it and
 -- differ from ours. Of request L11: a sheet with a late link that needs no waits, on which a rival with foresight is earlier than we are, so that `NobodyEarlier` is false there; and two that are refused 28, by
--- a circle and without. Proof: hypotheses-met.
+-- a circle and without. Of request L6: an accepted sheet with a least. Proof: hypotheses-met.
 pub record RivalMet (q : Records) : Type 0 where
   pub links : List Constraint
   pub extension : Extension (q .steps) (links-of q) links
   pub durations : ℕ → ℕ
-  pub source : durations 0 ≡ 0
+  pub respected : Durations q durations
   pub times : ℕ → ℕ
   pub kept : KeepsAll (q .steps) links durations times
   pub step : ℕ
@@ -537,3 +577,4 @@ pub record HypothesesMet : Type 0 where
   pub foresight : (s : List ℕ) × (q : Records) × WorkedBytes s × Accepted s false q 0 × ForesightEarlier q
   pub circle : (s : List ℕ) × (q : Records) × WorkedBytes s × WellFormed s q × (judged s false ≡ refused 28) × (closes-circle (count-of q) (serialized-of q) ≡ true)
   pub no-circle : (s : List ℕ) × (q : Records) × WorkedBytes s × WellFormed s q × (judged s false ≡ refused 28) × (closes-circle (count-of q) (serialized-of q) ≡ false)
+  pub least : (s : List ℕ) × (q : Records) × WorkedBytes s × Accepted s false q 0 × (a : ℕ) × (0 < leasts-of q a)

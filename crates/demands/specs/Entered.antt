@@ -17,12 +17,12 @@ sent-edges q = edges (q .steps) (constraints (q .pairs))
 unfoldable pub unreached : ℕ → List Edge → Bool
 unreached n es = any-below (λ v. not (reaches n (forwards es) 0 v)) n
 
-unfoldable pub judge-with-9 : ℕ → List Edge → Bool → Outcome ℕ
-judge-with-9 n es allow =
+unfoldable pub judge-with-9 : ℕ → (ℕ → ℕ) → List Edge → Bool → Outcome ℕ
+judge-with-9 n least es allow =
     refuse-if (closes-circle n es) 8
     (refuse-if (unreached n es) 9
     (refuse-if (infeasible n es) 10
     (refuse-if (inconsistent n es) 11
-    (refuse-if (unserializable n es) 28
+    (refuse-if (unserializable n least es) 28
     (refuse-if (needs-waits n es && not allow) 12
     (given (cond (needs-waits n es) 1 0)))))))

@@ -6,7 +6,7 @@ use lib.Dec.{eqb, leb}
 use Rattle.definitions.specs.Limits.{most-steps, most-records}
 use Rattle.definitions.specs.Basics.{test-bit, Outcome, given, when-given}
 use Rattle.definitions.specs.Bytes.{Parser, _>>=_, _>>_, give, demand, byte, two-bytes, ticks-if, sequenced, endpoints, rises, bound-from, records, operations, pair-of, at-end, Records}
-use Rattle.definitions.specs.Links.{Constraint, sequencing, minimum, maximum, finish-maximum, links-of, delay-at, Edge, edge-of}
+use Rattle.definitions.specs.Links.{Constraint, sequencing, minimum, maximum, finish-maximum, links-of, delay-at, least-at, Edge, edge-of}
 use Rattle.definitions.specs.declared.Delay.{Delay}
 use Rattle.definitions.specs.declared.Delay.the-variants.{Open, Fixed}
 use Rattle.definitions.specs.declared.Operation.{Operation}
@@ -51,13 +51,13 @@ gapless-sheet = do
 unfoldable pub gapless-read : List ℕ → Outcome Records
 gapless-read s = when-given (gapless-sheet s) (λ t. given (t .value))
 
--- An after link weighed the duration alone.
-unfoldable pub gapless-sequencing : Delay → ℕ → ℕ → Edge
-gapless-sequencing (Fixed ticks) i j = record { from = i; to = j; gain = ticks; loss = 0; counted = false; back = false; late = false }
-gapless-sequencing Open i j = record { from = i; to = j; gain = 0; loss = 0; counted = not (eqb i 0); back = false; late = false }
+-- An after link weighed the duration alone, an open one taken as its least.
+unfoldable pub gapless-sequencing : Delay → ℕ → ℕ → ℕ → Edge
+gapless-sequencing (Fixed ticks) least i j = record { from = i; to = j; gain = ticks; loss = 0; counted = false; back = false; late = false }
+gapless-sequencing Open least i j = record { from = i; to = j; gain = least; loss = 0; counted = not (eqb i 0); back = false; late = false }
 
 unfoldable pub gapless-edge : List Operation → Constraint → Edge
-gapless-edge os (sequencing i j g) = gapless-sequencing (delay-at os i) i j
+gapless-edge os (sequencing i j g) = gapless-sequencing (delay-at os i) (least-at os i) i j
 gapless-edge os (minimum i j m) = edge-of os (minimum i j m)
 gapless-edge os (maximum i j u) = edge-of os (maximum i j u)
 gapless-edge os (finish-maximum i j u) = edge-of os (finish-maximum i j u)

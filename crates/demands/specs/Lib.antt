@@ -1,3 +1,4 @@
 pub mod Gapless
+pub mod Leastless
 pub mod Entered
 pub mod Demands

@@ -36,11 +36,11 @@ judge-first n g = refuse-if (closes-circle n g) 8 (refuse-if (infeasible n g) 10
 unfoldable pub judge-waits : ℕ → List Edge → Bool → Outcome ℕ
 judge-waits n g allow = refuse-if (needs-waits n g && not allow) 12 (given (cond (needs-waits n g) 1 0))
 
-unfoldable pub judge-serial : ℕ → List Edge → Bool → Outcome ℕ
-judge-serial n g allow = refuse-if (unserializable n g) 28 (judge-waits n g allow)
+unfoldable pub judge-serial : ℕ → (ℕ → ℕ) → List Edge → Bool → Outcome ℕ
+judge-serial n least g allow = refuse-if (unserializable n least g) 28 (judge-waits n g allow)
 
-unfoldable pub judge-rest : ℕ → List Edge → Bool → Outcome ℕ
-judge-rest n g allow = refuse-if (inconsistent n g) 11 (judge-serial n g allow)
+unfoldable pub judge-rest : ℕ → (ℕ → ℕ) → List Edge → Bool → Outcome ℕ
+judge-rest n least g allow = refuse-if (inconsistent n g) 11 (judge-serial n least g allow)
 
 -- An answer that lists nothing; one that lists as many waits as are counted.
 pub record NoneListed (sorted : Bool) (r : Found) : Type 0 where
@@ -53,8 +53,8 @@ pub record WaitsCounted (count : ℕ) (allow : Bool) (r : Found) : Type 0 where
   pub judges : (n : ℕ) (g : List Edge) → count ≡ wait-count n g → verdict-of (r .verdict) ≡ judge-waits n g allow
 
 -- Edges that pass 8, with their anchor sets.
-pub record Rooting (n : ℕ) (g : List Edge) (sets : List ℕ) : Type 0 where
-  pub sheet : SheetGraph n (members g)
+pub record Rooting (n : ℕ) (least : ℕ → ℕ) (g : List Edge) (sets : List ℕ) : Type 0 where
+  pub sheet : SheetGraph n least (members g)
   pub anchors : AnchorSets n g sets
   pub passes : judge-order n g ≡ given tt
 
@@ -65,15 +65,15 @@ pub record Listed (n : ℕ) (g : List Edge) (judge : Bool → Outcome ℕ) (allo
   pub blank : (k : ℕ) → judge true ≡ refused k → (maps ≡ replicate 64 0) × (count ≡ 0)
 
 -- The analysis from 11 on, of edges that pass 8.
-pub record Unweighed (n : ℕ) (g : List Edge) (allow : Bool) (verdict : Verdict) (reach maps : List ℕ) (count : ℕ) : Type 0 where
+pub record Unweighed (n : ℕ) (least : ℕ → ℕ) (g : List Edge) (allow : Bool) (verdict : Verdict) (reach maps : List ℕ) (count : ℕ) : Type 0 where
   pub long : length reach ≡ 64
   pub reaches : Reaches n g reach
-  pub serialized : judge-first n g ≡ given tt → Listed n g (judge-rest n g) allow verdict maps count
+  pub serialized : judge-first n g ≡ given tt → Listed n g (judge-rest n least g) allow verdict maps count
 
 -- The whole with 10 left out: what is listed counts where 8 refuses, and where 10 does not. Of what reaches what nothing is said where 8 refuses.
-pub record Presumed (n : ℕ) (g : List Edge) (allow sorted : Bool) (verdict : Verdict) (reach maps : List ℕ) (count : ℕ) : Type 0 where
+pub record Presumed (n : ℕ) (least : ℕ → ℕ) (g : List Edge) (allow sorted : Bool) (verdict : Verdict) (reach maps : List ℕ) (count : ℕ) : Type 0 where
   pub sorts : (sorted ≡ true) ↔ (judge-order n g ≡ given tt)
   pub long : sorted ≡ true → length reach ≡ 64
   pub reaches : sorted ≡ true → Reaches n g reach
-  pub unsorted : sorted ≡ false → Listed n g (judge-edges n g) allow verdict maps count
-  pub feasible : judge-first n g ≡ given tt → Listed n g (judge-edges n g) allow verdict maps count
+  pub unsorted : sorted ≡ false → Listed n g (judge-edges n least g) allow verdict maps count
+  pub feasible : judge-first n g ≡ given tt → Listed n g (judge-edges n least g) allow verdict maps count

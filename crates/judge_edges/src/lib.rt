@@ -13,6 +13,7 @@ ghost use Rattle.definitions.specs.Numbers.{verdict-of};
 ghost use Rattle.definitions.specs.Waits.{wait-count};
 ghost use Rattle.definitions.specs.declared.Verdict.the-variants.{Refused};
 ghost use Rattle.data_lists.specs.Lists.{WithLists};
+ghost use Rattle.data_edges.specs.Serial.{leasts-in};
 ghost use Rattle.data_edges.specs.Words.{graph};
 ghost use Rattle.judge_serial.specs.Waiting.{Waiting};
 ghost use Rattle.theory.specs.Graphs.{SheetGraph};
@@ -64,34 +65,36 @@ fn waits_counted(count: u32, allow: bool) -> Found
 fn waits_clash(
     es: &[u64],
     lists: &[u16],
+    leasts: &[u16; 64],
     maps: &[u64; 64],
     count: u32,
     order: &[u8; 64],
     n: usize,
 ) -> bool
     requires { ⌜ WithLists n (now es) (now lists) ⌝ }
-    ensures { λ r. ⌜ (Waiting n (graph (now (es .entry))) (now (maps .entry)) → count ≡ wait-count n (graph (now (es .entry))) → r ≡ unserializable n (graph (now (es .entry)))) ⌝ }
+    ensures { λ r. ⌜ (Waiting n (leasts-in (now (leasts .entry))) (graph (now (es .entry))) (now (maps .entry)) → count ≡ wait-count n (graph (now (es .entry))) → r ≡ unserializable n (leasts-in (now (leasts .entry))) (graph (now (es .entry)))) ⌝ }
 {
     if count == 0 {
         return false;
     }
-    !judge_serial::can_serialize(es, lists, maps, order, n)
+    !judge_serial::can_serialize(es, lists, leasts, maps, order, n)
 }
 
 // The analysis from refusal 28 on, with the waits in maps, which are made blank where 28 applies.
 fn put_in(
     es: &[u64],
     lists: &[u16],
+    leasts: &[u16; 64],
     order: &[u8; 64],
     n: usize,
     allow: bool,
     maps: &mut [u64; 64],
 ) -> Found
     requires { ⌜ WithLists n (now es) (now lists) ⌝ }
-    ensures { λ r. ⌜ (r .sorted ≡ true) × (Waiting n (graph (now (es .entry))) (now (maps .entry)) → Listed n (graph (now (es .entry))) (judge-serial n (graph (now (es .entry)))) allow (r .verdict) (now (maps .exit)) (r .count)) ⌝ }
+    ensures { λ r. ⌜ (r .sorted ≡ true) × (Waiting n (leasts-in (now (leasts .entry))) (graph (now (es .entry))) (now (maps .entry)) → Listed n (graph (now (es .entry))) (judge-serial n (leasts-in (now (leasts .entry))) (graph (now (es .entry)))) allow (r .verdict) (now (maps .exit)) (r .count)) ⌝ }
 {
     let count = judge_waits::count_waits(maps, n);
-    if waits_clash(es, lists, maps, count, order, n) {
+    if waits_clash(es, lists, leasts, maps, count, order, n) {
         *maps = [0u64; 64];
         return refused(Refusal::Unserializable, true);
     }
@@ -102,6 +105,7 @@ fn put_in(
 fn serialize(
     es: &[u64],
     lists: &[u16],
+    leasts: &[u16; 64],
     sets: &[u64; 64],
     order: &[u8; 64],
     n: usize,
@@ -110,7 +114,7 @@ fn serialize(
     maps: &mut [u64; 64],
 ) -> Found
     requires { ⌜ WithLists n (now es) (now lists) × BlankRows (now reach) (now maps) ⌝ }
-    ensures { λ r. ⌜ (r .sorted ≡ true) × (Rooting n (graph (now (es .entry))) (now (sets .entry)) → Unweighed n (graph (now (es .entry))) allow (r .verdict) (now (reach .exit)) (now (maps .exit)) (r .count)) ⌝ }
+    ensures { λ r. ⌜ (r .sorted ≡ true) × (Rooting n (leasts-in (now (leasts .entry))) (graph (now (es .entry))) (now (sets .entry)) → Unweighed n (leasts-in (now (leasts .entry))) (graph (now (es .entry))) allow (r .verdict) (now (reach .exit)) (now (maps .exit)) (r .count)) ⌝ }
 {
     if !order_reach::reach(es, lists, order, sets, n, reach) {
         return waits_counted(0, allow);
@@ -119,13 +123,14 @@ fn serialize(
         return refused(Refusal::Inconsistent, true);
     }
     judge_waits::wait_maps(es, reach, sets, maps);
-    put_in(es, lists, order, n, allow, maps)
+    put_in(es, lists, leasts, order, n, allow, maps)
 }
 
 // The analysis of the edges of a sheet of n steps, with their adjacency lists and the order and rows lent, but with refusal 10 left out, for who finds out about it in another way: an infeasible sheet is analysed as if it were feasible, and refusal 10 comes before what is said of a sorted one.
 pub fn judge_assuming_feasible(
     es: &[u64],
     lists: &[u16],
+    leasts: &[u16; 64],
     n: usize,
     allow: bool,
     order: &mut [u8; 64],
@@ -133,19 +138,26 @@ pub fn judge_assuming_feasible(
     maps: &mut [u64; 64],
 ) -> Found
     requires { ⌜ WithLists n (now es) (now lists) × Lent (now order) (now reach) (now maps) ⌝ }
-    ensures { λ r. ⌜ (SheetGraph n (members (graph (now (es .entry)))) → Presumed n (graph (now (es .entry))) allow (r .sorted) (r .verdict) (now (reach .exit)) (now (maps .exit)) (r .count)) ⌝ }
+    ensures { λ r. ⌜ (SheetGraph n (leasts-in (now (leasts .entry))) (members (graph (now (es .entry)))) → Presumed n (leasts-in (now (leasts .entry))) (graph (now (es .entry))) allow (r .sorted) (r .verdict) (now (reach .exit)) (now (maps .exit)) (r .count)) ⌝ }
 {
     let mut sets = [0u64; 64];
     if !sort(es, n, &mut sets, order) {
         return refused(Refusal::ForwardCycle, false);
     }
-    serialize(es, lists, &sets, order, n, allow, reach, maps)
+    serialize(es, lists, leasts, &sets, order, n, allow, reach, maps)
 }
 
 // The verdict of the edges of a sheet of n steps, with their adjacency lists, and the waits into maps that are blank.
-pub fn judge_edges(es: &[u64], lists: &[u16], n: usize, allow: bool, maps: &mut [u64; 64]) -> Found
+pub fn judge_edges(
+    es: &[u64],
+    lists: &[u16],
+    leasts: &[u16; 64],
+    n: usize,
+    allow: bool,
+    maps: &mut [u64; 64],
+) -> Found
     requires { ⌜ WithLists n (now es) (now lists) × (now maps ≡ replicate 64 0) ⌝ }
-    ensures { λ r. ⌜ (SheetGraph n (members (graph (now (es .entry)))) → Listed n (graph (now (es .entry))) (judge-edges n (graph (now (es .entry)))) allow (r .verdict) (now (maps .exit)) (r .count)) ⌝ }
+    ensures { λ r. ⌜ (SheetGraph n (leasts-in (now (leasts .entry))) (members (graph (now (es .entry)))) → Listed n (graph (now (es .entry))) (judge-edges n (leasts-in (now (leasts .entry))) (graph (now (es .entry)))) allow (r .verdict) (now (maps .exit)) (r .count)) ⌝ }
 {
     let mut sets = [0u64; 64];
     let mut order = [0u8; 64];
@@ -156,5 +168,5 @@ pub fn judge_edges(es: &[u64], lists: &[u16], n: usize, allow: bool, maps: &mut 
         return refused(Refusal::Infeasible, true);
     }
     let mut reach = [0u64; 64];
-    serialize(es, lists, &sets, &order, n, allow, &mut reach, maps)
+    serialize(es, lists, leasts, &sets, &order, n, allow, &mut reach, maps)
 }

@@ -26,7 +26,7 @@ use Rattle.data_relations.specs.Rows.{row-bit}
 use Rattle.walk_cells.specs.Cells.{largest}
 use Rattle.walk_cells.specs.Tables.{entry}
 use Rattle.walk_settled.specs.Settled.{cut-hand, handed-on, source-column}
-use Rattle.theory.specs.Graphs.{ForwardAcyclic, Gains, NonPositive, Rooted, Serializable, Shape, Well}
+use Rattle.theory.specs.Graphs.{ForwardAcyclic, Gains, Leasts, NonPositive, Rooted, Serializable, Shape, Well}
 use Rattle.theory.proofs.Feasibility.{stable-nonpositive}
 use Rattle.theory.proofs.Offsets.{offset-row-iff}
 use Rattle.theory.proofs.Plans.{plan-posed, plan-timely, plan-well}
@@ -45,14 +45,14 @@ abbrev pub Offsets : ℕ → List Edge → List ℕ → List (List ℕ) → Type
 Offsets n es sets d = Well n (members es) → WellPosed (members es) → Gains (members es) most-gain → (a : ℕ) → a < n → Supported n es sets a → (v : ℕ) → v < n → row-bit sets v a ≡ true → entry d v a ≡ cell (offset-row n es a) v
 
 -- The maps of waits hold no step at n or above; and the edges with the waits that they hold are the sheet with its waits in. So this is what `walk_heaviest::walks_if_possible` promises.
-module _ {n : ℕ} {g : List Edge} {maps : List ℕ} (few : n ≤ 64) (shape : Shape n (members g)) (waits : maps ≡ wait-maps n g) where
+module _ (least : ℕ → ℕ) {n : ℕ} {g : List Edge} {maps : List ℕ} (few : n ≤ 64) (shape : Shape n (members g)) (waits : maps ≡ wait-maps n g) where
   pub maps-within : Within n maps
   maps-within i a h = wait-anchor-below shape (wait-maps-iff few shape i a .0 (ap (λ (l : List ℕ). row-bit l i a) (sym waits) ∙ h))
 
-  pub edges-waited : g ++ wait-edges n maps ≡ serialized n g
-  edges-waited = ap (λ (m : List ℕ). g ++ wait-edges n m) waits ∙ serialized-maps n g few
+  pub edges-waited : g ++ wait-edges n least maps ≡ serialized n least g
+  edges-waited = ap (λ (m : List ℕ). g ++ wait-edges n least m) waits ∙ serialized-maps n least g few
 
-  pub walks-offsets : (sets : List ℕ) (d : List (List ℕ)) → (Within n maps → Offsets n (g ++ wait-edges n maps) sets d) → Offsets n (serialized n g) sets d
+  pub walks-offsets : (sets : List ℕ) (d : List (List ℕ)) → (Within n maps → Offsets n (g ++ wait-edges n least maps) sets d) → Offsets n (serialized n least g) sets d
   walks-offsets sets d cells = subst (λ (l : List Edge). Offsets n l sets d) edges-waited (cells maps-within)
 
 -- Rows that hold the source alone.
@@ -101,37 +101,37 @@ nonpositive-tried {n} {es} {d} few well posed gains cells =
           at (e .to) (well .shape .to-below e m),
         ))
 
-module _ {n : ℕ} {g : List Edge} (few : n ≤ 64) (well : Well n (members g)) where
-  feasible : (infeasible n (serialized n g) ≡ false) ↔ NonPositive (members (serialized n g))
-  feasible = feasible-iff (well .some) (serialized-shape (well .shape)) (serialized-rooted (well .some) (well .shape) (well .rooted))
+module _ (least : ℕ → ℕ) {n : ℕ} {g : List Edge} (few : n ≤ 64) (well : Well n (members g)) where
+  feasible : (infeasible n (serialized n least g) ≡ false) ↔ NonPositive (members (serialized n least g))
+  feasible = feasible-iff (well .some) (serialized-shape (well .shape) least) (serialized-rooted least (well .some) (well .shape) (well .rooted))
 
   -- Start times are left with the waits in exactly if the column is tried.
-  module _ (gains : Gains (members g) most-gain) (no-circle : closes-circle n (serialized n g) ≡ false) (d : List (List ℕ)) (cells : Offsets n (serialized n g) (replicate 64 1) d) where
-    tried : infeasible n (serialized n g) ≡ false → Tried n (serialized n g) d
+  module _ (gains : Gains (members g) most-gain) (leasts : Leasts least (members g)) (no-circle : closes-circle n (serialized n least g) ≡ false) (d : List (List ℕ)) (cells : Offsets n (serialized n least g) (replicate 64 1) d) where
+    tried : infeasible n (serialized n least g) ≡ false → Tried n (serialized n least g) d
     tried h =
-        let serial : Serializable (members (serialized n g)) = record { acyclic = not-8 (well .some) (serialized-shape (well .shape)) no-circle; never = feasible .0 h } in
-        nonpositive-tried few (plan-well well serial) (plan-posed well serial) (waited-gains (serialized-waited (well .shape)) gains) cells
+        let serial : Serializable (members (serialized n least g)) = record { acyclic = not-8 (well .some) (serialized-shape (well .shape) least) no-circle; never = feasible .0 h } in
+        nonpositive-tried few (plan-well least well serial) (plan-posed least well serial) (waited-gains (serialized-waited (well .shape)) leasts gains) cells
 
-    pub untried-infeasible : ¬ Tried n (serialized n g) d → false ≡ not (infeasible n (serialized n g))
-    untried-infeasible h = sym (not-passing (not (infeasible n (serialized n g))) (λ t. h (tried (not-true (infeasible n (serialized n g)) t))))
+    pub untried-infeasible : ¬ Tried n (serialized n least g) d → false ≡ not (infeasible n (serialized n least g))
+    untried-infeasible h = sym (not-passing (not (infeasible n (serialized n least g))) (λ t. h (tried (not-true (infeasible n (serialized n least g)) t))))
 
-    pub settled-feasible : 1 ≤ entry d 0 0 → all-below (λ v. ltb (entry d v 0) largest) n ≡ true → all (handed-on d) (serialized n g) ≡ not (infeasible n (serialized n g))
-    settled-feasible source uncut = go (bool-cases (all (handed-on d) (serialized n g)))
+    pub settled-feasible : 1 ≤ entry d 0 0 → all-below (λ v. ltb (entry d v 0) largest) n ≡ true → all (handed-on d) (serialized n least g) ≡ not (infeasible n (serialized n least g))
+    settled-feasible source uncut = go (bool-cases (all (handed-on d) (serialized n least g)))
       where
-        go : (all (handed-on d) (serialized n g) ≡ true) ⊎ (all (handed-on d) (serialized n g) ≡ false) → all (handed-on d) (serialized n g) ≡ not (infeasible n (serialized n g))
+        go : (all (handed-on d) (serialized n least g) ≡ true) ⊎ (all (handed-on d) (serialized n least g) ≡ false) → all (handed-on d) (serialized n least g) ≡ not (infeasible n (serialized n least g))
         go (inl t) =
-            t ∙ sym (ap not (feasible .1 (tried-nonpositive {d = d} (well .some) (serialized-shape (well .shape)) (serialized-rooted (well .some) (well .shape) (well .rooted)) (record { source = source; uncut = uncut; settled = t }))))
+            t ∙ sym (ap not (feasible .1 (tried-nonpositive {d = d} (well .some) (serialized-shape (well .shape) least) (serialized-rooted least (well .some) (well .shape) (well .rooted)) (record { source = source; uncut = uncut; settled = t }))))
         go (inr f) = f ∙ untried-infeasible (λ T. both-ways (T .settled) f)
 
   -- 28, from its two parts; and where no edge is late it is not given.
-  pub circle-refused : closes-circle n (serialized n g) ≡ true → false ≡ not (unserializable n g)
+  pub circle-refused : closes-circle n (serialized n least g) ≡ true → false ≡ not (unserializable n least g)
   unfolding unserializable
-  circle-refused h = sym (ap not (or-left (infeasible n (serialized n g)) h))
+  circle-refused h = sym (ap not (or-left (infeasible n (serialized n least g)) h))
 
-  pub times-refused : closes-circle n (serialized n g) ≡ false → not (infeasible n (serialized n g)) ≡ not (unserializable n g)
+  pub times-refused : closes-circle n (serialized n least g) ≡ false → not (infeasible n (serialized n least g)) ≡ not (unserializable n least g)
   unfolding unserializable
-  times-refused h = ap (λ (b : Bool). not (b || infeasible n (serialized n g))) (sym h)
+  times-refused h = ap (λ (b : Bool). not (b || infeasible n (serialized n least g))) (sym h)
 
-  pub timely-passes : ForwardAcyclic (members g) → any (λ e. e .late) g ≡ false → true ≡ not (unserializable n g)
+  pub timely-passes : ForwardAcyclic (members g) → any (λ e. e .late) g ≡ false → true ≡ not (unserializable n least g)
   timely-passes once h =
-      sym (ap not (serializable-iff (well .some) (well .shape) (well .rooted) .1 (plan-timely (λ e m. any-none (λ e. e .late) g h e m) well once)))
+      sym (ap not (serializable-iff least (well .some) (well .shape) (well .rooted) .1 (plan-timely least (λ e m. any-none (λ e. e .late) g h e m) well once)))

@@ -19,27 +19,27 @@ use Rattle.data_relations.specs.Rows.{row-bit}
 use Rattle.theory.specs.Graphs.{Shape}
 use Rattle.theory.proofs.WaitLists.{listed-wait, wait-listed, wait-maps-iff, wait-target-below}
 
-module _ {n : ℕ} {g : List Edge} (few : n ≤ 64) (shape : Shape n (members g)) where
+module _ (least : ℕ → ℕ) {n : ℕ} {g : List Edge} (few : n ≤ 64) (shape : Shape n (members g)) where
   -- A wait for u of v, as a forward edge: bit u of map v.
-  waits-precede : (v u : ℕ) → any (precedes v u) (map wait-edge (wait-list n g)) ≡ row-bit (wait-maps n g) v u
-  waits-precede v u = same-test (any (precedes v u) (map wait-edge (wait-list n g))) (row-bit (wait-maps n g) v u) found test
+  waits-precede : (v u : ℕ) → any (precedes v u) (map (wait-edge least) (wait-list n g)) ≡ row-bit (wait-maps n g) v u
+  waits-precede v u = same-test (any (precedes v u) (map (wait-edge least) (wait-list n g))) (row-bit (wait-maps n g) v u) found test
     where
-      found : any (precedes v u) (map wait-edge (wait-list n g)) ≡ true → row-bit (wait-maps n g) v u ≡ true
+      found : any (precedes v u) (map (wait-edge least) (wait-list n g)) ≡ true → row-bit (wait-maps n g) v u ≡ true
       found h =
-          let r = any-has (precedes v u) (map wait-edge (wait-list n g)) h in
-          let p = Memᴰ·of-map wait-edge (wait-list n g) (r .1) in
+          let r = any-has (precedes v u) (map (wait-edge least) (wait-list n g)) h in
+          let p = Memᴰ·of-map (wait-edge least) (wait-list n g) (r .1) in
           let s = and-split (eqb v (r .0 .to)) (not (r .0 .back) && eqb u (r .0 .from)) (r .2) in
           let t = and-split (not (r .0 .back)) (eqb u (r .0 .from)) (s .1) in
           let to = eqb-true v (r .0 .to) (s .0) ∙ sym (ap (λ (e : Edge). e .to) (p .2)) in
           let from = eqb-true u (r .0 .from) (t .1) ∙ sym (ap (λ (e : Edge). e .from) (p .2)) in
           ap₂ (row-bit (wait-maps n g)) to from ∙ wait-maps-iff few shape (p .0 .target) (p .0 .anchor) .1 (listed-wait shape (p .1))
 
-      test : row-bit (wait-maps n g) v u ≡ true → any (precedes v u) (map wait-edge (wait-list n g)) ≡ true
+      test : row-bit (wait-maps n g) v u ≡ true → any (precedes v u) (map (wait-edge least) (wait-list n g)) ≡ true
       test h =
           any-by
           (precedes v u)
-          (map wait-edge (wait-list n g))
-          (Memᴰ·map wait-edge (wait-listed shape (wait-maps-iff few shape v u .0 h)))
+          (map (wait-edge least) (wait-list n g))
+          (Memᴰ·map (wait-edge least) (wait-listed shape (wait-maps-iff few shape v u .0 h)))
           (and-join (eq-eqb v v refl) (eq-eqb u u refl))
 
   -- Nothing comes before a step at n or above: no edge enters it, and it does not wait.
@@ -61,7 +61,7 @@ module _ {n : ℕ} {g : List Edge} (few : n ≤ 64) (shape : Shape n (members g)
       (λ h. and-split (ltb v n) (any (precedes v u) g || row-bit (wait-maps n g) v u) h .1)
       (λ h. and-join (lt-ltb v n (past v u h)) h)
 
-  pub waited-predecessors : (rows : List ℕ) → length rows ≡ 64 → ((v u : ℕ) → row-bit rows v u ≡ (ltb v n && (any (precedes v u) g || row-bit (wait-maps n g) v u))) → Predecessors (serialized n g) rows
+  pub waited-predecessors : (rows : List ℕ) → length rows ≡ 64 → ((v u : ℕ) → row-bit rows v u ≡ (ltb v n && (any (precedes v u) g || row-bit (wait-maps n g) v u))) → Predecessors (serialized n least g) rows
   unfolding serialized
   waited-predecessors rows long bits =
-      record { long = long; bits = λ v u. bits v u ∙ within v u ∙ ap (λ (b : Bool). any (precedes v u) g || b) (sym (waits-precede v u)) ∙ sym (any-append (precedes v u) g (map wait-edge (wait-list n g))) }
+      record { long = long; bits = λ v u. bits v u ∙ within v u ∙ ap (λ (b : Bool). any (precedes v u) g || b) (sym (waits-precede v u)) ∙ sym (any-append (precedes v u) g (map (wait-edge least) (wait-list n g))) }

@@ -10,12 +10,13 @@ ghost use Rattle.definitions.specs.Limits.{most-gain};
 ghost use Rattle.definitions.specs.Links.{members};
 ghost use Rattle.definitions.specs.Waits.{serialized, wait-maps};
 ghost use Rattle.data_lists.specs.Lists.{WithLists};
+ghost use Rattle.data_edges.specs.Serial.{leasts-in};
 ghost use Rattle.data_edges.specs.Words.{graph};
 ghost use Rattle.order_steps.specs.Orders.{precedes};
 ghost use Rattle.data_relations.specs.Rows.{row-bit};
 ghost use Rattle.walk_cells.specs.Cells.{largest};
 ghost use Rattle.walk_cells.specs.Tables.{entry};
-ghost use Rattle.theory.specs.Graphs.{Gains, Shape, Well};
+ghost use Rattle.theory.specs.Graphs.{Gains, Shape, SheetLeasts, Well};
 ghost use Rattle.judge_serial.specs.Waiting.{Waiting};
 
 // Whether some return counts from a finish: the union of the words has the mark late where one of them has. The loop has no branch, so that it goes over several words at a time.
@@ -49,10 +50,10 @@ fn waited_rows(es: &[u64], maps: &[u64; 64], n: usize) -> [u64; 64]
     rows
 }
 
-// Whether forward edges and waits close a circle.
+// Whether forward edges and waits close a circle. What they weigh does not matter.
 fn closes_circle(es: &[u64], maps: &[u64; 64], n: usize) -> bool
     requires { ⌜ n ≤ 64 ⌝ }
-    ensures { λ r. ⌜ (Shape n (members (graph (now (es .entry)))) → now (maps .entry) ≡ wait-maps n (graph (now (es .entry))) → r ≡ closes-circle n (serialized n (graph (now (es .entry))))) ⌝ }
+    ensures { λ r. ⌜ ((least : ℕ → ℕ) → Shape n (members (graph (now (es .entry)))) → now (maps .entry) ≡ wait-maps n (graph (now (es .entry))) → r ≡ closes-circle n (serialized n least (graph (now (es .entry))))) ⌝ }
 {
     let rows = waited_rows(es, maps, n);
     let mut order = [0u8; 64];
@@ -74,14 +75,22 @@ fn uncut(d: &[[u32; 64]; 64], n: usize) -> bool
     true
 }
 
-// Whether start times keep edges and waits while no step is delayed: whether the source's column of the working table is settled. The source is the only anchor. Of edges to which 10 applies nothing is promised.
-fn leaves_times(es: &[u64], lists: &[u16], maps: &[u64; 64], order: &[u8; 64], n: usize) -> bool
+// Whether start times keep edges and waits while each step lasts its least: whether the source's column of the working table is settled. The source is the only anchor.
+// Of edges to which 10 applies nothing is promised.
+fn leaves_times(
+    es: &[u64],
+    lists: &[u16],
+    leasts: &[u16; 64],
+    maps: &[u64; 64],
+    order: &[u8; 64],
+    n: usize,
+) -> bool
     requires { ⌜ WithLists n (now es) (now lists) ⌝ }
-    ensures { λ r. ⌜ (Well n (members (graph (now (es .entry)))) → Gains (members (graph (now (es .entry)))) most-gain → now (maps .entry) ≡ wait-maps n (graph (now (es .entry))) → closes-circle n (serialized n (graph (now (es .entry)))) ≡ false → r ≡ not (infeasible n (serialized n (graph (now (es .entry)))))) ⌝ }
+    ensures { λ r. ⌜ (Well n (members (graph (now (es .entry)))) → Gains (members (graph (now (es .entry)))) most-gain → SheetLeasts (leasts-in (now (leasts .entry))) (members (graph (now (es .entry)))) → now (maps .entry) ≡ wait-maps n (graph (now (es .entry))) → closes-circle n (serialized n (leasts-in (now (leasts .entry))) (graph (now (es .entry)))) ≡ false → r ≡ not (infeasible n (serialized n (leasts-in (now (leasts .entry))) (graph (now (es .entry)))))) ⌝ }
 {
     let mut d = [[walk_cells::EMPTY; 64]; 64];
     let sets = [1u64; 64];
-    if !walk_heaviest::walks_if_possible(&mut d, es, lists, maps, &sets, order, n) {
+    if !walk_heaviest::walks_if_possible(&mut d, es, lists, leasts, maps, &sets, order, n) {
         return false;
     }
     if walk_cells::is_none(d[0][0]) {
@@ -90,19 +99,20 @@ fn leaves_times(es: &[u64], lists: &[u16], maps: &[u64; 64], order: &[u8; 64], n
     if !uncut(&d, n) {
         return false;
     }
-    walk_settled::settled(&d, es, maps, n)
+    walk_settled::settled(&d, es, leasts, maps, n)
 }
 
 // Whether the waits can be put in, for edges that can be scheduled. Where no return counts from a finish they always can. The order decides speed alone.
 pub fn can_serialize(
     es: &[u64],
     lists: &[u16],
+    leasts: &[u16; 64],
     maps: &[u64; 64],
     order: &[u8; 64],
     n: usize,
 ) -> bool
     requires { ⌜ WithLists n (now es) (now lists) ⌝ }
-    ensures { λ r. ⌜ (Waiting n (graph (now (es .entry))) (now (maps .entry)) → r ≡ not (unserializable n (graph (now (es .entry))))) ⌝ }
+    ensures { λ r. ⌜ (Waiting n (leasts-in (now (leasts .entry))) (graph (now (es .entry))) (now (maps .entry)) → r ≡ not (unserializable n (leasts-in (now (leasts .entry))) (graph (now (es .entry))))) ⌝ }
 {
     if !has_late(es) {
         return true;
@@ -110,5 +120,5 @@ pub fn can_serialize(
     if closes_circle(es, maps, n) {
         return false;
     }
-    leaves_times(es, lists, maps, order, n)
+    leaves_times(es, lists, leasts, maps, order, n)
 }

@@ -62,6 +62,15 @@ three-pass a b c i j k x g h =
     let r₃ = refuse-given c k (given x) g .0 (r₂ .1) in
     (r .0, r₃ .0, sym (given-same (r₃ .1)))
 
+-- A row of four: the last two tests fail, and it is the answer at the end.
+pub four-pass : {A : Type 0} (a b c d : Bool) (i j k l : ℕ) (x g : A) → refuse-if a i (refuse-if b j (refuse-if c k (refuse-if d l (given x)))) ≡ given g → (c ≡ false) × (d ≡ false) × (g ≡ x)
+four-pass a b c d i j k l x g h =
+    let r = refuse-given a i (refuse-if b j (refuse-if c k (refuse-if d l (given x)))) g .0 h in
+    let r₂ = refuse-given b j (refuse-if c k (refuse-if d l (given x))) g .0 (r .1) in
+    let r₃ = refuse-given c k (refuse-if d l (given x)) g .0 (r₂ .1) in
+    let r₄ = refuse-given d l (given x) g .0 (r₃ .1) in
+    (r₃ .0, r₄ .0, sym (given-same (r₄ .1)))
+
 -- What comes after an outcome, where it is an answer, and where the whole is.
 pub when-given-by : {A B : Type 0} {o : Outcome A} {a : A} (f : A → Outcome B) → o ≡ given a → when-given o f ≡ f a
 unfolding when-given

@@ -1,43 +1,55 @@
 -- A sheet as the reader holds it, in a report and in words.
-use mathlib.Core.Path.{_≡_, sym, subst}
+use mathlib.Core.Path.{_≡_, sym, subst, fun-ext}
 use mathlib.Core.Logic.{_⊎_, inl, inr}
 use mathlib.Core.List.{List, [], _∷_, List·Memᴰ, List·Memᴰ·not-nil, List·Memᴰ·cases-cons}
 use Prim.Native.Nat.{ℕ, suc, _<_}
 use native.Mathlib.Omega.{arith}
 use lib.ListN.{getD, take, length-take}
-use Rattle.definitions.specs.Answers.{count-of, edges-of}
+use Rattle.definitions.specs.Answers.{count-of, leasts-of, edges-of}
 use Rattle.definitions.specs.Bytes.{Records, read}
 use Rattle.definitions.specs.Links.{Edge, members}
 use Rattle.definitions.specs.declared.Reading.the-variants as Readings
 use Rattle.demands.specs.Demands.{Bytes}
-use Rattle.demands.proofs.Edges.{sheet-entered, sheet-gains, sheet-shape}
+use Rattle.demands.proofs.Edges.{sheet-entered, sheet-gains, sheet-leasts, sheet-shape}
 use Rattle.demands.proofs.Reading.{Fits, read-fits}
+use Rattle.data_edges.specs.Serial.{leasts-in}
 use Rattle.data_edges.specs.Words.{graph}
 use Rattle.read_sheet.specs.Answers.{Holds, Reports}
 use Rattle.read_sheet.specs.declared.Report.{Report}
 use Rattle.read_sheet.proofs.Reports.{Found, report-given}
 use Rattle.plan_walks.specs.Tables.{SheetEdges}
 use Rattle.theory.specs.Graphs.{SheetGraph}
+use Rattle.theory.proofs.DelayLimits.{least-source}
 
 -- The edges that its words stand for.
 abbrev pub word-edges : List ℕ → Report → List Edge
 word-edges words report = graph (take (report .count) words)
 
-module _ {q : Records} {words : List ℕ} {report : Report} (fits : Fits q) (holds : Holds q words report) where
-  -- What holds of its steps and edges holds of the words, and the other way round.
-  held-by : (P : ℕ → List Edge → Type 0) → P (count-of q) (edges-of q) → P (report .n) (word-edges words report)
-  held-by P p = subst (λ (n : ℕ). P n (word-edges words report)) (sym (holds .n)) (subst (λ (g : List Edge). P (count-of q) g) (sym (holds .same)) p)
+module _ {q : Records} {words leasts : List ℕ} {report : Report} (fits : Fits q) (holds : Holds q words leasts report) where
+  -- The leasts are those of its steps.
+  same-leasts : leasts-in leasts ≡ leasts-of q
+  same-leasts = fun-ext (λ a. holds .least a)
 
-  pub by-held : (P : ℕ → List Edge → Type 0) → P (report .n) (word-edges words report) → P (count-of q) (edges-of q)
-  by-held P p = subst (λ (g : List Edge). P (count-of q) g) (holds .same) (subst (λ (n : ℕ). P n (word-edges words report)) (holds .n) p)
+  -- What holds of its steps, leasts and edges holds of the words and the numbers, and the other way round.
+  held-by : (P : ℕ → (ℕ → ℕ) → List Edge → Type 0) → P (count-of q) (leasts-of q) (edges-of q) → P (report .n) (leasts-in leasts) (word-edges words report)
+  held-by P p =
+      subst (λ (n : ℕ). P n (leasts-in leasts) (word-edges words report)) (sym (holds .n))
+      (subst (λ (l : ℕ → ℕ). P (count-of q) l (word-edges words report)) (sym same-leasts)
+      (subst (λ (g : List Edge). P (count-of q) (leasts-of q) g) (sym (holds .same)) p))
+
+  pub by-held : (P : ℕ → (ℕ → ℕ) → List Edge → Type 0) → P (report .n) (leasts-in leasts) (word-edges words report) → P (count-of q) (leasts-of q) (edges-of q)
+  by-held P p =
+      subst (λ (g : List Edge). P (count-of q) (leasts-of q) g) (holds .same)
+      (subst (λ (l : ℕ → ℕ). P (count-of q) l (word-edges words report)) same-leasts
+      (subst (λ (n : ℕ). P n (leasts-in leasts) (word-edges words report)) (holds .n) p))
 
   -- The words are the edges of a sheet: their number and that of the steps are within their limits.
-  pub held-sheet : SheetEdges (report .n) (take (report .count) words)
+  pub held-sheet : SheetEdges (report .n) (leasts-in leasts) (take (report .count) words)
   held-sheet = record {
     some = omega (arith, holds .n, fits .some);
     few = omega (arith, holds .n, fits .few);
     edges = omega (arith, holds .few, length-take (report .count) words);
-    formed = held-by (λ n g. SheetGraph n (members g)) (record { shape = sheet-shape fits; entered = sheet-entered fits; gains = sheet-gains fits });
+    formed = held-by (λ n least g. SheetGraph n least (members g)) (record { shape = sheet-shape fits; entered = sheet-entered fits; gains = sheet-gains fits; leasts = record { source = least-source (q .steps); small = fits .leasts; leasts = sheet-leasts fits } });
   }
 
 -- The elements of a list of bytes are below 256, from each place.
@@ -50,11 +62,11 @@ bytes-by (x ∷ s) h b m = go (List·Memᴰ·cases-cons m) (bytes-by s (λ i. h 
     go (inr n) below = below n
 
 -- A report on bytes that are read whole: the sheet's records, within their limits.
-pub record Whole (s words : List ℕ) (report : Report) : Type 0 where
-  pub found : Found (read s) words report
+pub record Whole (s words leasts : List ℕ) (report : Report) : Type 0 where
+  pub found : Found (read s) words leasts report
   pub fits : Fits (found .whole)
 
-pub whole : (s words : List ℕ) (report : Report) → ((i : ℕ) → getD s i 0 < 256) → Reports (read s) words report → report .reading ≡ Readings.Whole → Whole s words report
-whole s words report small reports e =
-    let h = report-given (read s) words report reports e in
+pub whole : (s words leasts : List ℕ) (report : Report) → ((i : ℕ) → getD s i 0 < 256) → Reports (read s) words leasts report → report .reading ≡ Readings.Whole → Whole s words leasts report
+whole s words leasts report small reports e =
+    let h = report-given (read s) words leasts report reports e in
     record { found = h; fits = read-fits s (h .whole) (bytes-by s small) (h .is-given) }

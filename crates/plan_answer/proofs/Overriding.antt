@@ -6,7 +6,7 @@ use mathlib.Core.List.{List}
 use Prim.Native.Nat.{ℕ, _+_, _<_, _≤_}
 use native.Mathlib.Omega.{arith}
 use Rattle.definitions.specs.Anchors.{InAnchorSet, WellPosed, chain, is-source}
-use Rattle.definitions.specs.Links.{After, Edge, Forward, members}
+use Rattle.definitions.specs.Links.{After, Edge, Forward, members, no-leasts}
 use Rattle.definitions.specs.Plan.{offset, offset-row}
 use Rattle.definitions.specs.Rounds.{entry}
 use Rattle.plan_deciding.specs.Working.{Holds, Orderly, covering, member}
@@ -28,15 +28,15 @@ module _ {n : ℕ} {es : List Edge} (well : Well n (members es)) (posed : WellPo
   acyclic = well-acyclic well
 
   -- The triangle at the source: its offsets are settled over every edge, so the walk of b's offset makes its own longer.
-  source-triangle : (b c : ℕ) → b < n → c < n → After (Forward (members es)) b c → offset n es 0 b + offset n es b c ≤ offset n es 0 c
+  source-triangle : (b c : ℕ) → b < n → c < n → After (Forward (members es)) b c → offset n no-leasts es 0 b + offset n no-leasts es b c ≤ offset n no-leasts es 0 c
   unfolding offset
   source-triangle b c hb hc j =
       let O = offset-found well posed b c hc (chain j) in
       let some = offset-row-iff well posed 0 b hb .1 (is-source refl) in
-      let C = stable-walk (offset-row n es 0) (source-settles well posed) (offset n es 0 b) 0 (record { some = some; enough = omega arith }) (walk-mono (usable-sub (members es) b) (span-walk (O .span) .1)) in
+      let C = stable-walk (offset-row n es 0) (source-settles well posed) (offset n no-leasts es 0 b) 0 (record { some = some; enough = omega arith }) (walk-mono (usable-sub (members es) b) (span-walk (O .span) .1)) in
       omega (arith, C .some, C .enough, O .attained)
 
-  triangle : (a b c : ℕ) → b < n → c < n → InAnchorSet (members es) a b → After (Forward (members es)) b c → offset n es a b + offset n es b c ≤ offset n es a c
+  triangle : (a b c : ℕ) → b < n → c < n → InAnchorSet (members es) a b → After (Forward (members es)) b c → offset n no-leasts es a b + offset n no-leasts es b c ≤ offset n no-leasts es a c
   triangle a b c hb hc (is-source e) j = rw e (source-triangle b c hb hc j)
   triangle a b c hb hc (chain i) j =
       offset-triangle (well .shape) acyclic posed i (j .walk .not-source) (offset-found well posed a b hb (chain i)) (offset-found well posed b c hc (chain j)) (offset-found well posed a c hc (chain (after-trans i j)))
@@ -58,7 +58,7 @@ module _ {n : ℕ} {es : List Edge} (well : Well n (members es)) (posed : WellPo
   apart a b c h (is-source e) j z = source-first (well .rooted) acyclic h (subst (λ (w : ℕ). After (Forward (members es)) b w) (z ∙ e) j)
   apart a b c h (chain i) j z = acyclic a (after-trans i (subst (λ (w : ℕ). After (Forward (members es)) b w) z j))
 
-  overrides-trans : (a v b c : ℕ) → v < n → Overrides (members es) (offset n es) a v b → Overrides (members es) (offset n es) b v c → Overrides (members es) (offset n es) a v c
+  overrides-trans : (a v b c : ℕ) → v < n → Overrides (members es) (offset n no-leasts es) a v b → Overrides (members es) (offset n no-leasts es) b v c → Overrides (members es) (offset n no-leasts es) a v c
   overrides-trans a v b c h o p =
       let hb = member-below (well .shape) h (o .inside) in
       let hc = member-below (well .shape) h (p .inside) in

@@ -11,7 +11,7 @@ use Rattle.judge_edges.specs.declared.Found.{Found}
 use Rattle.definitions.specs.Answers.{judge-edges, written}
 use Rattle.definitions.specs.Basics.{Outcome, given, refused, refuse-if, when-given}
 use Rattle.definitions.specs.Limits.{most-gain, most-steps}
-use Rattle.definitions.specs.Links.{Edge, members}
+use Rattle.definitions.specs.Links.{Edge, least-at, members}
 use Rattle.definitions.specs.Plan.{delays, plan-table, start-times}
 use Rattle.definitions.specs.Waits.{serialized}
 use Rattle.definitions.specs.declared.Operation.{Operation}
@@ -19,7 +19,7 @@ use Rattle.laws.proofs.Bools.{or-left}
 use Rattle.data_numbers.specs.Codes.{is-given}
 use Rattle.plan_starts.proofs.Accepted.{plan-starts-fit}
 use Rattle.plan_walks.specs.Tables.{Tabulated}
-use Rattle.theory.specs.Graphs.{Gains}
+use Rattle.theory.specs.Graphs.{Gains, SheetLeasts}
 use Rattle.theory.proofs.PlanTables.{plan-table-length}
 use Rattle.theory.proofs.StartTimes.{start-times-length}
 use Rattle.plan_answer.specs.Questions.{Fitting, Responds, check, list-wrong, numbers-of, outcome, short}
@@ -87,26 +87,26 @@ pub list-long : (n list room : ℕ) → n ≤ list → ltb room n ≡ (ltb list 
 list-long n list room h = rw (le-ltb list n h)
 
 -- The numbers that are asked for stand at the front, by what is asked.
-abbrev Stand : Question → ℕ → List Edge → List ℕ → List ℕ → List ℕ → Type 0
-Stand question n g list out after = after ≡ numbers-of question n g list ++ drop (length (numbers-of question n g list)) out
+abbrev Stand : Question → ℕ → (ℕ → ℕ) → List Edge → List ℕ → List ℕ → List ℕ → Type 0
+Stand question n least g list out after = after ≡ numbers-of question n least g list ++ drop (length (numbers-of question n least g list)) out
 
-module _ {question : Question} (n : ℕ) (g : List Edge) (list out : List ℕ) {after : List ℕ} where
-  pub nothing-stands : question ≡ Judgement → after ≡ out → Stand question n g list out after
+module _ {question : Question} (n : ℕ) (least : ℕ → ℕ) (g : List Edge) (list out : List ℕ) {after : List ℕ} where
+  pub nothing-stands : question ≡ Judgement → after ≡ out → Stand question n least g list out after
   nothing-stands e w = rw e w
 
-  pub plan-stands : question ≡ Plan → after ≡ plan-table n (serialized n g) ++ drop (n * n) out → Stand question n g list out after
-  plan-stands e w = rw e (w ∙ ap (λ (m : ℕ). plan-table n (serialized n g) ++ drop m out) (sym (plan-table-length n (serialized n g))))
+  pub plan-stands : question ≡ Plan → after ≡ plan-table n least (serialized n least g) ++ drop (n * n) out → Stand question n least g list out after
+  plan-stands e w = rw e (w ∙ ap (λ (m : ℕ). plan-table n least (serialized n least g) ++ drop m out) (sym (plan-table-length n least (serialized n least g))))
 
-  pub starts-stand : question ≡ Starts → Fitting question n g list → (Fitting Starts n g list → after ≡ start-times n (serialized n g) (delays list) ++ drop n out) → Stand question n g list out after
+  pub starts-stand : question ≡ Starts → Fitting question n least g list → (Fitting Starts n least g list → after ≡ start-times n least (serialized n least g) (delays list) ++ drop n out) → Stand question n least g list out after
   starts-stand e fits w =
-      rw e (w (rw e at fits) ∙ ap (λ (m : ℕ). start-times n (serialized n g) (delays list) ++ drop m out) (sym (start-times-length n (serialized n g) (delays list))))
+      rw e (w (rw e at fits) ∙ ap (λ (m : ℕ). start-times n least (serialized n least g) (delays list) ++ drop m out) (sym (start-times-length n least (serialized n least g) (delays list))))
 
 -- The start times of a list that is not refused have 32 bits.
-module _ {n : ℕ} {g : List Edge} {d : List (List ℕ)} {sets : List ℕ} (t : Tabulated n g d sets) (gains : Gains (members g) most-gain) (few : n ≤ most-steps) where
-  pub fitting : (question : Question) (os : List Operation) (list : List ℕ) (room : ℕ) → length os ≡ n → list-wrong question os list ≡ false → short question n (length list) room ≡ false → Fitting question n g list
-  fitting Judgement os list room long right h = tt
-  fitting Plan os list room long right h = tt
-  fitting Starts os list room long right h = plan-starts-fit (t .well) (t .serial) gains few os list long (starts-room {question = Starts} n (length list) room refl h .0) right
+module _ {n : ℕ} {least : ℕ → ℕ} {g : List Edge} {d : List (List ℕ)} {sets : List ℕ} (t : Tabulated n least g d sets) (gains : Gains (members g) most-gain) (leasts : SheetLeasts least (members g)) (few : n ≤ most-steps) where
+  pub fitting : (question : Question) (os : List Operation) (list : List ℕ) (room : ℕ) → length os ≡ n → ((a : ℕ) → least a ≡ least-at os a) → list-wrong question os list ≡ false → short question n (length list) room ≡ false → Fitting question n least g list
+  fitting Judgement os list room long same right h = tt
+  fitting Plan os list room long same right h = tt
+  fitting Starts os list room long same right h = plan-starts-fit least (t .well) (t .serial) (leasts .leasts) gains few os list long (λ a b. same a) (starts-room {question = Starts} n (length list) room refl h .0) right
 
 -- On a refusal the lent numbers stay; else the new ones stand at their front.
 written-refused : (o : Outcome ℕ) (new lent : List ℕ) → is-given o ≡ false → lent ≡ written o new lent
@@ -125,23 +125,23 @@ written-nothing (given v) lent = refl
 written-nothing (refused k) lent = refl
 
 -- The answer, where something refuses, and where the numbers are written.
-module _ (question : Question) (n : ℕ) (g : List Edge) (allow : Bool) (os : List Operation) (list out : List ℕ) {o p : Outcome ℕ} (judges : o ≡ judge-edges n g allow) (checks : p ≡ when-given o (check question n os list (length out))) where
-  pub outcome-of : p ≡ outcome question n g allow os list out
+module _ (question : Question) (n : ℕ) (least : ℕ → ℕ) (g : List Edge) (allow : Bool) (os : List Operation) (list out : List ℕ) {o p : Outcome ℕ} (judges : o ≡ judge-edges n least g allow) (checks : p ≡ when-given o (check question n os list (length out))) where
+  pub outcome-of : p ≡ outcome question n least g allow os list out
   unfolding outcome
   outcome-of = checks ∙ ap (λ (q : Outcome ℕ). when-given q (check question n os list (length out))) judges
 
-  pub refused-stays : is-given p ≡ false → out ≡ written (outcome question n g allow os list out) (numbers-of question n g list) out
-  refused-stays h = written-refused (outcome question n g allow os list out) (numbers-of question n g list) out (ap is-given (sym outcome-of) ∙ h)
+  pub refused-stays : is-given p ≡ false → out ≡ written (outcome question n least g allow os list out) (numbers-of question n least g list) out
+  refused-stays h = written-refused (outcome question n least g allow os list out) (numbers-of question n least g list) out (ap is-given (sym outcome-of) ∙ h)
 
-  pub given-written : {after : List ℕ} → is-given p ≡ true → Stand question n g list out after → after ≡ written (outcome question n g allow os list out) (numbers-of question n g list) out
-  given-written h w = w ∙ sym (written-given (outcome question n g allow os list out) (numbers-of question n g list) out (ap is-given (sym outcome-of) ∙ h))
+  pub given-written : {after : List ℕ} → is-given p ≡ true → Stand question n least g list out after → after ≡ written (outcome question n least g allow os list out) (numbers-of question n least g list) out
+  given-written h w = w ∙ sym (written-given (outcome question n least g allow os list out) (numbers-of question n least g list) out (ap is-given (sym outcome-of) ∙ h))
 
 -- Of a judgement nothing more is asked.
-judged-outcome : (n : ℕ) (g : List Edge) (allow : Bool) (os : List Operation) (list out : List ℕ) → judge-edges n g allow ≡ outcome Judgement n g allow os list out
+judged-outcome : (n : ℕ) (least : ℕ → ℕ) (g : List Edge) (allow : Bool) (os : List Operation) (list out : List ℕ) → judge-edges n least g allow ≡ outcome Judgement n least g allow os list out
 unfolding outcome check refuse-if
-judged-outcome n g allow os list out = sym (when-passes (judge-edges n g allow) (check Judgement n os list (length out)) (λ v. refl))
+judged-outcome n least g allow os list out = sym (when-passes (judge-edges n least g allow) (check Judgement n os list (length out)) (λ v. refl))
 
-pub judged-responds : {question : Question} (n : ℕ) (g : List Edge) (allow : Bool) (os : List Operation) (list out : List ℕ) {r : Found} {maps : List ℕ} → question ≡ Judgement → Listed n g (judge-edges n g) allow (r .verdict) maps (r .count) → Responds question n g allow os list out r out maps
-judged-responds n g allow os list out {r} {maps} e listed =
-    let base : Responds Judgement n g allow os list out r out maps = record { verdict = listed .judges ∙ judged-outcome n g allow os list out; numbers = written-nothing _ out; waits = record { found = listed .found; blank = listed .blank } } in
+pub judged-responds : {question : Question} (n : ℕ) (least : ℕ → ℕ) (g : List Edge) (allow : Bool) (os : List Operation) (list out : List ℕ) {r : Found} {maps : List ℕ} → question ≡ Judgement → Listed n g (judge-edges n least g) allow (r .verdict) maps (r .count) → Responds question n least g allow os list out r out maps
+judged-responds n least g allow os list out {r} {maps} e listed =
+    let base : Responds Judgement n least g allow os list out r out maps = record { verdict = listed .judges ∙ judged-outcome n least g allow os list out; numbers = written-nothing _ out; waits = record { found = listed .found; blank = listed .blank } } in
     rw e base

@@ -16,14 +16,16 @@ ghost use Prim.Native.Nat.{_≤_};
 ghost use lib.ListN.{length, drop};
 ghost use Rattle.definitions.specs.Bytes.{read};
 ghost use Rattle.definitions.specs.Limits.{most-steps};
-ghost use Rattle.definitions.specs.Links.{Edge};
+ghost use Rattle.definitions.specs.Links.{Edge, members};
 ghost use Rattle.definitions.specs.Numbers.{verdict-of};
 ghost use Rattle.definitions.specs.declared.Operation.{Operation};
+ghost use Rattle.data_edges.specs.Serial.{leasts-in};
 ghost use Rattle.data_edges.specs.Words.{graph};
+ghost use Rattle.theory.specs.Graphs.{SheetLeasts};
 ghost use Rattle.data_numbers.specs.Codes.{is-given};
 ghost use Rattle.read_sheet.specs.Answers.{Reports};
 ghost use Rattle.plan_walks.specs.Tables.{Blank, SheetEdges, Tabulable, Tabulated};
-ghost use Rattle.plan_answer.specs.Questions.{Answers, Checked, Fitting, Listable, OpenSteps, Responds, Writable, list-wrong, numbers-of, short};
+ghost use Rattle.plan_answer.specs.Questions.{Answers, Checked, Fitting, Listable, Responds, StepsHeld, Writable, list-wrong, numbers-of, short};
 
 // What is asked of a sheet beside its verdict and its waits: nothing; its plan; its start times for a list of durations.
 pub enum Question {
@@ -57,15 +59,21 @@ const FEW_EDGES: usize = 256;
 
 // ---- from the verdict, the working table and the anchor sets
 
-// Whether 13 applies: an entry of the list of durations is above its limit.
-fn wrong_list(question: Question, list: &[u32], unbounded: u64, n: usize) -> bool
+// Whether 13 applies: an entry of the list of durations is above its limit or below its least.
+fn wrong_list(
+    question: Question,
+    list: &[u32],
+    unbounded: u64,
+    leasts: &[u16; 64],
+    n: usize,
+) -> bool
     requires { ⌜ n ≤ most-steps ⌝ }
-    ensures { λ r. ⌜ ((os : List Operation) → OpenSteps n unbounded os → r ≡ list-wrong question os (now (list .entry))) ⌝ }
+    ensures { λ r. ⌜ ((os : List Operation) → StepsHeld n unbounded (now (leasts .entry)) os → r ≡ list-wrong question os (now (list .entry))) ⌝ }
 {
     match question {
         Question::Judgement => false,
         Question::Plan => false,
-        Question::Starts => plan_durations::delays_bad(list, unbounded, n),
+        Question::Starts => plan_durations::delays_bad(list, unbounded, leasts, n),
     }
 }
 
@@ -92,16 +100,17 @@ fn checked(
     question: Question,
     list: &[u32],
     unbounded: u64,
+    leasts: &[u16; 64],
     n: usize,
     room: usize,
 ) -> Verdict
     requires { ⌜ n ≤ most-steps ⌝ }
-    ensures { λ r. ⌜ Checked (verdict-of verdict) question n unbounded (now (list .entry)) room (verdict-of r) ⌝ }
+    ensures { λ r. ⌜ Checked (verdict-of verdict) question n unbounded (now (leasts .entry)) (now (list .entry)) room (verdict-of r) ⌝ }
 {
     if !accepted(verdict) {
         return verdict;
     }
-    if wrong_list(question, list, unbounded, n) {
+    if wrong_list(question, list, unbounded, leasts, n) {
         return Verdict::Refused(Refusal::BadDelays);
     }
     if too_short(question, n, list.len(), room) {
@@ -113,6 +122,7 @@ fn checked(
 // The numbers that are asked for, to the front of those that are lent.
 fn write(
     d: &[[u32; 64]],
+    leasts: &[u16; 64],
     sets: &[u64; 64],
     n: usize,
     question: Question,
@@ -120,15 +130,15 @@ fn write(
     out: &mut [u32],
 )
     requires { ⌜ Writable question n (now d) (now sets) (now list) (now out) ⌝ }
-    ensures { λ r. ⌜ ((g : List Edge) → Tabulated n g (now (d .entry)) (now (sets .entry)) → Fitting question n g (now (list .entry)) → now (out .exit) ≡ numbers-of question n g (now (list .entry)) ++ drop (length (numbers-of question n g (now (list .entry)))) (now (out .entry))) ⌝ }
+    ensures { λ r. ⌜ ((g : List Edge) → SheetLeasts (leasts-in (now (leasts .entry))) (members g) → Tabulated n (leasts-in (now (leasts .entry))) g (now (d .entry)) (now (sets .entry)) → Fitting question n (leasts-in (now (leasts .entry))) g (now (list .entry)) → now (out .exit) ≡ numbers-of question n (leasts-in (now (leasts .entry))) g (now (list .entry)) ++ drop (length (numbers-of question n (leasts-in (now (leasts .entry))) g (now (list .entry)))) (now (out .entry))) ⌝ }
 {
     match question {
         Question::Judgement => {}
         Question::Plan => {
-            plan_table::fill_plan(d, sets, n, out);
+            plan_table::fill_plan(d, leasts, sets, n, out);
         }
         Question::Starts => {
-            plan_starts::fill_starts(d, sets, n, list, out);
+            plan_starts::fill_starts(d, leasts, sets, n, list, out);
         }
     }
 }
@@ -140,6 +150,7 @@ fn answer_on(
     d: &mut [[u32; 64]],
     es: &[u64],
     lists: &[u16],
+    leasts: &[u16; 64],
     n: usize,
     allow: bool,
     unbounded: u64,
@@ -148,13 +159,13 @@ fn answer_on(
     out: &mut [u32],
     maps: &mut [u64; 64],
 ) -> Found
-    requires { ⌜ Tabulable n (now es) (now lists) (now d) × Blank (now maps) ⌝ }
-    ensures { λ r. ⌜ ((os : List Operation) → OpenSteps n unbounded os → Responds question n (graph (now (es .entry))) allow os (now (list .entry)) (now (out .entry)) r (now (out .exit)) (now (maps .exit))) ⌝ }
+    requires { ⌜ Tabulable n (leasts-in (now leasts)) (now es) (now lists) (now d) × Blank (now maps) ⌝ }
+    ensures { λ r. ⌜ ((os : List Operation) → StepsHeld n unbounded (now (leasts .entry)) os → Responds question n (leasts-in (now (leasts .entry))) (graph (now (es .entry))) allow os (now (list .entry)) (now (out .entry)) r (now (out .exit)) (now (maps .exit))) ⌝ }
 {
     let mut sets = [0u64; 64];
-    let found = tabulate(d, es, lists, n, allow, &mut sets, maps);
+    let found = tabulate(d, es, lists, leasts, n, allow, &mut sets, maps);
     let judged = found.verdict;
-    let verdict = checked(judged, question, list, unbounded, n, out.len());
+    let verdict = checked(judged, question, list, unbounded, leasts, n, out.len());
     let answer = Found {
         sorted: found.sorted,
         verdict: verdict,
@@ -163,7 +174,7 @@ fn answer_on(
     if !accepted(verdict) {
         return answer;
     }
-    write(d, &sets, n, question, list, out);
+    write(d, leasts, &sets, n, question, list, out);
     answer
 }
 
@@ -171,6 +182,7 @@ fn answer_on(
 fn answer_listed(
     es: &[u64],
     lists: &mut [u16],
+    leasts: &[u16; 64],
     n: usize,
     allow: bool,
     unbounded: u64,
@@ -179,12 +191,12 @@ fn answer_listed(
     out: &mut [u32],
     maps: &mut [u64; 64],
 ) -> Found
-    requires { ⌜ Listable n (now es) (now lists) × Blank (now maps) ⌝ }
-    ensures { λ r. ⌜ ((os : List Operation) → OpenSteps n unbounded os → Responds question n (graph (now (es .entry))) allow os (now (list .entry)) (now (out .entry)) r (now (out .exit)) (now (maps .exit))) ⌝ }
+    requires { ⌜ Listable n (leasts-in (now leasts)) (now es) (now lists) × Blank (now maps) ⌝ }
+    ensures { λ r. ⌜ ((os : List Operation) → StepsHeld n unbounded (now (leasts .entry)) os → Responds question n (leasts-in (now (leasts .entry))) (graph (now (es .entry))) allow os (now (list .entry)) (now (out .entry)) r (now (out .exit)) (now (maps .exit))) ⌝ }
 {
     data_lists::list(es, lists);
     if let Question::Judgement = question {
-        return judge_edges::judge_edges(es, lists, n, allow, maps);
+        return judge_edges::judge_edges(es, lists, leasts, n, allow, maps);
     }
     if n <= FEW_STEPS {
         let mut d = [[walk_cells::EMPTY; 64]; FEW_STEPS];
@@ -192,6 +204,7 @@ fn answer_listed(
             &mut d,
             es,
             lists,
+            leasts,
             n,
             allow,
             unbounded,
@@ -207,6 +220,7 @@ fn answer_listed(
             &mut d,
             es,
             lists,
+            leasts,
             n,
             allow,
             unbounded,
@@ -221,6 +235,7 @@ fn answer_listed(
         &mut d,
         es,
         lists,
+        leasts,
         n,
         allow,
         unbounded,
@@ -231,9 +246,10 @@ fn answer_listed(
     )
 }
 
-// The answer from the edges of a sheet of n steps and the map of its open ones.
+// The answer from the edges of a sheet of n steps, their leasts and the map of the open ones.
 fn answer_edges(
     es: &[u64],
+    leasts: &[u16; 64],
     n: usize,
     allow: bool,
     unbounded: u64,
@@ -242,14 +258,15 @@ fn answer_edges(
     out: &mut [u32],
     maps: &mut [u64; 64],
 ) -> Found
-    requires { ⌜ SheetEdges n (now es) × Blank (now maps) ⌝ }
-    ensures { λ r. ⌜ ((os : List Operation) → OpenSteps n unbounded os → Responds question n (graph (now (es .entry))) allow os (now (list .entry)) (now (out .entry)) r (now (out .exit)) (now (maps .exit))) ⌝ }
+    requires { ⌜ SheetEdges n (leasts-in (now leasts)) (now es) × Blank (now maps) ⌝ }
+    ensures { λ r. ⌜ ((os : List Operation) → StepsHeld n unbounded (now (leasts .entry)) os → Responds question n (leasts-in (now (leasts .entry))) (graph (now (es .entry))) allow os (now (list .entry)) (now (out .entry)) r (now (out .exit)) (now (maps .exit))) ⌝ }
 {
     if es.len() <= FEW_EDGES {
         let mut lists = [0u16; 64 + FEW_EDGES];
         return answer_listed(
             es,
             &mut lists,
+            leasts,
             n,
             allow,
             unbounded,
@@ -263,6 +280,7 @@ fn answer_edges(
     answer_listed(
         es,
         &mut lists,
+        leasts,
         n,
         allow,
         unbounded,
@@ -275,18 +293,19 @@ fn answer_edges(
 
 // ---- over bytes
 
-// The answer, from what was read of a sheet and the words that hold its edges.
+// The answer, from what was read of a sheet, the words that hold its edges and the leasts of its steps.
 fn answer_read(
     s: &[u8],
     report: Report,
     words: &[u64],
+    leasts: &[u16; 64],
     allow: bool,
     question: Question,
     list: &[u32],
     out: &mut [u32],
     maps: &mut [u64; 64],
 ) -> Found
-    requires { ⌜ Reports (read (now s)) (now words) report × Blank (now maps) ⌝ }
+    requires { ⌜ Reports (read (now s)) (now words) (now leasts) report × Blank (now maps) ⌝ }
     ensures { λ r. ⌜ Answers question (now (s .entry)) allow (now (list .entry)) (now (out .entry)) r (now (out .exit)) (now (maps .exit)) ⌝ }
 {
     let reading = report.reading;
@@ -301,6 +320,7 @@ fn answer_read(
     let unbounded = report.unbounded;
     answer_edges(
         &words[..count],
+        leasts,
         report.n,
         allow,
         unbounded,
@@ -324,22 +344,23 @@ pub fn answer(
     requires { ⌜ Blank (now maps) ⌝ }
     ensures { λ r. ⌜ Answers question (now (s .entry)) allow (now (list .entry)) (now (out .entry)) r (now (out .exit)) (now (maps .exit)) ⌝ }
 {
+    let mut leasts = [0u16; 64];
     if read_fields::is_brief(s, FEW_RECORDS) {
         let mut words = [0u64; FEW_WORDS];
-        let report = read_sheet::read(s, &mut words);
-        return answer_read(s, report, &words, allow, question, list, out, maps);
+        let report = read_sheet::read(s, &mut words, &mut leasts);
+        return answer_read(s, report, &words, &leasts, allow, question, list, out, maps);
     }
     if read_fields::is_brief(s, SOME_RECORDS) {
         let mut words = [0u64; SOME_WORDS];
-        let report = read_sheet::read(s, &mut words);
-        return answer_read(s, report, &words, allow, question, list, out, maps);
+        let report = read_sheet::read(s, &mut words, &mut leasts);
+        return answer_read(s, report, &words, &leasts, allow, question, list, out, maps);
     }
     if read_fields::is_brief(s, MANY_RECORDS) {
         let mut words = [0u64; MANY_WORDS];
-        let report = read_sheet::read(s, &mut words);
-        return answer_read(s, report, &words, allow, question, list, out, maps);
+        let report = read_sheet::read(s, &mut words, &mut leasts);
+        return answer_read(s, report, &words, &leasts, allow, question, list, out, maps);
     }
     let mut words = [0u64; MOST_EDGES];
-    let report = read_sheet::read(s, &mut words);
-    answer_read(s, report, &words, allow, question, list, out, maps)
+    let report = read_sheet::read(s, &mut words, &mut leasts);
+    answer_read(s, report, &words, &leasts, allow, question, list, out, maps)
 }

@@ -11,14 +11,15 @@ use lib.ListN.{getD}
 use borrow.Author.Tests.{lt-ltb, ltb-true, leb-true, le-leb, eqb-true, eq-eqb, eqb-false, ne-eqb}
 use Rattle.definitions.specs.Anchors.{in-anchor-set}
 use Rattle.definitions.specs.Basics.{any-below, test-bit}
-use Rattle.definitions.specs.Links.{Edge}
+use Rattle.definitions.specs.Links.{Edge, no-leasts}
 use Rattle.definitions.specs.Plan.{offset, overrides, decides}
 use Rattle.laws.proofs.Bools.{and-join, and-split, bool-cases, both-ways, same-test}
 use Rattle.laws.proofs.Maps.{removed-lt, same-map, test-and, test-zero}
 use Rattle.laws.proofs.Members.{any-member-less, any-member-none}
 use Rattle.laws.proofs.Tests.{any-below-has, any-below-by}
 use Rattle.definitions.specs.Rounds.{entry}
-use Rattle.plan_deciding.specs.Working.{Full, Holds, Orderly, weight, member, reaching, covering, deciding}
+use Rattle.data_edges.specs.Serial.{leasts-in}
+use Rattle.plan_deciding.specs.Working.{Full, Holds, Orderly, weight, offset-in, member, reaching, covering, deciding}
 
 -- ---- the members given, compared one at a time
 
@@ -181,28 +182,33 @@ module _ {n : ℕ} {es : List Edge} {d : List (List ℕ)} {sets : List ℕ} (h :
   pub member-below : (a v : ℕ) → v < n → member sets v a ≡ true → a < n
   member-below a v q t = ltb-true a n (and-split _ (in-anchor-set n es a v) (sym (h .members a v q) ∙ t) .0)
 
-  pub weight-offset : (a v : ℕ) → a < n → v < n → member sets v a ≡ true → weight d v a ≡ offset n es a v
+  pub weight-offset : (a v : ℕ) → a < n → v < n → member sets v a ≡ true → weight d v a ≡ offset n no-leasts es a v
   unfolding offset
   weight-offset a v p q m = ap (λ (x : ℕ). x - 1) (h .cells a v p q m)
 
-  -- The same tests in another order: where the members are, the offsets are.
-  pub overriding-same : (a v b : ℕ) → a < n → v < n → b < n → member sets v a ≡ true → (member sets v b && covering d sets v a b) ≡ overrides n es a v b
-  unfolding reaching covering overrides
-  overriding-same a v b p q r m = same-test (member sets v b && covering d sets v a b) (overrides n es a v b) forth back
-    where
-      same : member sets v b ≡ true → member sets b a ≡ true → reaching d v a b ≡ leb (offset n es a v) (offset n es a b + offset n es b v)
-      same s t = ap₂ leb (weight-offset a v p q m) (ap₂ _+_ (weight-offset a b p r t) (weight-offset b v r q s))
+  -- The least of a is taken away, where the array has it.
+  pub offset-read : (least : ℕ → ℕ) (leasts : List ℕ) (a v : ℕ) → a < n → v < n → leasts-in leasts a ≡ least a → member sets v a ≡ true → offset-in d leasts v a ≡ offset n least es a v
+  unfolding offset
+  offset-read least leasts a v p q e m = omega (arith, h .cells a v p q m, e)
 
-      forth : (member sets v b && covering d sets v a b) ≡ true → overrides n es a v b ≡ true
+  -- The same tests in another order: where the members are, the walks are. Walks are counted from the start of their anchor, as where no step has a least.
+  pub overriding-same : (a v b : ℕ) → a < n → v < n → b < n → member sets v a ≡ true → (member sets v b && covering d sets v a b) ≡ overrides n no-leasts es a v b
+  unfolding reaching covering overrides
+  overriding-same a v b p q r m = same-test (member sets v b && covering d sets v a b) (overrides n no-leasts es a v b) forth back
+    where
+      same : member sets v b ≡ true → member sets b a ≡ true → reaching d v a b ≡ leb (offset n no-leasts es a v) (offset n no-leasts es a b + 0 + offset n no-leasts es b v)
+      same s t = ap₂ leb (weight-offset a v p q m) (omega (arith, weight-offset a b p r t, weight-offset b v r q s))
+
+      forth : (member sets v b && covering d sets v a b) ≡ true → overrides n no-leasts es a v b ≡ true
       forth t =
           let x = and-split (member sets v b) (covering d sets v a b) t in
           let y = and-split (not (eqb b a) && member sets b a) (reaching d v a b) (x .1) in
           let z = and-split (not (eqb b a)) (member sets b a) (y .0) in
           and-join (and-join (and-join (z .0) (sym (member-anchor b v r q) ∙ x .0)) (sym (member-anchor a b p r) ∙ z .1)) (sym (same (x .0) (z .1)) ∙ y .1)
 
-      back : overrides n es a v b ≡ true → (member sets v b && covering d sets v a b) ≡ true
+      back : overrides n no-leasts es a v b ≡ true → (member sets v b && covering d sets v a b) ≡ true
       back t =
-          let x = and-split (not (eqb b a) && in-anchor-set n es b v && in-anchor-set n es a b) (leb (offset n es a v) (offset n es a b + offset n es b v)) t in
+          let x = and-split (not (eqb b a) && in-anchor-set n es b v && in-anchor-set n es a b) (leb (offset n no-leasts es a v) (offset n no-leasts es a b + 0 + offset n no-leasts es b v)) t in
           let y = and-split (not (eqb b a) && in-anchor-set n es b v) (in-anchor-set n es a b) (x .0) in
           let z = and-split (not (eqb b a)) (in-anchor-set n es b v) (y .0) in
           let s = member-anchor b v r q ∙ z .1 in
@@ -210,27 +216,27 @@ module _ {n : ℕ} {es : List Edge} {d : List (List ℕ)} {sets : List ℕ} (h :
           and-join s (and-join (and-join (z .0) u) (same s u ∙ x .1))
 
   -- From n on there are no members.
-  overridden-same : (a v : ℕ) → n ≤ 64 → a < n → v < n → member sets v a ≡ true → any-below (λ b. member sets v b && covering d sets v a b) 64 ≡ any-below (overrides n es a v) n
+  overridden-same : (a v : ℕ) → n ≤ 64 → a < n → v < n → member sets v a ≡ true → any-below (λ b. member sets v b && covering d sets v a b) 64 ≡ any-below (overrides n no-leasts es a v) n
   overridden-same a v few p q m =
-      same-test (any-below by-member 64) (any-below (overrides n es a v) n)
+      same-test (any-below by-member 64) (any-below (overrides n no-leasts es a v) n)
       (λ t. let w = any-below-has by-member 64 t in
       let b = member-below (w .0) v q (and-split (member sets v (w .0)) (covering d sets v a (w .0)) (w .2) .0) in
-      any-below-by (overrides n es a v) n b (sym (overriding-same a v (w .0) p q b m) ∙ w .2))
-      (λ t. let w = any-below-has (overrides n es a v) n t in any-below-by by-member 64 (omega (arith, w .1)) (overriding-same a v (w .0) p q (w .1) m ∙ w .2))
+      any-below-by (overrides n no-leasts es a v) n b (sym (overriding-same a v (w .0) p q b m) ∙ w .2))
+      (λ t. let w = any-below-has (overrides n no-leasts es a v) n t in any-below-by by-member 64 (omega (arith, w .1)) (overriding-same a v (w .0) p q (w .1) m ∙ w .2))
     where
       by-member : ℕ → Bool
       by-member b = member sets v b && covering d sets v a b
 
-  pub deciding-same : (a v : ℕ) → n ≤ 64 → a < n → v < n → deciding d sets v a ≡ decides n es a v
+  pub deciding-same : (a v : ℕ) → n ≤ 64 → a < n → v < n → deciding d sets v a ≡ decides n no-leasts es a v
   unfolding deciding decides
   deciding-same a v few p q = go (bool-cases (member sets v a))
     where
       -- What is no member does not decide.
-      go : (member sets v a ≡ true) ⊎ (member sets v a ≡ false) → (member sets v a && not (any-below (λ b. member sets v b && covering d sets v a b) 64)) ≡ (in-anchor-set n es a v && not (any-below (overrides n es a v) n))
+      go : (member sets v a ≡ true) ⊎ (member sets v a ≡ false) → (member sets v a && not (any-below (λ b. member sets v b && covering d sets v a b) 64)) ≡ (in-anchor-set n es a v && not (any-below (overrides n no-leasts es a v) n))
       go (inl m) = ap₂ (λ (s t : Bool). s && not t) (member-anchor a v p q) (overridden-same a v few p q m)
       go (inr m) =
           ap (λ (s : Bool). s && not (any-below (λ b. member sets v b && covering d sets v a b) 64)) m
-          ∙ sym (ap (λ (s : Bool). s && not (any-below (overrides n es a v) n)) (sym (member-anchor a v p q) ∙ m))
+          ∙ sym (ap (λ (s : Bool). s && not (any-below (overrides n no-leasts es a v) n)) (sym (member-anchor a v p q) ∙ m))
 
 -- What decides is a member.
 pub deciding-member : (d : List (List ℕ)) (sets : List ℕ) (v a : ℕ) → deciding d sets v a ≡ true → member sets v a ≡ true

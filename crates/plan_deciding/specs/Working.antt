@@ -10,20 +10,28 @@ use Rattle.definitions.specs.Basics.{any-below, test-bit}
 use Rattle.definitions.specs.Links.{Edge}
 use Rattle.definitions.specs.Plan.{offset-row}
 use Rattle.definitions.specs.Rounds.{cell, entry}
+use Rattle.data_edges.specs.Serial.{leasts-in}
 
 -- d and sets hold the heaviest walks and the anchor sets of the edges es: bit a of map v says whether a is in the anchor set of v, and where it is, cell a of row v of d is that of v in the row of a.
 pub record Holds (n : ℕ) (es : List Edge) (d : List (List ℕ)) (sets : List ℕ) : Type 0 where
   pub cells : (a v : ℕ) → a < n → v < n → test-bit (getD sets v 0) a ≡ true → entry d v a ≡ cell (offset-row n es a) v
   pub members : (a v : ℕ) → v < n → test-bit (getD sets v 0) a ≡ (ltb a n && in-anchor-set n es a v)
 
--- The offset of v for a.
+-- An array holds the leasts of n steps.
+abbrev pub HoldsLeasts : ℕ → (ℕ → ℕ) → List ℕ → Type 0
+HoldsLeasts n least leasts = (a : ℕ) → a < n → leasts-in leasts a ≡ least a
+
+-- What the heaviest walk from a to v weighs, counted from the start of a; and the offset of v for a, which counts from the end of a with the least of a apart (request L6).
 abbrev pub weight : List (List ℕ) → ℕ → ℕ → ℕ
 weight d v a = entry d v a - 1
+
+abbrev pub offset-in : List (List ℕ) → List ℕ → ℕ → ℕ → ℕ
+offset-in d leasts v a = weight d v a - leasts-in leasts a
 
 abbrev pub member : List ℕ → ℕ → ℕ → Bool
 member sets v a = test-bit (getD sets v 0) a
 
--- Offset of b for a, plus offset of v for b, reaches the offset of v for a.
+-- The walk from a to b and that from b to v weigh as much as the walk from a to v. By offsets: that of b for a, plus the least of b, plus that of v for b, reaches that of v for a.
 unfoldable pub reaching : List (List ℕ) → ℕ → ℕ → ℕ → Bool
 reaching d v a b = leb (weight d v a) (weight d b a + weight d v b)
 

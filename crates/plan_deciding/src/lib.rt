@@ -1,21 +1,32 @@
 // Deciding sets (irredundant anchor sets), read off the working tables: heaviest walks and anchor sets.
-// d: cell a of row v is 0 where no walk comes from a to v, w + 1 for the weight w. sets: bit a of map v stands where a is in the anchor set of v.
+// d: cell a of row v is 0 where no walk comes from a to v, w + 1 for the weight w, counted from the start of a. sets: bit a of map v stands where a is in the anchor set of v.
 // Every function is safe for any tables with a row for v and for each member of its set; on orderly ones, as those of an accepted sheet are, its answer is the definition's.
 ghost use mathlib.Core.Path.{_≡_};
 ghost use mathlib.Core.Bool.{not, _&&_};
-ghost use Prim.Native.Nat.{ℕ, _<_, _≤_};
+ghost use Prim.Native.Nat.{ℕ, _-_, _<_, _≤_};
 ghost use lib.Dec.{eqb};
 ghost use lib.ListN.{getD, length};
 ghost use Rattle.definitions.specs.Basics.{test-bit};
 ghost use Rattle.definitions.specs.Rounds.{entry};
-ghost use Rattle.plan_deciding.specs.Working.{Full, Orderly, Rowed, Ways, weight, reaching, covering, deciding};
+ghost use Rattle.plan_deciding.specs.Working.{Full, Orderly, Rowed, Ways, offset-in, reaching, covering, deciding};
 
-// The offset of v for a, 0 where there is none.
-pub fn offset_at(d: &[[u32; 64]], v: usize, a: usize) -> u32
-    requires { ⌜ (v < length (now d)) × (a < 64) ⌝ }
-    ensures { λ r. ⌜ r ≡ weight (now (d .entry)) v a ⌝ }
+// A weight without the least of its anchor; 0 where it is less, as no walk's is on the tables of a sheet.
+fn past_least(weight: u32, least: u16) -> u32
+    ensures { λ r. ⌜ r ≡ weight - least ⌝ }
 {
-    walk_cells::weight(d[v][a])
+    let x = least as u32;
+    if weight < x {
+        return 0;
+    }
+    weight - x
+}
+
+// The offset of v for a, 0 where there is none. It counts from the end of a, so the least of a is taken away.
+pub fn offset_at(d: &[[u32; 64]], leasts: &[u16; 64], v: usize, a: usize) -> u32
+    requires { ⌜ (v < length (now d)) × (a < 64) ⌝ }
+    ensures { λ r. ⌜ r ≡ offset-in (now (d .entry)) (now (leasts .entry)) v a ⌝ }
+{
+    past_least(walk_cells::weight(d[v][a]), leasts[a])
 }
 
 // Whether the way from a over b comes to v as late as a itself.

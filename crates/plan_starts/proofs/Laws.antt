@@ -20,34 +20,34 @@ use Rattle.laws.proofs.Members.{largest-member-less, largest-member-none}
 use Rattle.laws.proofs.Tests.{all-below-each, largest-same, largest-same-test, tabulate-at, tabulate-same}
 use Rattle.theory.proofs.FirstRows.{zeros-at}
 use Rattle.theory.proofs.StartTimes.{start-times-length}
-use Rattle.plan_deciding.specs.Working.{Holds, member}
-use Rattle.plan_deciding.proofs.Laws.{member-anchor, weight-offset}
+use Rattle.plan_deciding.specs.Working.{Holds, HoldsLeasts, member}
+use Rattle.plan_deciding.proofs.Laws.{member-anchor, offset-read}
 use Rattle.plan_starts.specs.Times.{Started, cut, term, start-at, next-row, row-after}
 
 -- ---- the terms of a start, a member at a time
 
-module _ (d : List (List ℕ)) (list row : List ℕ) (v n : ℕ) where
+module _ (d : List (List ℕ)) (leasts list row : List ℕ) (v n : ℕ) where
   -- The largest so far, or a term of the members left.
   abbrev pub latest-of : ℕ → ℕ → ℕ
-  latest-of most left = max most (largest (test-bit left) (term d list row v) n)
+  latest-of most left = max most (largest (test-bit left) (term d leasts list row v) n)
 
-  pub none-taken : (members : ℕ) → latest-of 0 members ≡ largest (test-bit members) (term d list row v) n
+  pub none-taken : (members : ℕ) → latest-of 0 members ≡ largest (test-bit members) (term d leasts list row v) n
   none-taken members = omega arith
 
-  pub one-taken : (most left next rest x y : ℕ) → x < n → test-bit left x ≡ true → y ≡ term d list row v x → next ≡ max most y
+  pub one-taken : (most left next rest x y : ℕ) → x < n → test-bit left x ≡ true → y ≡ term d leasts list row v x → next ≡ max most y
       → ((j : ℕ) → test-bit rest j ≡ (test-bit left j && not (eqb j x))) → latest-of next rest ≡ latest-of most left
-  one-taken most left next rest x y b stood y-is next-is rest-is = omega (arith, largest-member-less left rest x stood rest-is (term d list row v) n b)
+  one-taken most left next rest x y b stood y-is next-is rest-is = omega (arith, largest-member-less left rest x stood rest-is (term d leasts list row v) n b)
 
   -- No member below n is left.
   pub all-taken : (most left : ℕ) → ((k : ℕ) → k < n → test-bit left k ≡ false) → latest-of most left ≡ most
-  all-taken most left h = omega (arith, largest-member-none (term d list row v) n left h)
+  all-taken most left h = omega (arith, largest-member-none (term d leasts list row v) n left h)
 
-module _ (d : List (List ℕ)) (sets : List ℕ) (n : ℕ) (list row : List ℕ) where
-  pub start-at-source : (v : ℕ) → v ≡ 0 → start-at d sets n list row v ≡ 0
+module _ (d : List (List ℕ)) (leasts sets : List ℕ) (n : ℕ) (list row : List ℕ) where
+  pub start-at-source : (v : ℕ) → v ≡ 0 → start-at d leasts sets n list row v ≡ 0
   unfolding start-at
   start-at-source v e = rw e refl
 
-  pub start-at-later : (v most : ℕ) → (v ≡ 0 → ⊥) → most ≡ largest (test-bit (getD sets v 0)) (term d list row v) n → start-at d sets n list row v ≡ min most cut
+  pub start-at-later : (v most : ℕ) → (v ≡ 0 → ⊥) → most ≡ largest (test-bit (getD sets v 0)) (term d leasts list row v) n → start-at d leasts sets n list row v ≡ min most cut
   unfolding start-at
   start-at-later zero most h e = absurd (h refl)
   start-at-later (suc v) most h e = ap (λ (x : ℕ). min x cut) (sym e)
@@ -60,44 +60,44 @@ module _ (test : ℕ → Bool) where
 
 -- ---- turns that change nothing
 
-module _ (d : List (List ℕ)) (sets : List ℕ) (n : ℕ) (list : List ℕ) where
+module _ (d : List (List ℕ)) (leasts sets : List ℕ) (n : ℕ) (list : List ℕ) where
   -- A turn reads the first n numbers of a row alone.
-  start-at-cells : (row other : List ℕ) → ((a : ℕ) → a < n → cell row a ≡ cell other a) → (v : ℕ) → start-at d sets n list row v ≡ start-at d sets n list other v
+  start-at-cells : (row other : List ℕ) → ((a : ℕ) → a < n → cell row a ≡ cell other a) → (v : ℕ) → start-at d leasts sets n list row v ≡ start-at d leasts sets n list other v
   unfolding start-at term
   start-at-cells row other h zero = refl
   start-at-cells row other h (suc v) =
-      ap (λ (x : ℕ). min x cut) (largest-same (member sets (suc v)) (term d list row (suc v)) (term d list other (suc v)) n (λ a b m. omega (arith, h a b)))
+      ap (λ (x : ℕ). min x cut) (largest-same (member sets (suc v)) (term d leasts list row (suc v)) (term d leasts list other (suc v)) n (λ a b m. omega (arith, h a b)))
 
-  next-row-cells : (row other : List ℕ) → ((a : ℕ) → a < n → cell row a ≡ cell other a) → next-row d sets n list row ≡ next-row d sets n list other
+  next-row-cells : (row other : List ℕ) → ((a : ℕ) → a < n → cell row a ≡ cell other a) → next-row d leasts sets n list row ≡ next-row d leasts sets n list other
   unfolding next-row
   next-row-cells row other h =
-      ap (λ (l : List ℕ). l ++ drop n (replicate 64 0)) (tabulate-same (start-at d sets n list row) (start-at d sets n list other) n (λ v b. start-at-cells row other h v))
+      ap (λ (l : List ℕ). l ++ drop n (replicate 64 0)) (tabulate-same (start-at d leasts sets n list row) (start-at d leasts sets n list other) n (λ v b. start-at-cells row other h v))
 
   -- Two rows with the same first n numbers have the same next row. Induction on the turns that follow.
-  settled : (k : ℕ) → ((a : ℕ) → a < n → cell (row-after d sets n list k) a ≡ cell (row-after d sets n list (suc k)) a) → (j : ℕ) → row-after d sets n list (suc k + j) ≡ row-after d sets n list (suc k)
+  settled : (k : ℕ) → ((a : ℕ) → a < n → cell (row-after d leasts sets n list k) a ≡ cell (row-after d leasts sets n list (suc k)) a) → (j : ℕ) → row-after d leasts sets n list (suc k + j) ≡ row-after d leasts sets n list (suc k)
   unfolding row-after
-  settled k h zero = ap (row-after d sets n list) (let e : suc k + 0 ≡ suc k = omega arith in e)
+  settled k h zero = ap (row-after d leasts sets n list) (let e : suc k + 0 ≡ suc k = omega arith in e)
   settled k h (suc j) =
-      ap (row-after d sets n list) (let e : suc k + suc j ≡ suc (suc k + j) = omega arith in e)
-      ∙ ap (next-row d sets n list) (settled k h j)
-      ∙ sym (next-row-cells (row-after d sets n list k) (row-after d sets n list (suc k)) h)
+      ap (row-after d leasts sets n list) (let e : suc k + suc j ≡ suc (suc k + j) = omega arith in e)
+      ∙ ap (next-row d leasts sets n list) (settled k h j)
+      ∙ sym (next-row-cells (row-after d leasts sets n list k) (row-after d leasts sets n list (suc k)) h)
 
   -- A turn gives the row that it was given: so do all that follow.
-  pub row-after-stop : (k : ℕ) (row next : List ℕ) → k < n → row ≡ row-after d sets n list k → next ≡ next-row d sets n list row
-      → all-below (λ v. eqb (cell row v) (cell next v)) n ≡ true → next ≡ row-after d sets n list n
+  pub row-after-stop : (k : ℕ) (row next : List ℕ) → k < n → row ≡ row-after d leasts sets n list k → next ≡ next-row d leasts sets n list row
+      → all-below (λ v. eqb (cell row v) (cell next v)) n ≡ true → next ≡ row-after d leasts sets n list n
   unfolding row-after
   row-after-stop k row next b e f t =
       to-next ∙ sym (settled k (λ a c. ap (λ (l : List ℕ). cell l a) (sym e) ∙ eqb-true (cell row a) (cell next a) (all-below-each (λ v. eqb (cell row v) (cell next v)) n t a c) ∙ ap (λ (l : List ℕ). cell l a) to-next) (n - suc k))
-      ∙ ap (row-after d sets n list) (let g : suc k + (n - suc k) ≡ n = omega arith in g)
+      ∙ ap (row-after d leasts sets n list) (let g : suc k + (n - suc k) ≡ n = omega arith in g)
     where
-      to-next : next ≡ row-after d sets n list (suc k)
-      to-next = f ∙ ap (next-row d sets n list) e
+      to-next : next ≡ row-after d leasts sets n list (suc k)
+      to-next = f ∙ ap (next-row d leasts sets n list) e
 
-  pub row-after-more : (k : ℕ) (row next : List ℕ) → row ≡ row-after d sets n list k → next ≡ next-row d sets n list row → next ≡ row-after d sets n list (k + 1)
+  pub row-after-more : (k : ℕ) (row next : List ℕ) → row ≡ row-after d leasts sets n list k → next ≡ next-row d leasts sets n list row → next ≡ row-after d leasts sets n list (k + 1)
   unfolding row-after
-  row-after-more k row next e f = rw (add-one k) (f ∙ ap (next-row d sets n list) e)
+  row-after-more k row next e f = rw (add-one k) (f ∙ ap (next-row d leasts sets n list) e)
 
-  pub row-after-none : replicate 64 0 ≡ row-after d sets n list 0
+  pub row-after-none : replicate 64 0 ≡ row-after d leasts sets n list 0
   unfolding row-after
   row-after-none = refl
 
@@ -119,34 +119,34 @@ largest-cut test f g (suc n) x h = go (bool-cases (test n)) (largest-cut test f 
     go (inl t) rest = rw (cond-true (f n) 0 t, cond-true (g n) 0 t) (both-cut (largest test f n) (largest test g n) (f n) (g n) rest (h n (omega arith) t))
     go (inr t) rest = rw (cond-false (f n) 0 t, cond-false (g n) 0 t) (both-cut (largest test f n) (largest test g n) 0 0 rest refl)
 
-module _ {n : ℕ} {es : List Edge} {d : List (List ℕ)} {sets : List ℕ} (h : Holds n es d sets) where
+module _ (leasts : List ℕ) {n : ℕ} {least : ℕ → ℕ} {es : List Edge} {d : List (List ℕ)} {sets : List ℕ} (l : HoldsLeasts n least leasts) (h : Holds n es d sets) where
   -- The same members, and the same term for each, up to the cut.
-  start-at-from : (list row other : List ℕ) → ((a : ℕ) → a < n → cell row a ≡ min (cell other a) cut) → (v : ℕ) → v < n → start-at d sets n list row v ≡ min (start-from n es (delays list) other v) cut
+  start-at-from : (list row other : List ℕ) → ((a : ℕ) → a < n → cell row a ≡ min (cell other a) cut) → (v : ℕ) → v < n → start-at d leasts sets n list row v ≡ min (start-from n least es (delays list) other v) cut
   unfolding start-at start-from term
   start-at-from list row other s zero b = refl
   start-at-from list row other s (suc v) b =
-      ap (λ (x : ℕ). min x cut) (largest-same-test (member sets (suc v)) (λ a. in-anchor-set n es a (suc v)) (term d list row (suc v)) n (λ a c. member-anchor h a (suc v) c b))
-      ∙ largest-cut (λ a. in-anchor-set n es a (suc v)) (term d list row (suc v)) (λ a. cell other a + delays list a + offset n es a (suc v)) n cut
-      (λ a c m. omega (arith, s a c, weight-offset h a (suc v) c b (member-anchor h a (suc v) c b ∙ m)))
+      ap (λ (x : ℕ). min x cut) (largest-same-test (member sets (suc v)) (λ a. in-anchor-set n es a (suc v)) (term d leasts list row (suc v)) n (λ a c. member-anchor h a (suc v) c b))
+      ∙ largest-cut (λ a. in-anchor-set n es a (suc v)) (term d leasts list row (suc v)) (λ a. cell other a + delays list a + offset n least es a (suc v)) n cut
+      (λ a c m. omega (arith, s a c, offset-read h least leasts a (suc v) c b (l a c) (member-anchor h a (suc v) c b ∙ m)))
 
   -- Induction on the turns: the cuts on the way do not matter.
-  row-after-turns : (list : List ℕ) (k v : ℕ) → v < n → cell (row-after d sets n list k) v ≡ min (cell (start-turns n es (delays list) k) v) cut
+  row-after-turns : (list : List ℕ) (k v : ℕ) → v < n → cell (row-after d leasts sets n list k) v ≡ min (cell (start-turns n least es (delays list) k) v) cut
   unfolding row-after start-turns next-row
   row-after-turns list zero v b = omega (arith, zeros-at 64 v, zeros-at n v)
   row-after-turns list (suc k) v b =
-      laid-at (start-at d sets n list (row-after d sets n list k)) n (replicate 64 0) v 0 b
-      ∙ start-at-from list (row-after d sets n list k) (start-turns n es (delays list) k) (row-after-turns list k) v b
-      ∙ ap (λ (x : ℕ). min x cut) (sym (tabulate-at (start-from n es (delays list) (start-turns n es (delays list) k)) n v 0 b))
+      laid-at (start-at d leasts sets n list (row-after d leasts sets n list k)) n (replicate 64 0) v 0 b
+      ∙ start-at-from list (row-after d leasts sets n list k) (start-turns n least es (delays list) k) (row-after-turns list k) v b
+      ∙ ap (λ (x : ℕ). min x cut) (sym (tabulate-at (start-from n least es (delays list) (start-turns n least es (delays list) k)) n v 0 b))
 
   -- Starts below 2 ^ 32 are not cut.
-  starts-times : (list : List ℕ) → ((v : ℕ) → v < n → cell (start-times n es (delays list)) v < cut + 1) → tabulate (cell (row-after d sets n list n)) n ≡ start-times n es (delays list)
+  starts-times : (list : List ℕ) → ((v : ℕ) → v < n → cell (start-times n least es (delays list)) v < cut + 1) → tabulate (cell (row-after d leasts sets n list n)) n ≡ start-times n least es (delays list)
   unfolding start-times
   starts-times list s =
-      tabulate-list (start-times n es (delays list)) (cell (row-after d sets n list n)) n 0 (start-times-length n es (delays list))
+      tabulate-list (start-times n least es (delays list)) (cell (row-after d leasts sets n list n)) n 0 (start-times-length n least es (delays list))
       (λ v b. omega (arith, s v b, row-after-turns list n v b))
 
 -- So what is read off the tables is the definition's.
-pub started : {n : ℕ} {d : List (List ℕ)} {sets list lent after row : List ℕ} → row ≡ row-after d sets n list n → after ≡ tabulate (cell row) n ++ drop n lent → Started n d sets list lent after
-started {n} {d} {sets} {list} {lent} {after} f e =
-    let read : after ≡ tabulate (cell (row-after d sets n list n)) n ++ drop n lent = e ∙ ap (λ (l : List ℕ). tabulate (cell l) n ++ drop n lent) f in
-    record { read = read; times = λ es h s. read ∙ ap (λ (l : List ℕ). l ++ drop n lent) (starts-times h list s) }
+pub started : {n : ℕ} {d : List (List ℕ)} {leasts sets list lent after row : List ℕ} → row ≡ row-after d leasts sets n list n → after ≡ tabulate (cell row) n ++ drop n lent → Started n d leasts sets list lent after
+started {n} {d} {leasts} {sets} {list} {lent} {after} f e =
+    let read : after ≡ tabulate (cell (row-after d leasts sets n list n)) n ++ drop n lent = e ∙ ap (λ (l : List ℕ). tabulate (cell l) n ++ drop n lent) f in
+    record { read = read; times = λ least es l h s. read ∙ ap (λ (l : List ℕ). l ++ drop n lent) (starts-times leasts l h list s) }

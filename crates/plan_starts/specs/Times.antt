@@ -8,32 +8,32 @@ use Rattle.definitions.specs.Limits.{most-steps}
 use Rattle.definitions.specs.Links.{Edge}
 use Rattle.definitions.specs.Plan.{delays, start-times}
 use Rattle.definitions.specs.Rounds.{cell}
-use Rattle.plan_deciding.specs.Working.{Holds, weight, member}
+use Rattle.plan_deciding.specs.Working.{Holds, HoldsLeasts, offset-in, member}
 
 -- The largest number of 32 bits: document 01's numbers have so many.
 abbrev pub cut : ℕ
 cut = 4294967295
 
 -- One term, and the largest of them, cut there.
-unfoldable pub term : List (List ℕ) → List ℕ → List ℕ → ℕ → ℕ → ℕ
-term d list row v a = cell row a + getD list a 0 + weight d v a
+unfoldable pub term : List (List ℕ) → List ℕ → List ℕ → List ℕ → ℕ → ℕ → ℕ
+term d leasts list row v a = cell row a + getD list a 0 + offset-in d leasts v a
 
-unfoldable pub start-at : List (List ℕ) → List ℕ → ℕ → List ℕ → List ℕ → ℕ → ℕ
-start-at d sets n list row zero = 0
-start-at d sets n list row (suc v) = min (largest (member sets (suc v)) (term d list row (suc v)) n) cut
+unfoldable pub start-at : List (List ℕ) → List ℕ → List ℕ → ℕ → List ℕ → List ℕ → ℕ → ℕ
+start-at d leasts sets n list row zero = 0
+start-at d leasts sets n list row (suc v) = min (largest (member sets (suc v)) (term d leasts list row (suc v)) n) cut
 
 -- A turn of the rule over a row of 64 numbers of which n count, and k turns.
-unfoldable pub next-row : List (List ℕ) → List ℕ → ℕ → List ℕ → List ℕ → List ℕ
-next-row d sets n list row = tabulate (start-at d sets n list row) n ++ drop n (replicate 64 0)
+unfoldable pub next-row : List (List ℕ) → List ℕ → List ℕ → ℕ → List ℕ → List ℕ → List ℕ
+next-row d leasts sets n list row = tabulate (start-at d leasts sets n list row) n ++ drop n (replicate 64 0)
 
-unfoldable pub row-after : List (List ℕ) → List ℕ → ℕ → List ℕ → ℕ → List ℕ
-row-after d sets n list zero = replicate 64 0
-row-after d sets n list (suc k) = next-row d sets n list (row-after d sets n list k)
+unfoldable pub row-after : List (List ℕ) → List ℕ → List ℕ → ℕ → List ℕ → ℕ → List ℕ
+row-after d leasts sets n list zero = replicate 64 0
+row-after d leasts sets n list (suc k) = next-row d leasts sets n list (row-after d leasts sets n list k)
 
--- The lent numbers after start times are written to their front: on any tables what is read off them, on those of an edge list its starts, where these have 32 bits.
-pub record Started (n : ℕ) (d : List (List ℕ)) (sets list lent after : List ℕ) : Type 0 where
-  pub read : after ≡ tabulate (cell (row-after d sets n list n)) n ++ drop n lent
-  pub times : (es : List Edge) → Holds n es d sets → ((v : ℕ) → v < n → cell (start-times n es (delays list)) v < cut + 1) → after ≡ start-times n es (delays list) ++ drop n lent
+-- The lent numbers after start times are written to their front: on any tables what is read off them, on those of an edge list and any leasts its starts, where these have 32 bits.
+pub record Started (n : ℕ) (d : List (List ℕ)) (leasts sets list lent after : List ℕ) : Type 0 where
+  pub read : after ≡ tabulate (cell (row-after d leasts sets n list n)) n ++ drop n lent
+  pub times : (least : ℕ → ℕ) (es : List Edge) → HoldsLeasts n least leasts → Holds n es d sets → ((v : ℕ) → v < n → cell (start-times n least es (delays list)) v < cut + 1) → after ≡ start-times n least es (delays list) ++ drop n lent
 
 -- A list of durations with an entry for each step below n.
 pub record Listed (n : ℕ) (list : List ℕ) : Type 0 where

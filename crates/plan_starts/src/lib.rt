@@ -1,4 +1,4 @@
-// Start times (relative start times) for a list of delays, from the working tables: see crate plan_deciding for what d and sets hold.
+// Start times (relative start times) for a list of delays, from the working tables: see crate plan_deciding for what d and sets hold. leasts: the least duration of each step.
 // Every function is safe for any tables with a row for each step; on those of an edge list its answer is the definition's.
 ghost use mathlib.Core.Path.{_≡_};
 ghost use Prim.Native.Nat.{ℕ, _+_, _<_, _≤_, min, max};
@@ -34,17 +34,32 @@ fn narrow(x: u64) -> u32
 }
 
 // What the member a adds to the choice for v.
-fn term_of(d: &[[u32; 64]], list: &[u32], old: &[u32; 64], v: usize, a: usize) -> u64
+fn term_of(
+    d: &[[u32; 64]],
+    leasts: &[u16; 64],
+    list: &[u32],
+    old: &[u32; 64],
+    v: usize,
+    a: usize,
+) -> u64
     requires { ⌜ Member v a (now d) (now list) ⌝ }
-    ensures { λ r. ⌜ r ≡ term (now (d .entry)) (now (list .entry)) (now (old .entry)) v a ⌝ }
+    ensures { λ r. ⌜ r ≡ term (now (d .entry)) (now (leasts .entry)) (now (list .entry)) (now (old .entry)) v a ⌝ }
 {
-    sum(old[a], list[a], plan_deciding::offset_at(d, v, a))
+    sum(old[a], list[a], plan_deciding::offset_at(d, leasts, v, a))
 }
 
 // The largest term of the members below n, in their order.
-fn latest(d: &[[u32; 64]], members: u64, n: usize, list: &[u32], old: &[u32; 64], v: usize) -> u64
+fn latest(
+    d: &[[u32; 64]],
+    leasts: &[u16; 64],
+    members: u64,
+    n: usize,
+    list: &[u32],
+    old: &[u32; 64],
+    v: usize,
+) -> u64
     requires { ⌜ (v < length (now d)) × Listed n (now list) ⌝ }
-    ensures { λ r. ⌜ r ≡ largest (test-bit members) (term (now (d .entry)) (now (list .entry)) (now (old .entry)) v) n ⌝ }
+    ensures { λ r. ⌜ r ≡ largest (test-bit members) (term (now (d .entry)) (now (leasts .entry)) (now (list .entry)) (now (old .entry)) v) n ⌝ }
 {
     let mut most = 0;
     let mut left = members;
@@ -53,7 +68,7 @@ fn latest(d: &[[u32; 64]], members: u64, n: usize, list: &[u32], old: &[u32; 64]
         if n <= a {
             return most;
         }
-        let x = term_of(d, list, old, v, a);
+        let x = term_of(d, leasts, list, old, v, a);
         most = larger(most, x);
         left = data_bits::without_lowest(left);
     }
@@ -63,6 +78,7 @@ fn latest(d: &[[u32; 64]], members: u64, n: usize, list: &[u32], old: &[u32; 64]
 // The start of v by the starts of a row.
 fn start_of(
     d: &[[u32; 64]],
+    leasts: &[u16; 64],
     sets: &[u64; 64],
     n: usize,
     list: &[u32],
@@ -70,24 +86,31 @@ fn start_of(
     v: usize,
 ) -> u32
     requires { ⌜ Row v (now d) × Listed n (now list) ⌝ }
-    ensures { λ r. ⌜ r ≡ start-at (now (d .entry)) (now (sets .entry)) n (now (list .entry)) (now (old .entry)) v ⌝ }
+    ensures { λ r. ⌜ r ≡ start-at (now (d .entry)) (now (leasts .entry)) (now (sets .entry)) n (now (list .entry)) (now (old .entry)) v ⌝ }
 {
     if v == 0 {
         return 0;
     }
-    let most = latest(d, sets[v], n, list, old, v);
+    let most = latest(d, leasts, sets[v], n, list, old, v);
     narrow(most)
 }
 
 // One turn of the rule.
-fn turn(d: &[[u32; 64]], sets: &[u64; 64], n: usize, list: &[u32], old: &[u32; 64]) -> [u32; 64]
+fn turn(
+    d: &[[u32; 64]],
+    leasts: &[u16; 64],
+    sets: &[u64; 64],
+    n: usize,
+    list: &[u32],
+    old: &[u32; 64],
+) -> [u32; 64]
     requires { ⌜ (n ≤ length (now d)) × Listed n (now list) ⌝ }
-    ensures { λ r. ⌜ r ≡ next-row (now (d .entry)) (now (sets .entry)) n (now (list .entry)) (now (old .entry)) ⌝ }
+    ensures { λ r. ⌜ r ≡ next-row (now (d .entry)) (now (leasts .entry)) (now (sets .entry)) n (now (list .entry)) (now (old .entry)) ⌝ }
 {
     let mut row = [0u32; 64];
     let mut v = 0;
     while v < n {
-        let x = start_of(d, sets, n, list, old, v);
+        let x = start_of(d, leasts, sets, n, list, old, v);
         row[v] = x;
         v += 1;
     }
@@ -110,14 +133,14 @@ fn same(a: &[u32; 64], b: &[u32; 64], n: usize) -> bool
 }
 
 // Turns until one changes nothing, n of them at most.
-fn turns(d: &[[u32; 64]], sets: &[u64; 64], n: usize, list: &[u32]) -> [u32; 64]
+fn turns(d: &[[u32; 64]], leasts: &[u16; 64], sets: &[u64; 64], n: usize, list: &[u32]) -> [u32; 64]
     requires { ⌜ (n ≤ length (now d)) × Listed n (now list) ⌝ }
-    ensures { λ r. ⌜ r ≡ row-after (now (d .entry)) (now (sets .entry)) n (now (list .entry)) n ⌝ }
+    ensures { λ r. ⌜ r ≡ row-after (now (d .entry)) (now (leasts .entry)) (now (sets .entry)) n (now (list .entry)) n ⌝ }
 {
     let mut row = [0u32; 64];
     let mut k = 0;
     while k < n {
-        let next = turn(d, sets, n, list, &row);
+        let next = turn(d, leasts, sets, n, list, &row);
         if same(&row, &next, n) {
             return next;
         }
@@ -128,11 +151,18 @@ fn turns(d: &[[u32; 64]], sets: &[u64; 64], n: usize, list: &[u32]) -> [u32; 64]
 }
 
 // Start times for a list of delays, at the front of the lent numbers.
-pub fn fill_starts(d: &[[u32; 64]], sets: &[u64; 64], n: usize, list: &[u32], out: &mut [u32])
+pub fn fill_starts(
+    d: &[[u32; 64]],
+    leasts: &[u16; 64],
+    sets: &[u64; 64],
+    n: usize,
+    list: &[u32],
+    out: &mut [u32],
+)
     requires { ⌜ Startable n (now d) (now list) (now out) ⌝ }
-    ensures { λ r. ⌜ Started n (now (d .entry)) (now (sets .entry)) (now (list .entry)) (now (out .entry)) (now (out .exit)) ⌝ }
+    ensures { λ r. ⌜ Started n (now (d .entry)) (now (leasts .entry)) (now (sets .entry)) (now (list .entry)) (now (out .entry)) (now (out .exit)) ⌝ }
 {
-    let row = turns(d, sets, n, list);
+    let row = turns(d, leasts, sets, n, list);
     let mut v = 0;
     while v < n {
         let x = row[v];

@@ -17,19 +17,19 @@ use Rattle.data_edges.specs.Words.{graph}
 use Rattle.plan_deciding.specs.Working.{Holds}
 use Rattle.data_numbers.specs.Codes.{is-given}
 use Rattle.walk_seed.specs.Seeds.{Empty}
-use Rattle.theory.specs.Graphs.{Gains, Serializable, SheetGraph, Well}
+use Rattle.theory.specs.Graphs.{Gains, Serializable, SheetGraph, SheetLeasts, Well}
 use Rattle.judge_waits.specs.Reaching.{Reaches}
 
--- The edges of a sheet of n steps, as words: within the limits of a sheet, and shaped as its links make them.
-pub record SheetEdges (n : ℕ) (es : List ℕ) : Type 0 where
+-- The edges of a sheet of n steps, as words, and the leasts of the steps: within the limits of a sheet, and shaped as its links make them.
+pub record SheetEdges (n : ℕ) (least : ℕ → ℕ) (es : List ℕ) : Type 0 where
   pub some : 1 ≤ n
   pub few : n ≤ most-steps
   pub edges : length es ≤ most-edges
-  pub formed : SheetGraph n (members (graph es))
+  pub formed : SheetGraph n least (members (graph es))
 
 -- The edges of a sheet with their adjacency lists, and a working table without walks that has a row for each step.
-pub record Tabulable (n : ℕ) (es lists : List ℕ) (d : List (List ℕ)) : Type 0 where
-  pub sheet : SheetEdges n es
+pub record Tabulable (n : ℕ) (least : ℕ → ℕ) (es lists : List ℕ) (d : List (List ℕ)) : Type 0 where
+  pub sheet : SheetEdges n least es
   pub adjacent : Lists es lists
   pub rows : n ≤ length d
   pub empty : Empty d
@@ -43,27 +43,28 @@ pub record Blanks (reach waits : List ℕ) : Type 0 where
   pub rows : Blank reach
   pub maps : Blank waits
 
--- Not 10: some start times keep every edge while all open durations are 0.
+-- Not 10: some start times keep every edge while each open step lasts its least.
 abbrev pub feasible : ℕ → List Edge → Bool
 feasible n g = stable g (rounds g n (source-row n 0))
 
 -- The edges of an accepted sheet, with what reaches what and the waits.
-pub record Plannable (n : ℕ) (g : List Edge) (reach maps : List ℕ) : Type 0 where
+pub record Plannable (n : ℕ) (least : ℕ → ℕ) (g : List Edge) (reach maps : List ℕ) : Type 0 where
   pub well : Well n (members g)
-  pub serial : Serializable (members (serialized n g))
+  pub serial : Serializable (members (serialized n least g))
   pub gains : Gains (members g) most-gain
+  pub leasts : SheetLeasts least (members g)
   pub long : length reach ≡ most-steps
   pub reaches : Reaches n g reach
   pub waits : maps ≡ wait-maps n g
 
 -- The edges of an accepted sheet, with a table and sets that hold their heaviest walks and anchor sets, the waits put in.
-pub record Tabulated (n : ℕ) (g : List Edge) (d : List (List ℕ)) (sets : List ℕ) : Type 0 where
+pub record Tabulated (n : ℕ) (least : ℕ → ℕ) (g : List Edge) (d : List (List ℕ)) (sets : List ℕ) : Type 0 where
   pub well : Well n (members g)
-  pub serial : Serializable (members (serialized n g))
+  pub serial : Serializable (members (serialized n least g))
   pub rows : n ≤ length d
-  pub holds : Holds n (serialized n g) d sets
+  pub holds : Holds n (serialized n least g) d sets
 
 -- What is found of edges: the verdict with the waits, and on acceptance the table and the sets.
-pub record Tabulates (n : ℕ) (g : List Edge) (allow : Bool) (r : Found) (maps : List ℕ) (d : List (List ℕ)) (sets : List ℕ) : Type 0 where
-  pub listed : Listed n g (judge-edges n g) allow (r .verdict) maps (r .count)
-  pub held : is-given (verdict-of (r .verdict)) ≡ true → Tabulated n g d sets
+pub record Tabulates (n : ℕ) (least : ℕ → ℕ) (g : List Edge) (allow : Bool) (r : Found) (maps : List ℕ) (d : List (List ℕ)) (sets : List ℕ) : Type 0 where
+  pub listed : Listed n g (judge-edges n least g) allow (r .verdict) maps (r .count)
+  pub held : is-given (verdict-of (r .verdict)) ≡ true → Tabulated n least g d sets

@@ -13,6 +13,7 @@ ghost use lib.ListN.{length};
 ghost use Rattle.definitions.specs.Limits.{most-steps};
 ghost use Rattle.definitions.specs.Links.{members};
 ghost use Rattle.definitions.specs.Numbers.{verdict-of};
+ghost use Rattle.data_edges.specs.Serial.{leasts-in};
 ghost use Rattle.data_edges.specs.Words.{graph};
 ghost use Rattle.data_numbers.specs.Codes.{is-given};
 ghost use Rattle.data_relations.specs.Rows.{row-bit};
@@ -39,21 +40,22 @@ fn fill(
     d: &mut [[u32; 64]],
     es: &[u64],
     lists: &[u16],
+    leasts: &[u16; 64],
     n: usize,
     order: &[u8; 64],
     maps: &[u64; 64],
     sets: &mut [u64; 64],
     verdict: Verdict,
 ) -> bool
-    requires { ⌜ Tabulable n (now es) (now lists) (now d) ⌝ }
+    requires { ⌜ Tabulable n (leasts-in (now leasts)) (now es) (now lists) (now d) ⌝ }
     ensures told { λ r. ⌜ (Rooted n (members (graph (now (es .entry)))) → length (now (sets .entry)) ≡ most-steps → r ≡ Tables.feasible n (graph (now (es .entry)))) ⌝ }
-    ensures held { λ r. ⌜ (r ≡ true → is-given (verdict-of verdict) ≡ true → Plannable n (graph (now (es .entry))) (now (sets .entry)) (now (maps .entry)) → Tabulated n (graph (now (es .entry))) (now (d .exit)) (now (sets .exit))) ⌝ }
+    ensures held { λ r. ⌜ (r ≡ true → is-given (verdict-of verdict) ≡ true → Plannable n (leasts-in (now (leasts .entry))) (graph (now (es .entry))) (now (sets .entry)) (now (maps .entry)) → Tabulated n (leasts-in (now (leasts .entry))) (graph (now (es .entry))) (now (d .exit)) (now (sets .exit))) ⌝ }
 {
     if !accepted(verdict) {
         return feasible(es, lists, order, n);
     }
     add_source(sets, n);
-    walk_heaviest::walks_if_possible(d, es, lists, maps, sets, order, n)
+    walk_heaviest::walks_if_possible(d, es, lists, leasts, maps, sets, order, n)
 }
 
 // The verdict on the edges of a sheet of n steps, with the waits into maps that come blank: none where the sheet would be refused with waits allowed.
@@ -62,21 +64,22 @@ pub fn tabulate(
     d: &mut [[u32; 64]],
     es: &[u64],
     lists: &[u16],
+    leasts: &[u16; 64],
     n: usize,
     allow: bool,
     sets: &mut [u64; 64],
     maps: &mut [u64; 64],
 ) -> Found
-    requires { ⌜ Tabulable n (now es) (now lists) (now d) × Blanks (now sets) (now maps) ⌝ }
-    ensures { λ r. ⌜ Tabulates n (graph (now (es .entry))) allow r (now (maps .exit)) (now (d .exit)) (now (sets .exit)) ⌝ }
+    requires { ⌜ Tabulable n (leasts-in (now leasts)) (now es) (now lists) (now d) × Blanks (now sets) (now maps) ⌝ }
+    ensures { λ r. ⌜ Tabulates n (leasts-in (now (leasts .entry))) (graph (now (es .entry))) allow r (now (maps .exit)) (now (d .exit)) (now (sets .exit)) ⌝ }
 {
     let mut order = [0u8; 64];
-    let found = judge_assuming_feasible(es, lists, n, allow, &mut order, sets, maps);
+    let found = judge_assuming_feasible(es, lists, leasts, n, allow, &mut order, sets, maps);
     if !found.sorted {
         return found;
     }
     let verdict = found.verdict;
-    if fill(d, es, lists, n, &order, maps, sets, verdict) {
+    if fill(d, es, lists, leasts, n, &order, maps, sets, verdict) {
         return found;
     }
     *maps = [0u64; 64];

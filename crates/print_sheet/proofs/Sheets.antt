@@ -7,7 +7,7 @@ use native.Mathlib.Omega.{arith}
 use lib.Dec.{leb}
 use lib.ListN.{length, getD, take, drop, length-append}
 use borrow.Author.Tests.{le-ltb}
-use Rattle.definitions.specs.Answers.{Waits, count-of, edges-of, judge-records, judged, plan-read, plan-verdict, planned, serialized-of, too-short, waits-answer, waits-read, waits-when, written}
+use Rattle.definitions.specs.Answers.{Waits, count-of, leasts-of, edges-of, judge-records, judged, plan-read, plan-verdict, planned, serialized-of, too-short, waits-answer, waits-read, waits-when, written}
 use Rattle.definitions.specs.Basics.{Outcome, given, refused, refuse-if, when-given}
 use Rattle.definitions.specs.Bytes.{Parser, Records, Taken, at-end, byte, demand, operation, operations, read, records, sheet, two-bytes}
 use Rattle.definitions.specs.Bytes.{links as links-of}
@@ -69,15 +69,15 @@ plan-judges table size room (given v) h = absurd (given-not-refused ((sym (ap (�
 plan-judges table size room (refused j) h = h
 
 -- The plan is written at the front.
-plan-front : (n : ℕ) (es : List Edge) (table : List ℕ) {v : ℕ} {o : Outcome ℕ} → o ≡ given v → take (n * n) (written o (plan-table n es) table) ≡ plan-table n es
+plan-front : (n : ℕ) (least : ℕ → ℕ) (es : List Edge) (table : List ℕ) {v : ℕ} {o : Outcome ℕ} → o ≡ given v → take (n * n) (written o (plan-table n least es) table) ≡ plan-table n least es
 unfolding written
-plan-front n es table e = rw e (written-plan n es _)
+plan-front n least es table e = rw e (written-plan n least es _)
 
 -- Lent numbers keep their count where the answer fits.
-written-room : (n : ℕ) (es : List Edge) (table : List ℕ) (o : Outcome ℕ) → n * n ≤ length table → n * n ≤ length (written o (plan-table n es) table)
+written-room : (n : ℕ) (least : ℕ → ℕ) (es : List Edge) (table : List ℕ) (o : Outcome ℕ) → n * n ≤ length table → n * n ≤ length (written o (plan-table n least es) table)
 unfolding written
-written-room n es table (given v) room = omega (arith, length-append (plan-table n es) (drop (length (plan-table n es)) table), plan-table-length n es)
-written-room n es table (refused k) room = room
+written-room n least es table (given v) room = omega (arith, length-append (plan-table n least es) (drop (length (plan-table n least es)) table), plan-table-length n least es)
+written-room n least es table (refused k) room = room
 
 module _ (s : List ℕ) (bytes : Bytes s) (table : List ℕ) (long : most-steps * most-steps ≤ length table) where
   fits-room : {q : Records} → read s ≡ given q → count-of q * count-of q ≤ length table
@@ -91,8 +91,8 @@ module _ (s : List ℕ) (bytes : Bytes s) (table : List ℕ) (long : most-steps 
     accepted = record { sheet = record { bytes = bytes; reads = e }; accepts = when-given-by (λ q. judge-records q true) e ∙ plan-accepted table (count-of q * count-of q) (judge-records q true) h };
     maps = m;
     counted = c;
-    front = plan-front (count-of q) (serialized-of q) table h;
-    room = written-room (count-of q) (serialized-of q) table _ (fits-room e);
+    front = plan-front (count-of q) (leasts-of q) (serialized-of q) table h;
+    room = written-room (count-of q) (leasts-of q) (serialized-of q) table _ (fits-room e);
   }
 
   refuses : {k : ℕ} (o : Outcome Records) → read s ≡ o → plan-read o true table .verdict ≡ refused k → judged s true ≡ refused k

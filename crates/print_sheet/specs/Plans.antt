@@ -4,7 +4,7 @@ use mathlib.Core.Bool.{true}
 use mathlib.Core.List.{List}
 use Prim.Native.Nat.{ℕ, _*_, _≤_}
 use lib.ListN.{length, take}
-use Rattle.definitions.specs.Answers.{count-of, serialized-of, waits-answer}
+use Rattle.definitions.specs.Answers.{count-of, leasts-of, serialized-of, waits-answer}
 use Rattle.definitions.specs.Bytes.{Records}
 use Rattle.definitions.specs.Plan.{plan-table}
 use Rattle.demands.specs.Demands.{Accepted}
@@ -15,5 +15,5 @@ pub record Plans (s : List ℕ) (verdict count : ℕ) (waits table : List ℕ) :
   pub accepted : Accepted s true sheet verdict
   pub maps : waits ≡ waits-answer s .maps
   pub counted : count ≡ waits-answer s .count
-  pub front : take (count-of sheet * count-of sheet) table ≡ plan-table (count-of sheet) (serialized-of sheet)
+  pub front : take (count-of sheet * count-of sheet) table ≡ plan-table (count-of sheet) (leasts-of sheet) (serialized-of sheet)
   pub room : count-of sheet * count-of sheet ≤ length table

@@ -3,31 +3,32 @@ use mathlib.Core.Path.{_≡_, refl, sym, ap, _∙_}
 use mathlib.Core.Bool.{Bool, true}
 use mathlib.Core.Logic.{_⊎_, inl, inr, _≢_, _↔_}
 use mathlib.Core.List.{List}
-use Prim.Native.Nat.{ℕ, _+_, _*_, _<_}
+use Prim.Native.Nat.{ℕ, _+_, _*_, _≤_, _<_}
 use native.Mathlib.Omega.{arith}
 use native.Mathlib.Decide.{decLt}
 use lib.Arith.{digits-lt}
-use lib.ListN.{List·getD-append, List·getD-eq-default, drop, length-take, take}
+use lib.ListN.{List·getD-append, List·getD-eq-default, drop, length, length-take, take}
 use lib.Seq.{getD-take}
-use Rattle.definitions.specs.Answers.{count-of, judged, serialized-of}
+use Rattle.definitions.specs.Answers.{count-of, judged, leasts-of, serialized-of}
 use Rattle.definitions.specs.Basics.{Outcome, given, refused}
 use Rattle.definitions.specs.Bytes.{Records}
-use Rattle.definitions.specs.Links.{Constraint, Keeps, delay-at, finish-maximum, maximum, minimum, sequencing}
+use Rattle.definitions.specs.Links.{Constraint, Keeps, Respects, delay-at, finish-maximum, maximum, minimum, sequencing}
 use Rattle.definitions.specs.Numbers.{verdict-of}
 use Rattle.definitions.specs.Plan.{delays}
 use Rattle.definitions.specs.Plan as Plan
-use Rattle.definitions.specs.Rival.{DelayAssignment}
+use Rattle.definitions.specs.Rival.{DelayAssignment, Lasts}
 use Rattle.definitions.specs.Rounds.{cell}
 use Rattle.definitions.specs.declared.Delay.{Delay}
 use Rattle.definitions.specs.declared.Delay.the-variants.{Fixed, Open}
 use Rattle.definitions.specs.declared.Operation.{Operation}
 use Rattle.definitions.specs.declared.Verdict.{Verdict}
-use Rattle.demands.specs.Demands.{Accepted, WellFormed, WithinLimits, our-start, wait-link}
+use Rattle.demands.specs.Demands.{Accepted, Durations, WellFormed, WithinLimits, our-start, wait-link}
 use Rattle.demands.proofs.Demands.{calls-exactly, deciding-sets, each-call-refuses, impossible-exactly, nobody-earlier, nobody-earlier-with-waits, nobody-earlier-without-foresight, offsets-right, refused-28-exactly, starts-kept, starts-returned, waits-listed}
 use Rattle.demands.proofs.Demands as Demands
 use Rattle.demands.proofs.Edges.{Ends, sheet-ends}
 use Rattle.demands.proofs.Reading.{read-fits}
 use Rattle.laws.proofs.Bools.{same-or-not}
+use Rattle.theory.proofs.DelayLimits.{least-past}
 use Rattle.theory.proofs.StartTimes.{start-times-same}
 use Rattle.promises.specs.Promises.{Impossible, ImpossibleFromEachCall, PlanIsThat, StartsKeepAndNobodyIsEarlier, WaitsAreThose}
 
@@ -78,13 +79,24 @@ keeps-same os d t u n same (minimum i j m) b h = omega (arith, same i (b .0), sa
 keeps-same os d t u n same (maximum i j m) b h = omega (arith, same i (b .0), same j (b .1))
 keeps-same os d t u n same (finish-maximum i j m) b h = omega (arith, same i (b .0), same j (b .1))
 
--- The first N entries of a list that is not refused: 0 but for open steps other than step 0. Our starts turn on no others.
+-- The first N entries of a list that is not refused: 0 but for open steps other than step 0, and none below its least. Our starts turn on no others.
 module _ (q : Records) (list : List ℕ) (within : WithinLimits q list) where
   front : (i : ℕ) → i < count-of q → delays (take (count-of q) list) i ≡ delays list i
   front i b = getD-take (count-of q) list i 0 b
 
-  front-assigned : 0 < count-of q → DelayAssignment (q .steps) (delays (take (count-of q) list))
-  front-assigned some v none = by (decLt v (count-of q))
+  -- No entry is below its least: every step has one.
+  list-respects : count-of q ≤ length list → Respects (q .steps) (delays list)
+  list-respects long v = by (decLt v (count-of q))
+    where
+      by : Dec (v < count-of q) → leasts-of q v ≤ delays list v
+      by (yes b) = within .respects v b (omega arith)
+      by (no b) = omega (arith, least-past (q .steps) v (omega arith))
+
+  list-durations : count-of q ≤ length list → Durations q (delays list)
+  list-durations long = record { source = within .source; respects = list-respects long }
+
+  front-idle : 0 < count-of q → (v : ℕ) → ¬ Lasts (q .steps) v → delays (take (count-of q) list) v ≡ 0
+  front-idle some v none = by (decLt v (count-of q))
     where
       kind : (x : Delay) → delay-at (q .steps) v ≡ x → v < count-of q → (v ≡ 0) ⊎ (v ≢ 0) → delays list v ≡ 0
       kind x h b (inl e) = ap (delays list) e ∙ within .source
@@ -95,25 +107,37 @@ module _ (q : Records) (list : List ℕ) (within : WithinLimits q list) where
       by (yes b) = front v b ∙ kind (delay-at (q .steps) v) refl b (same-or-not v 0)
       by (no b) = List·getD-eq-default (take (count-of q) list) 0 (omega (arith, length-take (count-of q) list))
 
+  front-respects : count-of q ≤ length list → Respects (q .steps) (delays (take (count-of q) list))
+  front-respects long v = by (decLt v (count-of q))
+    where
+      by : Dec (v < count-of q) → leasts-of q v ≤ delays (take (count-of q) list) v
+      by (yes b) = omega (arith, front v b, list-respects long v)
+      by (no b) = omega (arith, least-past (q .steps) v (omega arith))
+
+  front-assigned : 0 < count-of q → count-of q ≤ length list → DelayAssignment (q .steps) (delays (take (count-of q) list))
+  front-assigned some long = record { idle = front-idle some; respects = front-respects long }
+
   front-start : (i : ℕ) → our-start q (delays list) i ≡ our-start q (delays (take (count-of q) list)) i
-  front-start i = ap (λ (l : List ℕ). cell l i) (start-times-same (count-of q) (serialized-of q) (delays list) (delays (take (count-of q) list)) (λ a b. sym (front a b)))
+  front-start i = ap (λ (l : List ℕ). cell l i) (start-times-same (count-of q) (leasts-of q) (serialized-of q) (delays list) (delays (take (count-of q) list)) (λ a b. sym (front a b)))
 
 pub starts-keep-and-nobody-is-earlier : StartsKeepAndNobodyIsEarlier
 starts-keep-and-nobody-is-earlier s allow q list out r after v sheet e h =
     let returned = starts-returned s allow q v list out sheet (sym (e .verdict) ∙ h) in
     let numbers : (i : ℕ) → i < count-of q → cell after i ≡ our-start q (delays list) i = λ i b. ap (λ (l : List ℕ). cell l i) (e .numbers) ∙ returned .numbers i b in
     let accepted = returned .accepted in
-    let kept = starts-kept s allow q v accepted (delays list) (returned .source) in
     let fits = read-fits s q (sheet .bytes) (sheet .reads) in
     let same = keeps-same (q .steps) (delays list) (our-start q (delays list)) (cell after) (count-of q) numbers in
     let waits = waits-listed s q sheet in
-    let within = calls-exactly s allow q sheet .starts list out .accepted v .0 (sym (e .verdict) ∙ h) .1 in
+    let call = calls-exactly s allow q sheet .starts list out .accepted v .0 (sym (e .verdict) ∙ h) in
+    let within = call .1 in
+    let durations = list-durations q list within (call .2) in
+    let kept = starts-kept s allow q v accepted (delays list) durations in
     record {
       links = record { starts = numbers 0 (omega (arith, fits .some)) ∙ kept .links .starts; keeps = λ c m. same c (sheet-ends fits c m) (kept .links .keeps c m) };
       waits = λ w m. same (wait-link w) (waits .each w m .anchor-below, waits .each w m .target-below) (kept .waits w m);
-      earliest = λ none z t k i b. omega (arith, numbers i b, nobody-earlier s allow q (at-zero accepted z) none (delays list) t (returned .source) k i b);
-      earliest-of-rivals = λ none fs x t k i b. omega (arith, numbers i b, nobody-earlier-with-waits s allow q v accepted none fs x (delays list) t (returned .source) k i b);
-      earliest-without-foresight = λ ρ R i b. omega (arith, numbers i b, front-start q list within i, nobody-earlier-without-foresight s allow q v accepted ρ R (delays (take (count-of q) list)) (front-assigned q list within (fits .some)) i b);
+      earliest = λ none z t k i b. omega (arith, numbers i b, nobody-earlier s allow q (at-zero accepted z) none (delays list) t durations k i b);
+      earliest-of-rivals = λ none fs x t k i b. omega (arith, numbers i b, nobody-earlier-with-waits s allow q v accepted none fs x (delays list) t durations k i b);
+      earliest-without-foresight = λ ρ R i b. omega (arith, numbers i b, front-start q list within i, nobody-earlier-without-foresight s allow q v accepted ρ R (delays (take (count-of q) list)) (front-assigned q list within (fits .some) (call .2)) i b);
     }
   where
     at-zero : Accepted s allow q v → v ≡ 0 → Accepted s allow q 0
@@ -138,7 +162,7 @@ plan-is-that s allow q table r after v sheet e h =
     let plan = Demands.plan-table s allow q v accepted in
     let numbers = e .numbers ∙ call .numbers v (sym (e .verdict) ∙ h) in
     record {
-      entry = λ i a b c. ap (λ (l : List ℕ). cell l (i * count-of q + a)) numbers ∙ List·getD-append (Plan.plan-table (count-of q) (serialized-of q)) (drop (count-of q * count-of q) table) 0 (i * count-of q + a) (omega (arith, plan .size, digits-lt b c)) ∙ plan .entry i a b c;
+      entry = λ i a b c. ap (λ (l : List ℕ). cell l (i * count-of q + a)) numbers ∙ List·getD-append (Plan.plan-table (count-of q) (leasts-of q) (serialized-of q)) (drop (count-of q * count-of q) table) 0 (i * count-of q + a) (omega (arith, plan .size, digits-lt b c)) ∙ plan .entry i a b c;
       deciding = deciding-sets s allow q v accepted;
       offsets = offsets-right s allow q v accepted;
     }

@@ -20,6 +20,9 @@ use Rattle.run_calls.proofs.tick.Kinds as tick
 use Rattle.run_calls.proofs.tick.Reads as tick-says
 use Rattle.run_calls.proofs.finish.Kinds as finish
 use Rattle.run_calls.proofs.finish.Reads as finish-says
+use Rattle.run_sheet.specs.Steps.{StepsReturned, memory}
+use Rattle.run_sheet.proofs.steps.Kinds as steps
+use Rattle.run_sheet.proofs.steps.Reads as steps-says
 
 judge-tied : (κs : Lfts 1) (a : Dens κs judge.ps) (r : resT judge.r κs .Denot) (x : AtExit (endedOf 1 judge.ps judge.r) κs) → judge-says.Post κs a r x → JudgeReturned (now (a .0)) (a .1 .0) r
 judge-tied κs a r x p = p
@@ -33,7 +36,7 @@ plan-tied κs a r x p = p
 starts-tied : (κs : Lfts 3) (a : Dens κs starts.ps) (r : resT starts.r κs .Denot) (x : AtExit (endedOf 3 starts.ps starts.r) κs) → starts-says.Post κs a r x → StartsReturned (now (a .0)) (a .1 .0) (now (a .1 .1 .0)) (now (a .1 .1 .1 .0)) r (now (x .1 .1 .1 .0))
 starts-tied κs a r x p = p
 
-begin-tied : (κs : Lfts 1) (a : Dens κs begin.ps) (r : resT begin.r κs .Denot) (x : AtExit (endedOf 1 begin.ps begin.r) κs) → begin-says.Post κs a r x → BeginReturned (a .0) (a .1 .0) (a .1 .1 .0) (now (a .1 .1 .1 .0)) r
+begin-tied : (κs : Lfts 2) (a : Dens κs begin.ps) (r : resT begin.r κs .Denot) (x : AtExit (endedOf 2 begin.ps begin.r) κs) → begin-says.Post κs a r x → BeginReturned (a .0) (a .1 .0) (a .1 .1 .0) (now (a .1 .1 .1 .0)) (now (a .1 .1 .1 .1 .0)) r
 begin-tied κs a r x p = p
 
 tick-tied : (κs : Lfts 1) (a : Dens κs tick.ps) (r : resT tick.r κs .Denot) (x : AtExit (endedOf 1 tick.ps tick.r) κs) → tick-says.Post κs a r x → TickReturned (a .0) (now (a .1 .0)) r
@@ -41,6 +44,10 @@ tick-tied κs a r x p = p
 
 finish-tied : (κs : Lfts 1) (a : Dens κs finish.ps) (r : resT finish.r κs .Denot) (x : AtExit (endedOf 1 finish.ps finish.r) κs) → finish-says.Post κs a r x → FinishReturned (a .0) (a .1 .0) (now (a .1 .1 .0)) r
 finish-tied κs a r x p = p
+
+steps-tied : (κs : Lfts 4) (a : Dens κs steps.ps) (r : resT steps.r κs .Denot) (x : AtExit (endedOf 4 steps.ps steps.r) κs)
+    → steps-says.Post κs a r x → StepsReturned (now (a .0)) (memory (now (a .1 .0)) (now (a .1 .1 .0)) (now (a .1 .1 .1 .0))) r (memory (now (x .1 .0)) (now (x .1 .1 .0)) (now (x .1 .1 .1 .0)))
+steps-tied κs a r x p = p
 
 judge-asks-nothing : (κs : Lfts 1) (a : Dens κs judge.ps) → judge-says.Pre κs a
 judge-asks-nothing κs a = tt
@@ -54,7 +61,7 @@ plan-asks-nothing κs a = tt
 starts-asks-nothing : (κs : Lfts 3) (a : Dens κs starts.ps) → starts-says.Pre κs a
 starts-asks-nothing κs a = tt
 
-begin-asks-nothing : (κs : Lfts 1) (a : Dens κs begin.ps) → begin-says.Pre κs a
+begin-asks-nothing : (κs : Lfts 2) (a : Dens κs begin.ps) → begin-says.Pre κs a
 begin-asks-nothing κs a = tt
 
 tick-asks-nothing : (κs : Lfts 1) (a : Dens κs tick.ps) → tick-says.Pre κs a
@@ -62,3 +69,6 @@ tick-asks-nothing κs a = tt
 
 finish-asks-nothing : (κs : Lfts 1) (a : Dens κs finish.ps) → finish-says.Pre κs a
 finish-asks-nothing κs a = tt
+
+steps-asks-nothing : (κs : Lfts 4) (a : Dens κs steps.ps) → steps-says.Pre κs a
+steps-asks-nothing κs a = tt

@@ -6,7 +6,7 @@ use mathlib.Core.Logic.{_⊎_, _≢_, _↔_}
 use mathlib.Core.List.{List, List·Memᴰ}
 use Prim.Native.Nat.{ℕ, _+_, _*_, _≤_, _<_}
 use lib.ListN.{take}
-use Rattle.definitions.specs.Answers.{count-of, edges-of}
+use Rattle.definitions.specs.Answers.{count-of, edges-of, leasts-of}
 use Rattle.definitions.specs.Basics.{given, refused, test-bit}
 use Rattle.definitions.specs.Bytes.{Records}
 use Rattle.definitions.specs.Links.{Constraint, Keeps, KeepsAll, links-of, members}
@@ -16,7 +16,7 @@ use Rattle.definitions.specs.Rival.{DynamicStrategy, Extension}
 use Rattle.definitions.specs.Rounds.{cell}
 use Rattle.definitions.specs.Waits.{Wait, WaitPair}
 use Rattle.definitions.specs.declared.Verdict.{Verdict}
-use Rattle.demands.specs.Demands.{DecidingFor, IsSheet, KeepsLinks, NoLateLinks, NoRival, NoStarts, OffsetFor, SomeListLeavesNone, WellFormed, in-start-set, sheet-decides, sheet-offset, sheet-waits, wait-link}
+use Rattle.demands.specs.Demands.{DecidingFor, Durations, IsSheet, KeepsLinks, NoLateLinks, NoRival, NoStarts, OffsetFor, SomeListLeavesNone, WellFormed, in-start-set, sheet-decides, sheet-offset, sheet-waits, wait-link}
 use Rattle.theory.specs.Counts.{standing-bits}
 use Rattle.definitions.specs.declared.WaitMaps.{WaitMaps}
 use Rattle.plan_answer.specs.Returned.{JudgeReturned, PlanReturned, StartsReturned, WaitsReturned}
@@ -24,12 +24,12 @@ use Rattle.plan_answer.specs.Returned.{JudgeReturned, PlanReturned, StartsRetur
 -- ## Demand 3
 
 -- A well-formed sheet is called impossible, 10 or 11, exactly when some list of durations leaves no start times that keep every link: from each call that judges, lists waits, plans or works out
--- starts. Where it is not, all durations leave some. Request L11: refused 28 exactly if, not being 10 or 11, no rival without foresight exists.
+-- starts. Where it is not, all durations that respect the leasts leave some. Request L11: refused 28 exactly if, not being 10 or 11, no rival without foresight exists.
 pub record Impossible (q : Records) (r : Verdict) : Type 0 where
-  pub refused-10 : (verdict-of r ≡ refused 10) ↔ NoStarts q (λ a. 0)
+  pub refused-10 : (verdict-of r ≡ refused 10) ↔ NoStarts q (leasts-of q)
   pub refused-11 : (verdict-of r ≡ refused 11) ↔ ((verdict-of r ≢ refused 10) × SomeListLeavesNone q)
   pub impossible : ((verdict-of r ≡ refused 10) ⊎ (verdict-of r ≡ refused 11)) ↔ SomeListLeavesNone q
-  pub otherwise : verdict-of r ≢ refused 10 → verdict-of r ≢ refused 11 → (d : ℕ → ℕ) → d 0 ≡ 0 → (t : ℕ → ℕ) × KeepsLinks q d t
+  pub otherwise : verdict-of r ≢ refused 10 → verdict-of r ≢ refused 11 → (d : ℕ → ℕ) → Durations q d → (t : ℕ → ℕ) × KeepsLinks q d t
   pub refused-28 : (verdict-of r ≡ refused 28) ↔ ((verdict-of r ≢ refused 10) × (verdict-of r ≢ refused 11) × NoRival q)
 
 pub record EachCall (s : List ℕ) (allow : Bool) (q : Records) : Type 0 where

@@ -10,7 +10,7 @@ use lib.ListN.{length, take, length-append, getD}
 use borrow.Author.Tests.{eq-eqb, ne-eqb, lt-ltb, ltb-true}
 use Rattle.definitions.specs.Basics.{any, select-below, test-bit}
 use Rattle.definitions.specs.Limits.{most-steps, most-added}
-use Rattle.definitions.specs.Links.{Constraint, leads-into, follows-nothing, loose-steps, source-link, link-constraints, constraints, sequencing-edge, delay-at, edge-of, edges}
+use Rattle.definitions.specs.Links.{Constraint, leads-into, follows-nothing, loose-steps, source-link, link-constraints, constraints, sequencing-edge, delay-at, least-at, edge-of, edges}
 use Rattle.definitions.specs.declared.Delay.{Delay}
 use Rattle.definitions.specs.declared.Link.{Link}
 use Rattle.definitions.specs.declared.Operation.{Operation}
@@ -130,12 +130,12 @@ module _ (n entered loose : ℕ) (are : Loose n entered loose) (digits words₀ 
       split : select-below (test-bit loose) n ≡ (so .done ++ v ∷ []) ++ select-below (test-bit left′) n
       split = so .members ∙ ap (λ (l : List ℕ). so .done ++ l) next-member ∙ sym (append-assoc (so .done) (v ∷ []) (select-below (test-bit left′) n))
 
-      module _ (w : ℕ) (words′ : List ℕ) (c′ : ℕ) (after : (d : Delay) → getD digits 0 0 ≡ leaving d 0 → unpack w ≡ sequencing-edge d 0 v 0) (P : Pushed (unpack w ∷ []) words words′ c c′) where
+      module _ (w : ℕ) (words′ : List ℕ) (c′ : ℕ) (after : (d : Delay) (least : ℕ) → getD digits 0 0 ≡ leaving d least 0 → unpack w ≡ sequencing-edge d least 0 v 0) (P : Pushed (unpack w ∷ []) words words′ c c′) where
         edges-same : (os : List Operation) → Leaves os n digits → graph (take c′ words′) ≡ graph (take c₀ words₀) ++ edges os (map source-link (so .done ++ v ∷ []))
         unfolding edges edge-of
         edges-same os h =
             let first = h .each 0 (omega (arith, so .inside v (low .member))) in
-            rw (map-append, map-append, ← after (delay-at os 0) first, ← append-assoc, ← so .same os h) (P .same)
+            rw (map-append, map-append, ← after (delay-at os 0) (least-at os 0) first, ← append-assoc, ← so .same os h) (P .same)
 
         pub completing-more : Completing n loose digits words₀ c₀ words′ c′ left′
         completing-more = record {

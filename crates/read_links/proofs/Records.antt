@@ -8,8 +8,8 @@ use lib.ListN.{length, take, length-append, length-map}
 use Rattle.definitions.specs.Basics.{test-bit, when-given}
 use Rattle.definitions.specs.Bytes.{ticks-if, bound-from}
 use Rattle.definitions.specs.Limits.{links-of-record}
-use Rattle.definitions.specs.Links.{sequencing, minimum, maximum, finish-maximum, sequencing-of, minimum-of, maximum-of, finish-maximum-of, gap-of}
-use Rattle.definitions.specs.Links.{Edge, link-constraints, constraints, delay-at, sequencing-edge, finish-edge, edge-of, edges}
+use Rattle.definitions.specs.Links.{sequencing, minimum, maximum, finish-maximum, sequencing-of, minimum-of, maximum-of, finish-maximum-of, ticks-said}
+use Rattle.definitions.specs.Links.{Edge, link-constraints, constraints, delay-at, least-at, sequencing-edge, finish-edge, edge-of, edges}
 use Rattle.definitions.specs.declared.Link.{Link}
 use Rattle.definitions.specs.declared.Operation.{Operation}
 use Rattle.definitions.specs.declared.Delay.{Delay}
@@ -47,8 +47,8 @@ four-few : {A : Type 0} (m : ℕ) (x y z u : A) → length (four m x y z u) ≤ 
 four-few m x y z u = simp length-append (omega (arith, if-few (test-bit m 0) x, if-few (test-bit m 1) y, if-few (test-bit m 2) z, if-few (test-bit m 4) u))
 
 -- The gap of a record, where 0 stands for one that is not there.
-gap-there : (there : Bool) (g : ℕ) → (there ≡ false → g ≡ 0) → gap-of (bound-from there g) ≡ g
-unfolding gap-of bound-from
+gap-there : (there : Bool) (g : ℕ) → (there ≡ false → g ≡ 0) → ticks-said (bound-from there g) ≡ g
+unfolding ticks-said bound-from
 gap-there true g h = refl
 gap-there false g h = sym (h refl)
 
@@ -77,10 +77,10 @@ module _ (i j : ℕ) where
 
 -- What the four edges of a record for (i, j) with these fields are, where i adds these digits.
 pub record Meant (i j digits : ℕ) (t : Fields) (e₀ e₁ e₂ e₄ : Edge) : Type 0 where
-  pub after : (d : Delay) → digits ≡ leaving d i → e₀ ≡ sequencing-edge d i j (t .gap)
+  pub after : (d : Delay) (least : ℕ) → digits ≡ leaving d least i → e₀ ≡ sequencing-edge d least i j (t .gap)
   pub least : e₁ ≡ edge i j (t .least) 0 false false false
   pub most : e₂ ≡ edge j i 0 (t .most) false true false
-  pub latest : (d : Delay) → digits ≡ leaving d i → e₄ ≡ finish-edge d i j (t .latest)
+  pub latest : (d : Delay) (least : ℕ) → digits ≡ leaving d least i → e₄ ≡ finish-edge d least i j (t .latest)
 
 -- An edge is pushed where bit k of the map stands.
 abbrev PushedBit : ℕ → ℕ → Edge → List ℕ → List ℕ → ℕ → ℕ → Type 0
@@ -91,7 +91,7 @@ by-bit m k h P = rw h at P
 
 module _ (m i j : ℕ) (t : Fields) where
   abbrev gap : ℕ
-  gap = gap-of (bound-from (test-bit m 3) (t .gap))
+  gap = ticks-said (bound-from (test-bit m 3) (t .gap))
 
   pub links-there : link-constraints (link-from m i j t) ≡ four m (sequencing i j gap) (minimum i j (t .least)) (maximum i j (t .most)) (finish-maximum i j (t .latest))
   unfolding link-constraints link-from
@@ -102,9 +102,9 @@ module _ (m i j : ℕ) (t : Fields) where
 
   -- These edges, pushed one for each bit, are the record's.
   module _ (digits : ℕ) (e₀ e₁ e₂ e₄ : Edge) (said : GapThere m t) (meant : Meant i j digits t e₀ e₁ e₂ e₄) where
-    edges-there : (os : List Operation) → digits ≡ leaving (delay-at os i) i → four m e₀ e₁ e₂ e₄ ≡ edges os (link-constraints (link-from m i j t))
+    edges-there : (os : List Operation) → digits ≡ leaving (delay-at os i) (least-at os i) i → four m e₀ e₁ e₂ e₄ ≡ edges os (link-constraints (link-from m i j t))
     unfolding edges edge-of
-    edges-there os e = rw (links-there, four-map, gap-there (test-bit m 3) (t .gap) said, meant .after (delay-at os i) e, meant .least, meant .most, meant .latest (delay-at os i) e)
+    edges-there os e = rw (links-there, four-map, gap-there (test-bit m 3) (t .gap) said, meant .after (delay-at os i) (least-at os i) e, meant .least, meant .most, meant .latest (delay-at os i) (least-at os i) e)
 
     all-pushed : {words words′ : List ℕ} {c c′ : ℕ} → Pushed (four m e₀ e₁ e₂ e₄) words words′ c c′ → LinkPushed (link-from m i j t) digits words words′ c c′
     unfolding link-from
@@ -120,9 +120,9 @@ module _ (m i j : ℕ) (t : Fields) where
       link-pushed P Q R S = all-pushed (push-both (push-both (push-both (P .pushed) (Q .pushed)) (R .pushed)) (S .pushed))
 
 -- A word of an after link, and nothing else.
-module _ (m i j digits w : ℕ) (alone : m ≡ 1) (after : (d : Delay) → digits ≡ leaving d i → unpack w ≡ sequencing-edge d i j 0) where
+module _ (m i j digits w : ℕ) (alone : m ≡ 1) (after : (d : Delay) (least : ℕ) → digits ≡ leaving d least i → unpack w ≡ sequencing-edge d least i j 0) where
   alone-meant : Meant i j digits no-fields (unpack w) (edge i j 0 0 false false false) (edge j i 0 0 false true false) (finish-unpacked i j 0 digits)
-  alone-meant = record { after = after; least = refl; most = refl; latest = λ d. finish-same d i j 0 digits }
+  alone-meant = record { after = after; least = refl; most = refl; latest = λ d l. finish-same d l i j 0 digits }
 
   pub link-alone : {words words′ : List ℕ} {c c′ : ℕ} → PushedIf true (unpack w) words words′ c c′ → LinkPushed (link-from m i j no-fields) digits words words′ c c′
   unfolding test-bit
@@ -134,7 +134,7 @@ module _ (i j digits : ℕ) (fit : Fit i j) (small : digits < loss-place) where
   bounds least most = record { least = least; most = most; gap = 0; latest = 0 }
 
   meant-by : (least most : ℕ) → Meant i j digits (bounds least most) (unpack (i + j * to-place + digits)) (edge i j least 0 false false false) (edge j i 0 most false true false) (finish-unpacked i j 0 digits)
-  meant-by least most = record { after = λ d e. sequencing-unpacked d i j 0 digits _ fit (omega arith) e (omega arith); least = refl; most = refl; latest = λ d. finish-same d i j 0 digits }
+  meant-by least most = record { after = λ d l e. sequencing-unpacked d l i j 0 digits _ fit (omega arith) e (omega arith); least = refl; most = refl; latest = λ d l. finish-same d l i j 0 digits }
 
   module _ (s : List ℕ) (at : ℕ) (words words′ : List ℕ) (c m : ℕ) where
     pub least-read : m ≡ 2 → (r : LinkRead) → BoundReads false i j s at words words′ c r → LinkReads m i j digits s at words words′ c r

@@ -7,7 +7,7 @@ use lib.ListN.{length, take, drop}
 use Rattle.definitions.specs.Basics.{refused, test-bit}
 use Rattle.definitions.specs.Bytes.{two-bytes}
 use Rattle.definitions.specs.Limits.{links-of-record}
-use Rattle.definitions.specs.Links.{Edge, link-constraints, delay-at, edges}
+use Rattle.definitions.specs.Links.{Edge, link-constraints, delay-at, least-at, edges}
 use Rattle.definitions.specs.Numbers.{number}
 use Rattle.definitions.specs.declared.Link.{Link}
 use Rattle.definitions.specs.declared.Operation.{Operation}
@@ -38,7 +38,7 @@ pub record PushedIf (there : Bool) (e : Edge) (words words′ : List ℕ) (c c�
 pub record LinkPushed (l : Link) (digits : ℕ) (words words′ : List ℕ) (c c′ : ℕ) : Type 0 where
   pub long : length words′ ≡ length words
   pub counts : c′ ≡ c + length (link-constraints l)
-  pub same : (os : List Operation) → digits ≡ leaving (delay-at os (l .from)) (l .from) → graph (take c′ words′) ≡ graph (take c words) ++ edges os (link-constraints l)
+  pub same : (os : List Operation) → digits ≡ leaving (delay-at os (l .from)) (least-at os (l .from)) (l .from) → graph (take c′ words′) ≡ graph (take c words) ++ edges os (link-constraints l)
 
 -- There is room for a record's edges behind the first c words, and its ends fit their digits.
 pub record Room (words : List ℕ) (c i j : ℕ) : Type 0 where

@@ -67,7 +67,7 @@ fn word(from: u64, to: u64, counted: u64, back: u64, gain: u64, loss: u64, late:
 // The words of an after link with its gap, an at-least and an at-most link on (from, to), and of one at most from the finish; `digits` are what `from` adds.
 fn sequencing_word(digits: u32, from: u8, to: u8, gap: u16) -> u64
     requires { ⌜ Fit from to ⌝ }
-    ensures { λ r. ⌜ ((d : Delay) → digits ≡ leaving d from → unpack r ≡ sequencing-edge d from to gap) ⌝ }
+    ensures { λ r. ⌜ ((d : Delay) (least : ℕ) → digits ≡ leaving d least from → unpack r ≡ sequencing-edge d least from to gap) ⌝ }
 {
     wide(from) + wide(to) * TO_PLACE + digits_of(digits) + ticks_of(gap) * GAIN_PLACE
 }
@@ -88,7 +88,7 @@ fn maximum_word(from: u8, to: u8, most: u16) -> u64
 
 fn finish_word(digits: u32, from: u8, to: u8, most: u16) -> u64
     requires { ⌜ Fit from to ⌝ }
-    ensures { λ r. ⌜ ((d : Delay) → digits ≡ leaving d from → unpack r ≡ finish-edge d from to most) ⌝ }
+    ensures { λ r. ⌜ ((d : Delay) (least : ℕ) → digits ≡ leaving d least from → unpack r ≡ finish-edge d least from to most) ⌝ }
 {
     let d = digits_of(digits);
     word(

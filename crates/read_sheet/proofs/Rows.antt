@@ -30,28 +30,29 @@ use Rattle.read_sheet.specs.declared.Report.{Report}
 use Rattle.read_sheet.proofs.Parts.{steps-refused, with-pairs}
 
 -- A row of steps ends within the bytes.
-pub row-inside : (s : List ℕ) (at n : ℕ) (digits : List ℕ) (unbounded : ℕ) (place : Place) → OperationsReads s at n digits unbounded place → place-end place ≤ length s
-row-inside s at n digits unbounded (Places.At next) row = row .inside
-row-inside s at n digits unbounded (Places.Refused k) row = omega arith
+pub row-inside : (s : List ℕ) (at n : ℕ) (digits leasts : List ℕ) (unbounded : ℕ) (place : Place) → OperationsReads s at n digits leasts unbounded place → place-end place ≤ length s
+row-inside s at n digits leasts unbounded (Places.At next) row = row .inside
+row-inside s at n digits leasts unbounded (Places.Refused k) row = omega arith
 
 -- A refusal: there is no sheet.
-pub report-refusing : (k : Refusal) (report : Report) (words : List ℕ) → report .reading ≡ Refused k → Reports (refused (number k)) words report
+pub report-refusing : (k : Refusal) (report : Report) (words leasts : List ℕ) → report .reading ≡ Refused k → Reports (refused (number k)) words leasts report
 unfolding when-given
-report-refusing k report words e = record { reading = rw e; sheet = λ q g. absurd (given-not-refused (sym g)) }
+report-refusing k report words leasts e = record { reading = rw e; sheet = λ q g. absurd (given-not-refused (sym g)) }
 
--- The number of steps is the row's length, and the words are those of the link records.
-module _ (s : List ℕ) (at n r middle : ℕ) (digits words : List ℕ) (unbounded : ℕ) (pairs : LinksRead) (row : Stepped s at n digits unbounded middle) (found : LinksReads (drop middle s) n r digits words pairs) (few : r ≤ most-records) (fits : Fits n r words) where
+-- The number of steps is the row's length, the leasts are the row's, and the words are those of the link records.
+module _ (s : List ℕ) (at n r middle : ℕ) (digits leasts words : List ℕ) (unbounded : ℕ) (pairs : LinksRead) (row : Stepped s at n digits leasts unbounded middle) (found : LinksReads (drop middle s) n r digits words pairs) (few : r ≤ most-records) (fits : Fits n r words) where
   abbrev made : Report
   made = record { reading = pairs .reading; n = n; unbounded = unbounded; count = pairs .count }
 
   abbrev rest : List ℕ
   rest = drop middle s
 
-  holds : (ls : List Link) → outcome (last-links n r) rest ≡ given ls → Holds (record { steps = row .steps; pairs = ls }) words made
+  holds : (ls : List Link) → outcome (last-links n r) rest ≡ given ls → Holds (record { steps = row .steps; pairs = ls }) words leasts made
   unfolding edges-of links-of
   holds ls e = record {
     n = sym (row .count);
     opens = row .opens;
+    least = row .least;
     few = omega (arith, found .few);
     within = omega (arith, found .few, fits .room);
     same = found .same (row .steps) (row .leaves) ls e ∙ ap (λ (k : ℕ). edges (row .steps) (completed k (constraints ls))) (sym (row .count));
@@ -64,25 +65,25 @@ module _ (s : List ℕ) (at n r middle : ℕ) (digits words : List ℕ) (unbound
   whole : outcome (sheet-records n r) (drop at s) ≡ when-given (outcome (last-links n r) rest) with-steps
   whole = with-pairs n r (drop at s) (row .same)
 
-  report-made : Reports (outcome (sheet-records n r) (drop at s)) words made
+  report-made : Reports (outcome (sheet-records n r) (drop at s)) words leasts made
   unfolding when-given
   report-made = record {
     reading = found .reading ∙ sym (when-given-twice (outcome (last-links n r) rest) with-steps (λ q. given tt)) ∙ sym (ap (λ (p : Outcome Records). when-given p (λ q. given tt)) whole);
-    sheet = λ q g. let h = when-given-has (outcome (last-links n r) rest) with-steps (sym whole ∙ g) in subst (λ (q : Records). Holds q words made) (given-same (h .2)) (holds (h .0) (h .1));
+    sheet = λ q g. let h = when-given-has (outcome (last-links n r) rest) with-steps (sym whole ∙ g) in subst (λ (q : Records). Holds q words leasts made) (given-same (h .2)) (holds (h .0) (h .1));
   }
 
 abbrev report-of : Head → ℕ → LinksRead → Report
 report-of h unbounded q = record { reading = q .reading; n = h .n; unbounded = unbounded; count = q .count }
 
 -- The report that the three parts make, by what they answer: N and R, the steps, the link records.
-module _ (p : Outcome Records) (s digits words : List ℕ) (h : Head) (unbounded : ℕ) (q : LinksRead) (heads : Heads p s h) (fits : Fits (h .n) (h .r) words) where
+module _ (p : Outcome Records) (s digits leasts words : List ℕ) (h : Head) (unbounded : ℕ) (q : LinksRead) (heads : Heads p s h) (fits : Fits (h .n) (h .r) words) where
   abbrev Reported : Outcome Records → Type 0
-  Reported o = Reports o words (report-of h unbounded q)
+  Reported o = Reports o words leasts (report-of h unbounded q)
 
-  by-cases : (reading : Reading) (place : Place) → head-outcome s h reading ≡ p → OperationsReads s (h .at) (h .n) digits unbounded place → TailReads s (h .n) (h .r) digits words q reading place → Reported p
-  by-cases (Refused k) place e row tail = subst Reported e (report-refusing k (report-of h unbounded q) words tail)
-  by-cases Whole (Places.Refused k) e row tail = subst Reported (sym (steps-refused (h .n) (h .r) (drop (h .at) s) row) ∙ e) (report-refusing k (report-of h unbounded q) words tail)
-  by-cases Whole (Places.At middle) e row tail = subst Reported e (report-made s (h .at) (h .n) (h .r) middle digits words unbounded q row tail (heads .few) fits)
+  by-cases : (reading : Reading) (place : Place) → head-outcome s h reading ≡ p → OperationsReads s (h .at) (h .n) digits leasts unbounded place → TailReads s (h .n) (h .r) digits words q reading place → Reported p
+  by-cases (Refused k) place e row tail = subst Reported e (report-refusing k (report-of h unbounded q) words leasts tail)
+  by-cases Whole (Places.Refused k) e row tail = subst Reported (sym (steps-refused (h .n) (h .r) (drop (h .at) s) row) ∙ e) (report-refusing k (report-of h unbounded q) words leasts tail)
+  by-cases Whole (Places.At middle) e row tail = subst Reported e (report-made s (h .at) (h .n) (h .r) middle digits leasts words unbounded q row tail (heads .few) fits)
 
-  pub report-read : (place : Place) → OperationsReads s (h .at) (h .n) digits unbounded place → TailReads s (h .n) (h .r) digits words q (h .reading) place → Reported p
+  pub report-read : (place : Place) → OperationsReads s (h .at) (h .n) digits leasts unbounded place → TailReads s (h .n) (h .r) digits words q (h .reading) place → Reported p
   report-read place = by-cases (h .reading) place (heads .same)

@@ -1,8 +1,8 @@
--- What the reader's report says, and the words beside it; and what its parts say: N and R, and the link records.
+-- What the reader's report says, and the words and leasts beside it; and what its parts say: N and R, and the link records.
 use mathlib.Core.Path.{_≡_}
 use mathlib.Core.List.{List}
 use Prim.Native.Nat.{ℕ, _≤_, _<_}
-use lib.ListN.{length, take, drop}
+use lib.ListN.{length, take, drop, replicate}
 use Rattle.definitions.specs.Answers.{count-of, edges-of}
 use Rattle.definitions.specs.Basics.{Outcome, given, refused, test-bit, when-given}
 use Rattle.definitions.specs.Bytes.{Records}
@@ -11,10 +11,10 @@ use Rattle.definitions.specs.Numbers.{number, reading-of}
 use Rattle.data_edges.specs.Words.{graph}
 use Rattle.definitions.specs.declared.Reading.{Reading}
 use Rattle.definitions.specs.declared.Reading.the-variants as Readings
-use Rattle.read_fields.specs.Counts.{link-count}
+use Rattle.read_fields.specs.Counts.{link-count, edge-room}
 use Rattle.read_fields.specs.Parts.{outcome}
 use Rattle.read_steps.specs.Answers.{place-end}
-use Rattle.read_steps.specs.Leaving.{unbounded-at}
+use Rattle.read_steps.specs.Leaving.{Leasts, unbounded-at}
 use Rattle.read_steps.specs.declared.Place.{Place}
 use Rattle.read_steps.specs.declared.Place.the-variants as Places
 use Rattle.read_records.specs.Answers.{Fits, LinksReads}
@@ -23,18 +23,24 @@ use Rattle.read_sheet.specs.Parts.{sheet-records}
 use Rattle.read_sheet.specs.declared.Head.{Head}
 use Rattle.read_sheet.specs.declared.Report.{Report}
 
--- A sheet as a report and words hold it: its open steps as a map, and its edges as the first words.
-pub record Holds (q : Records) (words : List ℕ) (r : Report) : Type 0 where
+-- What is lent to read the bytes s: words for the edges, and a number for the least of each step, where none stands yet.
+pub record Lent (s words leasts : List ℕ) : Type 0 where
+  pub room : edge-room s ≤ length words
+  pub blank : leasts ≡ replicate most-steps 0
+
+-- A sheet as a report, words and leasts hold it: its open steps as a map, its edges as the first words, and the least of each step, 0 where it has none.
+pub record Holds (q : Records) (words leasts : List ℕ) (r : Report) : Type 0 where
   pub n : r .n ≡ count-of q
   pub opens : (i : ℕ) → i < r .n → test-bit (r .unbounded) i ≡ unbounded-at (q .steps) i
+  pub least : Leasts (q .steps) leasts
   pub few : r .count ≤ most-edges
   pub within : r .count ≤ length words
   pub same : graph (take (r .count) words) ≡ edges-of q
 
 -- A report on what reading finds: the refusal or none, and the sheet where there is one.
-pub record Reports (p : Outcome Records) (words : List ℕ) (r : Report) : Type 0 where
+pub record Reports (p : Outcome Records) (words leasts : List ℕ) (r : Report) : Type 0 where
   pub reading : reading-of {A = Unit {0}} (r .reading) tt ≡ when-given p (λ q. given tt)
-  pub sheet : (q : Records) → p ≡ given q → Holds q words r
+  pub sheet : (q : Records) → p ≡ given q → Holds q words leasts r
 
 -- What N and R leave to be read: the records; or a refusal by its number.
 abbrev pub head-outcome : List ℕ → Head → Reading → Outcome Records

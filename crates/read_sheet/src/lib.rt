@@ -1,16 +1,15 @@
-// A sheet is read from its bytes: the map of its open steps, and its edges as words; or the first fault, refusals 1 to 7 and 26.
+// A sheet is read from its bytes: the map of its open steps, its least durations, and its edges as words; or the first fault, refusals 1 to 7 and 26.
 ghost use mathlib.Core.Path.{_≡_};
 ghost use mathlib.Core.List.{List};
 ghost use Prim.Native.Nat.{ℕ, _≤_};
-ghost use lib.ListN.{length, drop};
+ghost use lib.ListN.{drop};
 ghost use Rattle.definitions.specs.Basics.{refused};
 ghost use Rattle.definitions.specs.Limits.{most-steps};
 ghost use Rattle.definitions.specs.Numbers.{number};
 ghost use Rattle.definitions.specs.Bytes as Bytes;
-ghost use Rattle.read_fields.specs.Counts.{edge-room};
 ghost use Rattle.read_fields.specs.Parts.{outcome};
 ghost use Rattle.read_sheet.specs.Parts.{sheet-counted};
-ghost use Rattle.read_sheet.specs.Answers.{Heads, TailReady, TailReads, Reports};
+ghost use Rattle.read_sheet.specs.Answers.{Heads, TailReady, TailReads, Lent, Reports};
 use data_indices::byte_index;
 use data_indices::index;
 use definitions::MOST_RECORDS;
@@ -113,16 +112,16 @@ fn read_tail(
     }
 }
 
-// A sheet, its edges written from the front of the words on; or the first fault. What its steps add is kept while the link records are read.
-pub fn read(s: &[u8], words: &mut [u64]) -> Report
-    requires { ⌜ edge-room (now s) ≤ length (now words) ⌝ }
-    ensures { λ r. ⌜ Reports (Bytes.read (now (s .entry))) (now (words .exit)) r ⌝ }
+// A sheet, its edges written from the front of the words on, and its least durations over zeros; or the first fault. What its steps add is kept while the link records are read.
+pub fn read(s: &[u8], words: &mut [u64], leasts: &mut [u16; 64]) -> Report
+    requires { ⌜ Lent (now s) (now words) (now leasts) ⌝ }
+    ensures { λ r. ⌜ Reports (Bytes.read (now (s .entry))) (now (words .exit)) (now (leasts .exit)) r ⌝ }
 {
     let head = read_head(s);
     let at = head.at;
     let n = head.n;
     let mut digits = [0u32; 64];
-    let steps = read_steps::read_operations(s, at, n, &mut digits);
+    let steps = read_steps::read_operations(s, at, n, &mut digits, leasts);
     let place = steps.place;
     let reading = head.reading;
     let tail = read_tail(s, reading, place, n, head.r, &digits, words);

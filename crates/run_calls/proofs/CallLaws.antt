@@ -5,20 +5,20 @@ use mathlib.Core.List.{List}
 use Prim.Native.Nat.{ℕ, _*_, _^_, _≤_, _<_}
 use lib.Bits.{bitOr}
 use lib.Dec.{eqb, leb, ltb}
-use lib.ListN.{length, set}
+use lib.ListN.{length, set, replicate}
 use borrow.Author.Tests.{ltb-false, leb-true, leb-false, lt-ltb, le-ltb, le-leb, lt-leb, eq-eqb, ne-eqb, not-false}
 use Rattle.definitions.specs.Basics.{test-bit, Outcome, given, refused, refuse-if}
 use Rattle.definitions.specs.Limits.{last-tick, most-steps}
 use Rattle.definitions.specs.Numbers.{number, status-of}
 use Rattle.definitions.specs.Answers.{bad-count, too-short}
-use Rattle.definitions.specs.Dispatcher.{Progress, sweep, begun, not-running, fresh, with-source, begin, ticked, tick, cannot-finish, ended, finish, state-after, map-after, Returns}
+use Rattle.definitions.specs.Dispatcher.{Progress, sweep, begun, not-running, kept-leasts, fresh, with-source, begin, ticked, tick, cannot-finish, too-early, ended, finish, state-after, map-after, Returns}
 use Rattle.definitions.specs.declared.State.{State}
 use Rattle.definitions.specs.declared.Dispatch.{Dispatch}
 use Rattle.definitions.specs.declared.Refusal.{Refusal}
 use Rattle.definitions.specs.declared.Status.the-variants.{Done, Refused}
 use Rattle.laws.proofs.Bools.{and-split, or-neither}
 use Rattle.run_release.specs.Sweeps.{Room, Swept}
-use Rattle.run_calls.specs.Calls.{cannot-finish-in}
+use Rattle.run_calls.specs.Calls.{cannot-finish-in, too-little}
 
 -- A disjunction whose first part fails is its second.
 pub or-past : {a : Bool} (b : Bool) → a ≡ false → (a || b) ≡ b
@@ -129,26 +129,37 @@ swept-source {table = table} {r} S n e =
 pub room : {next state : State} (table : List ℕ) → next ≡ state → state .n ≤ most-steps → state .n * state .n ≤ length table → Room next table
 room table e h k = rw e (record { few = h; long = k })
 
--- One bit more in the map of the finished.
-pub ended-now : (st : State) (s : ℕ) {p : ℕ} → p ≡ 2 ^ s → record { n = st .n; unbounded = st .unbounded; tick = st .tick; started = st .started; finished = bitOr (st .finished) p; start = st .start; finish = set (st .finish) s (st .tick) } ≡ ended st s
-unfolding ended
-ended-now st s e = ap (λ x. record { n = st .n; unbounded = st .unbounded; tick = st .tick; started = st .started; finished = bitOr (st .finished) x; start = st .start; finish = set (st .finish) s (st .tick) }) e
+-- The state anew, with the least durations that are kept.
+pub fresh-with : (n unbounded : ℕ) (leasts : List ℕ) {least : List ℕ} → least ≡ kept-leasts n leasts → record { n = n; unbounded = unbounded; tick = 0; started = 1; finished = 1; start = replicate most-steps 0; finish = replicate most-steps 0; least = least } ≡ fresh n unbounded leasts
+unfolding fresh
+fresh-with n unbounded leasts e = ap (λ (l : List ℕ). record { n = n; unbounded = unbounded; tick = 0; started = 1; finished = 1; start = replicate most-steps 0; finish = replicate most-steps 0; least = l }) e
 
--- Begin checks 16, 2, 14.
-module _ (st : State) (n unbounded : ℕ) (table : List ℕ) where
-  pub begin-begun : test-bit (st .started) 0 ≡ true → refused 16 ≡ begin st n unbounded table
+-- One bit more in the map of the finished.
+pub ended-now : (st : State) (s : ℕ) {p : ℕ} → p ≡ 2 ^ s → record { n = st .n; unbounded = st .unbounded; tick = st .tick; started = st .started; finished = bitOr (st .finished) p; start = st .start; finish = set (st .finish) s (st .tick); least = st .least } ≡ ended st s
+unfolding ended
+ended-now st s e = ap (λ x. record { n = st .n; unbounded = st .unbounded; tick = st .tick; started = st .started; finished = bitOr (st .finished) x; start = st .start; finish = set (st .finish) s (st .tick); least = st .least }) e
+
+-- Begin checks 16, 2, 14. What passes 14 has lent a table that is long enough, and a least duration for each step.
+pub table-enough : (n : ℕ) (leasts table : List ℕ) → too-little n leasts table ≡ false → n * n ≤ length table
+table-enough n leasts table h = long-enough table (n * n) (or-neither (too-short table (n * n)) (too-short leasts n) .0 h .0)
+
+pub leasts-enough : (n : ℕ) (leasts table : List ℕ) → too-little n leasts table ≡ false → n ≤ length leasts
+leasts-enough n leasts table h = long-enough leasts n (or-neither (too-short table (n * n)) (too-short leasts n) .0 h .1)
+
+module _ (st : State) (n unbounded : ℕ) (leasts table : List ℕ) where
+  pub begin-begun : test-bit (st .started) 0 ≡ true → refused 16 ≡ begin st n unbounded leasts table
   unfolding begin begun
   begin-begun h = refuse-here 16 _ h
 
-  pub begin-count : test-bit (st .started) 0 ≡ false → bad-count n ≡ true → refused 2 ≡ begin st n unbounded table
+  pub begin-count : test-bit (st .started) 0 ≡ false → bad-count n ≡ true → refused 2 ≡ begin st n unbounded leasts table
   unfolding begin begun
   begin-count h k = refuse-past 16 h (refuse-here 2 _ k)
 
-  pub begin-short : test-bit (st .started) 0 ≡ false → bad-count n ≡ false → too-short table (n * n) ≡ true → refused 14 ≡ begin st n unbounded table
+  pub begin-short : test-bit (st .started) 0 ≡ false → bad-count n ≡ false → too-little n leasts table ≡ true → refused 14 ≡ begin st n unbounded leasts table
   unfolding begin begun
   begin-short h k l = refuse-past 16 h (refuse-past 2 k (refuse-here 14 _ l))
 
-  pub begin-given : test-bit (st .started) 0 ≡ false → bad-count n ≡ false → too-short table (n * n) ≡ false → given (with-source (sweep (fresh n unbounded) table)) ≡ begin st n unbounded table
+  pub begin-given : test-bit (st .started) 0 ≡ false → bad-count n ≡ false → too-little n leasts table ≡ false → given (with-source (sweep (fresh n unbounded leasts) table)) ≡ begin st n unbounded leasts table
   unfolding begin begun
   begin-given h k l = refuse-past 16 h (refuse-past 2 k (refuse-past 14 l refl))
 
@@ -170,7 +181,7 @@ module _ (st : State) (table : List ℕ) where
   unfolding tick
   tick-given h k l = refuse-past 15 h (refuse-past 14 k (refuse-past 18 (ne-eqb (st .tick) last-tick l) refl))
 
--- Finish checks 15, 14, 17.
+-- Finish checks 15, 14, 17, 20.
 module _ (st : State) (s : ℕ) (table : List ℕ) where
   pub finish-idle : not-running st ≡ true → refused 15 ≡ finish st s table
   unfolding finish
@@ -184,6 +195,10 @@ module _ (st : State) (s : ℕ) (table : List ℕ) where
   unfolding finish
   finish-cannot h k l = refuse-past 15 h (refuse-past 14 k (refuse-here 17 _ l))
 
-  pub finish-given : not-running st ≡ false → too-short table (st .n * st .n) ≡ false → cannot-finish st s ≡ false → given (sweep (ended st s) table) ≡ finish st s table
+  pub finish-early : not-running st ≡ false → too-short table (st .n * st .n) ≡ false → cannot-finish st s ≡ false → too-early st s ≡ true → refused 20 ≡ finish st s table
   unfolding finish
-  finish-given h k l = refuse-past 15 h (refuse-past 14 k (refuse-past 17 l refl))
+  finish-early h k l m = refuse-past 15 h (refuse-past 14 k (refuse-past 17 l (refuse-here 20 _ m)))
+
+  pub finish-given : not-running st ≡ false → too-short table (st .n * st .n) ≡ false → cannot-finish st s ≡ false → too-early st s ≡ false → given (sweep (ended st s) table) ≡ finish st s table
+  unfolding finish
+  finish-given h k l m = refuse-past 15 h (refuse-past 14 k (refuse-past 17 l (refuse-past 20 m refl)))

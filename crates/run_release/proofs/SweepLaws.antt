@@ -61,7 +61,7 @@ module _ {st : State} {table : List ℕ} where
 
 -- The sweep's map and start ticks, put into the state.
 abbrev with-starts : State → ℕ → List ℕ → State
-with-starts st map start = record { n = st .n; unbounded = st .unbounded; tick = st .tick; started = bitOr (st .started) map; finished = st .finished; start = start; finish = st .finish }
+with-starts st map start = record { n = st .n; unbounded = st .unbounded; tick = st .tick; started = bitOr (st .started) map; finished = st .finished; start = start; finish = st .finish; least = st .least }
 
 pub swept-now : (st : State) (table : List ℕ) {map : ℕ} {start : List ℕ} → map ≡ starting st table → start ≡ start-ticks st table (st .n) → Swept st table (record { status = Done; state = with-starts st map start; map = map })
 unfolding sweep

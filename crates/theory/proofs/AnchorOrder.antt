@@ -7,7 +7,7 @@ use native.Mathlib.Omega.{arith}
 use Rattle.definitions.specs.Links.{After, Forward, Graph}
 use Rattle.theory.specs.Graphs.{Acyclic, Relative, Schedule, Shape, Timely}
 use Rattle.theory.proofs.Pigeonhole.{free, free-none, free-take}
-use Rattle.theory.proofs.RelativeSchedules.{least-at}
+use Rattle.theory.proofs.RelativeSchedules.{least-step}
 use Rattle.theory.proofs.Walks.{after-trans}
 
 -- A list of vertices that all stand behind v: v is none of them, and what stands before v stands before them and v.
@@ -44,4 +44,4 @@ module _ (n : ℕ) (E : Graph) (acyclic : Acyclic E) where
 
 -- Where no return is late the relative schedule is the least. By induction along anchors: its start at v is a term of an anchor before v, and any schedule keeps that term.
 pub least-acyclic : {n : ℕ} {E : Graph} {d S t : ℕ → ℕ} {off : ℕ → ℕ → ℕ} → Shape n E → Timely E → Acyclic (Forward E) → Relative n E d S off → Schedule E d t → (v : ℕ) → v < n → S v ≤ t v
-least-acyclic {n} {E} {d} {S} {t} shape timely acyclic rel s = anchor-induct n (Forward E) acyclic (λ v. S v ≤ t v) (least-at shape timely rel s)
+least-acyclic {n} {E} {d} {S} {t} shape timely acyclic rel s = anchor-induct n (Forward E) acyclic (λ v. S v ≤ t v) (least-step shape timely rel s)

@@ -6,7 +6,7 @@ use mathlib.Core.List.{List, List·Memᴰ}
 use Prim.Native.Nat.{_*_, _+_, _-_, _<_, _≤_, suc, zero, ℕ}
 use native.Mathlib.Omega.{arith}
 use native.Mathlib.Nat.{mul-le-mul-right, suc-mul}
-use Rattle.definitions.specs.Limits.{most-steps, most-duration, most-loss}
+use Rattle.definitions.specs.Limits.{most-steps, most-extra, most-loss}
 use Rattle.definitions.specs.Anchors.{is-source}
 use Rattle.definitions.specs.Basics.{all-below, any}
 use Rattle.definitions.specs.Links.{After, AfterWalk, Edge, Graph, UsableFrom, Walk, forwards, members, step, stop, usable}
@@ -161,5 +161,5 @@ closed-after-unschedulable {n} {l} {x} {a} {E} shape losses w h s =
     )
 
 -- With the limits of a sheet: the longest duration is more than as many of the largest losses as there may be steps.
-pub closed-after-limit : {n a : ℕ} {E : Graph} {t : ℕ → ℕ} → Shape n E → n ≤ most-steps → Losses E most-loss → After (UsableFrom E a) a a → ¬ Schedule E (sole-delay most-duration a) t
+pub closed-after-limit : {n a : ℕ} {E : Graph} {t : ℕ → ℕ} → Shape n E → n ≤ most-steps → Losses E most-loss → After (UsableFrom E a) a a → ¬ Schedule E (sole-delay most-extra a) t
 closed-after-limit {n} {a} shape few losses w = closed-after-unschedulable shape losses w (omega (arith, mul-le-mul-right most-loss few))

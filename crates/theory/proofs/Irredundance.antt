@@ -5,7 +5,7 @@ use Prim.Native.Nat.{_+_, _<_, _≤_, suc, zero, ℕ}
 use native.Mathlib.Omega.{arith}
 use native.Mathlib.Decide.{decLe, decLt, ℕ-discrete}
 use Rattle.definitions.specs.Anchors.{InAnchorSet, WellPosed, chain, is-source}
-use Rattle.definitions.specs.Links.{After, Forward, Graph, Joined, LateInto, UsableFrom, Walk}
+use Rattle.definitions.specs.Links.{After, Forward, Graph, Joined, LateInto, UsableFrom, Walk, no-leasts}
 use Rattle.definitions.specs.Plan.{Offset, Span, after, source}
 use Rattle.laws.proofs.Bools.{same-or-not}
 use Rattle.theory.specs.Graphs.{Acyclic, Decides, Overrides, Relative, Shape}
@@ -115,7 +115,7 @@ module _ {n : ℕ} {E : Graph} (shape : Shape n E) (acyclic : Acyclic (Forward E
       go (inl (is-source h)) = x .reaches .walk .not-source h
       go (inl (chain w)) = acyclic c (after-trans i (subst (λ (y : ℕ). After (Forward E) b y) (x .into .1) w))
 
-  pub offset-triangle : {c b v o₁ o₂ o : ℕ} → After (Forward E) c b → b ≢ 0 → Offset (UsableFrom E c) c b o₁ → Offset (UsableFrom E b) b v o₂ → Offset (UsableFrom E c) c v o → o₁ + o₂ ≤ o
+  pub offset-triangle : {c b v o₁ o₂ o : ℕ} → After (Forward E) c b → b ≢ 0 → Offset no-leasts (UsableFrom E c) c b o₁ → Offset no-leasts (UsableFrom E b) b v o₂ → Offset no-leasts (UsableFrom E c) c v o → o₁ + o₂ ≤ o
   offset-triangle {c} {b} {v} {o₁} {o₂} {o} i z O₁ O₂ O = go (O₂ .span)
     where
       by : {k : ℕ} → Walk (UsableFrom E c) b v k (O₂ .p) (O₂ .q) ⊎ Crossing E c b → o₁ + o₂ ≤ o

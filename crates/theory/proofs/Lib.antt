@@ -24,3 +24,4 @@ pub mod DecidingSets
 pub mod Possibility
 pub mod Strategies
 pub mod Plans
+pub mod Extras

@@ -1,5 +1,5 @@
 -- Offsets: n rounds find them, and how large they can be.
-use mathlib.Core.Path.{_≡_, refl, _∙_}
+use mathlib.Core.Path.{_≡_, refl, subst, _∙_}
 use mathlib.Core.Logic.{_↔_, _⊎_, inl, inr}
 use mathlib.Core.List.{List, List·Memᴰ}
 use Prim.Native.Nat.{_*_, _+_, _-_, _<_, _≤_, suc, zero, ℕ}
@@ -7,7 +7,7 @@ use native.Mathlib.Omega.{arith}
 use native.Mathlib.Nat.{mul-le-mul-right}
 use Rattle.definitions.specs.Limits.{most-steps, most-gain, most-first-gain, most-walk, most-offset}
 use Rattle.definitions.specs.Anchors.{InAnchorSet, WellPosed, chain, is-source}
-use Rattle.definitions.specs.Links.{After, Edge, Graph, UsableFrom, Walk, members, usable}
+use Rattle.definitions.specs.Links.{After, Edge, Graph, UsableFrom, Walk, members, usable, no-leasts}
 use Rattle.definitions.specs.Plan.{Offset, Span, after, first-row, offset, offset-row, source}
 use Rattle.definitions.specs.Rounds.{cell, rounds}
 use Rattle.theory.specs.Graphs.{Carries, FirstGains, Gains, NonPositive, Rooted, Shape, Well}
@@ -47,10 +47,10 @@ module _ {n : ℕ} {es : List Edge} (some : 0 < n) (shape : Shape n (members es)
       go zero e = absurd (omega arith)
       go (suc o) e = member-span shape carries (rounds-under shape ground start n v o e .span)
 
-  pub row-offset : (v : ℕ) → v < n → InAnchorSet (members es) a v → Offset (members es) a v (cell (rounds es n (first-row n es a)) v - 1)
+  pub row-offset : (v : ℕ) → v < n → InAnchorSet (members es) a v → Offset no-leasts (members es) a v (cell (rounds es n (first-row n es a)) v - 1)
   row-offset v b i = go (cell row v) refl (row-member v b i)
     where
-      go : (r : ℕ) → cell row v ≡ r → 1 ≤ cell row v → Offset (members es) a v (cell row v - 1)
+      go : (r : ℕ) → cell row v ≡ r → 1 ≤ cell row v → Offset no-leasts (members es) a v (cell row v - 1)
       go zero h l = absurd (omega arith)
       go (suc o) h l =
           let e : cell row v - 1 ≡ o = omega arith in
@@ -67,7 +67,7 @@ module _ {n : ℕ} {es : List Edge} (well : Well n (members es)) (posed : WellPo
   listed : {a v : ℕ} → InAnchorSet (members es) a v → InAnchorSet (members (usable es a)) a v
   listed {a} i = member-mono (usable-members es a) (member-usable (well .shape) a i)
 
-  pub offset-found : (a v : ℕ) → v < n → InAnchorSet (members es) a v → Offset (UsableFrom (members es) a) a v (offset n es a v)
+  pub offset-found : (a v : ℕ) → v < n → InAnchorSet (members es) a v → Offset no-leasts (UsableFrom (members es) a) a v (offset n no-leasts es a v)
   unfolding offset offset-row
   offset-found a v b i =
       offset-same
@@ -107,26 +107,30 @@ module _ {n : ℕ} {E : Graph} (shape : Shape n E) (never : NonPositive E) {a : 
           record { k₂ = r .k₂; p₂ = r .p₂; q₂ = r .q₂; few = r .few; walk = r .walk; heavy = omega (arith, r .heavy, s .ps, s .qs, never .closed (s .round)) }
 
 -- An offset is at most what a first edge gains and n - 2 others do.
-module _ {n : ℕ} {E : Graph} {f g : ℕ} (shape : Shape n E) (never : NonPositive E) (firsts : FirstGains E f) (gains : Gains E g) where
-  span-gain : {a v p q : ℕ} → ¬ After E a a → 0 < n → Span E a v p q → p ≤ f + (n - 2) * g + q
-  span-gain {v = v} {p = p} {q = q} once b (source h w) =
+module _ (least : ℕ → ℕ) (f : ℕ) {n : ℕ} {E : Graph} {g : ℕ} (shape : Shape n E) (never : NonPositive E) (firsts : FirstGains least E f) (gains : Gains E g) where
+  span-gain : {a v p q : ℕ} → ¬ After E a a → 0 < n → Span E a v p q → p ≤ least a + f + (n - 2) * g + q
+  span-gain {a} {v} {p} {q} once b (source h w) =
       let s = shorten shape never (omega arith) w in
       let few : s .k₂ - 1 ≤ n - 2 = omega (arith, s .few) in
-      omega (arith, s .heavy, walk-first-gain (λ e m l. firsts e m (inl (l ∙ h))) gains (s .walk), mul-le-mul-right g few)
+      let first : (e : Edge) → E e → e .from ≡ a → e .gain ≤ least a + f = λ e m l. subst (λ (x : ℕ). e .gain ≤ least x + f) l (firsts e m (inl (l ∙ h))) in
+      omega (arith, s .heavy, walk-first-gain first gains (s .walk), mul-le-mul-right g few)
   span-gain {a} {v} once b (after w) =
       let avoids : (k p q : ℕ) → ¬ Walk E (w .edge .to) a k p q = λ k p q u. once (after-by (w .edge) (w .not-source) (w .mem) (w .leaves) (w .counts) (record { k = k; p = p; q = q; walk = u })) in
       let inside : a < n = rw (w .leaves) at (shape .from-below (w .edge) (w .mem)) in
       let s = fewer-below shape never inside (suc (w .k)) (omega arith) (shape .to-below (w .edge) (w .mem)) avoids (w .rest) in
       let few : s .k₂ ≤ n - 2 = omega (arith, s .few) in
-      omega (arith, s .heavy, walk-gain gains (s .walk), firsts (w .edge) (w .mem) (inr (w .counts)), mul-le-mul-right g few, w .gains, w .losses)
+      let first : w .edge .gain ≤ least a + f = subst (λ (x : ℕ). w .edge .gain ≤ least x + f) (w .leaves) (firsts (w .edge) (w .mem) (inr (w .counts))) in
+      omega (arith, s .heavy, walk-gain gains (s .walk), first, mul-le-mul-right g few, w .gains, w .losses)
 
-  pub offset-small : {a v o : ℕ} → ¬ After E a a → 0 < n → Offset E a v o → o ≤ f + (n - 2) * g
+  pub offset-small : {a v o : ℕ} → ¬ After E a a → 0 < n → Offset no-leasts E a v o → o ≤ least a + f + (n - 2) * g
   offset-small once b O = omega (arith, span-gain once b (O .span), O .attained)
 
-module _ {n f g : ℕ} {es : List Edge} (well : Well n (members es)) (posed : WellPosed (members es)) (firsts : FirstGains (members es) f) (gains : Gains (members es) g) where
-  pub offset-gains : (a v : ℕ) → v < n → InAnchorSet (members es) a v → offset n es a v ≤ f + (n - 2) * g
+module _ (least : ℕ → ℕ) (f : ℕ) {n g : ℕ} {es : List Edge} (well : Well n (members es)) (posed : WellPosed (members es)) (firsts : FirstGains least (members es) f) (gains : Gains (members es) g) where
+  pub offset-gains : (a v : ℕ) → v < n → InAnchorSet (members es) a v → offset n no-leasts es a v ≤ least a + f + (n - 2) * g
   offset-gains a v b i =
       offset-small
+      least
+      f
       (usable-shape (well .shape) a)
       (nonpositive-mono (usable-sub (members es) a) (well .never))
       (λ e m. firsts e (m .0))
@@ -140,8 +144,8 @@ module _ {n : ℕ} {es : List Edge} (well : Well n (members es)) (posed : WellPo
   fewer : (n - 2) * most-gain ≤ (most-steps - 2) * most-gain
   fewer = let h : n - 2 ≤ most-steps - 2 = omega arith in mul-le-mul-right most-gain h
 
-  pub walk-limit : (a v : ℕ) → v < n → InAnchorSet (members es) a v → offset n es a v ≤ most-walk
-  walk-limit a v b i = omega (arith, offset-gains well posed (λ e m h. gains e m) gains a v b i, fewer)
+  pub walk-limit : (a v : ℕ) → v < n → InAnchorSet (members es) a v → offset n no-leasts es a v ≤ most-walk
+  walk-limit a v b i = omega (arith, offset-gains no-leasts most-gain well posed (λ e m h. gains e m) gains a v b i, fewer)
 
-  pub offset-limit : FirstGains (members es) most-first-gain → (a v : ℕ) → v < n → InAnchorSet (members es) a v → offset n es a v ≤ most-offset
-  offset-limit firsts a v b i = omega (arith, offset-gains well posed firsts gains a v b i, fewer)
+  pub offset-limit : (least : ℕ → ℕ) → FirstGains least (members es) most-first-gain → (a v : ℕ) → v < n → InAnchorSet (members es) a v → offset n no-leasts es a v ≤ least a + most-offset
+  offset-limit least firsts a v b i = omega (arith, offset-gains least most-first-gain well posed firsts gains a v b i, fewer)

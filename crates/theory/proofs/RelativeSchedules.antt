@@ -1,20 +1,35 @@
 -- The relative schedule keeps every edge of a well-posed graph; and where no return is late it is the least that does.
-use mathlib.Core.Path.{_≡_, ap, refl}
+use mathlib.Core.Path.{_≡_, ap, refl, subst}
 use mathlib.Core.Bool.{cond, false, true}
 use mathlib.Core.Logic.{_≢_, _⊎_, inl, inr}
 use Prim.Native.Nat.{_+_, _<_, _≤_, suc, ℕ}
 use native.Mathlib.Omega.{arith}
 use Rattle.definitions.specs.Anchors.{InAnchorSet, WellPosed, chain, is-source}
-use Rattle.definitions.specs.Links.{After, Edge, Forward, Graph, LateInto, UsableFrom, Walk}
+use Rattle.definitions.specs.Links.{After, Edge, Forward, Graph, LateInto, UsableFrom, Walk, no-leasts}
 use Rattle.definitions.specs.Plan.{Offset, Span, after, source}
 use Rattle.laws.proofs.Bools.{bool-cases, cond-false, cond-true, same-or-not}
-use Rattle.theory.specs.Graphs.{Attained, KeepsEdge, NonPositive, Relative, Schedule, Shape, Timely}
-use Rattle.theory.proofs.Usables.{dec-late-into, forward-usable, usable-sub}
-use Rattle.theory.proofs.Walks.{after-edge, after-walk, counted-forward, join, member-counted, member-forward, schedule-mono, span-bound, span-join, walk-edge, walk-mono, walk-to}
+use Rattle.theory.specs.Graphs.{Attained, KeepsEdge, Leasts, NonPositive, Relative, Schedule, Shape, Timely}
+use Rattle.theory.proofs.Usables.{dec-late-into, forward-usable, forwards-usable, usable-sub}
+use Rattle.theory.proofs.Walks.{after-edge, after-mono, after-walk, counted-forward, forward-losses, join, member-counted, member-forward, schedule-mono, span-bound, span-join, walk-edge, walk-mono, walk-to}
 
 -- Along an edge an offset grows by at least the gain less the loss: the edge makes a walk longer.
-pub offset-edge : {E : Graph} {a o o′ : ℕ} (e : Edge) → E e → Offset E a (e .from) o → Offset E a (e .to) o′ → o + e .gain ≤ o′ + e .loss
+pub offset-edge : {E : Graph} {a o o′ : ℕ} (e : Edge) → E e → Offset no-leasts E a (e .from) o → Offset no-leasts E a (e .to) o′ → o + e .gain ≤ o′ + e .loss
 offset-edge e m O O′ = omega (arith, O′ .bound _ _ (span-join (O .span) (walk-edge e m)), O .attained)
+
+-- An offset is no less than the least of its anchor: the chain that makes the anchor a member gains it with its first edge.
+pub chain-offset : (least : ℕ → ℕ) {n : ℕ} {E : Graph} {a v o : ℕ} → Shape n E → Leasts least E → After (Forward E) a v → Offset no-leasts (UsableFrom E a) a v o → least a ≤ o
+chain-offset least {a = a} shape leasts c O =
+    let w = c .walk in
+    let first : least a ≤ w .edge .gain = subst (λ (x : ℕ). least x ≤ w .edge .gain) (w .leaves) (leasts (w .edge) (w .mem .0) (w .counts)) in
+    omega (
+      arith,
+      first,
+      w .gains,
+      w .losses,
+      forward-losses shape (w .rest),
+      shape .forward-lossless (w .edge) (w .mem .0) (w .mem .1),
+      O .bound _ _ (after (after-mono (λ e m. forwards-usable shape a e m .0) w)),
+    )
 
 pub span-walk : {E : Graph} {a y p q : ℕ} → Span E a y p q → (k : ℕ) × Walk E a y k p q
 span-walk (source {k = k} h w) = (k, w)
@@ -73,7 +88,7 @@ module _ {n : ℕ} {E : Graph} {d S : ℕ → ℕ} {off : ℕ → ℕ → ℕ} (
       by-count e m (inr c) = omega (arith, keeps-uncounted e m, cond-false (d (e .from)) 0 c)
 
 -- A member's term is at most any schedule's time, once the member itself starts no later there.
-pub offset-bound : {E : Graph} {d t : ℕ → ℕ} {a v o : ℕ} → Timely E → d 0 ≡ 0 → Schedule E d t → Offset (UsableFrom E a) a v o → t a + d a + o ≤ t v
+pub offset-bound : {E : Graph} {d t : ℕ → ℕ} {a v o : ℕ} → Timely E → d 0 ≡ 0 → Schedule E d t → Offset no-leasts (UsableFrom E a) a v o → t a + d a + o ≤ t v
 offset-bound {E} {a = a} timely d0 s O = omega (arith, span-bound {E = UsableFrom E a} (λ e m. timely e (m .0)) (schedule-mono (usable-sub E a) s) d0 (O .span), O .attained)
 
 module _ {n : ℕ} {E : Graph} {d S t : ℕ → ℕ} {off : ℕ → ℕ → ℕ} (shape : Shape n E) (timely : Timely E) (rel : Relative n E d S off) (s : Schedule E d t) where
@@ -89,7 +104,7 @@ module _ {n : ℕ} {E : Graph} {d S t : ℕ → ℕ} {off : ℕ → ℕ → ℕ}
       )
 
   -- The step of the induction: S is no later at v where it is no later at the anchors before v.
-  pub least-at : (v : ℕ) → v < n → ((w : ℕ) → w < n → After (Forward E) w v → S w ≤ t w) → S v ≤ t v
-  least-at v b ih =
+  pub least-step : (v : ℕ) → v < n → ((w : ℕ) → w < n → After (Forward E) w v → S w ≤ t w) → S v ≤ t v
+  least-step v b ih =
       let A = rel .attained v b in
       least-from v b (A .anchor) (A .inside) (A .equals) ih

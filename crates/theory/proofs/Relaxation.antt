@@ -11,7 +11,7 @@ use lib.ListN.{length, length-set}
 use lib.Seq.{ext-getD, getD-set-other, getD-set-same}
 use borrow.Author.Tests.{le-leb, leb-true}
 use Rattle.definitions.specs.Anchors.{InAnchorSet, chain, is-source}
-use Rattle.definitions.specs.Links.{Edge, Forward, Graph, Joined, Walk, members, step, stop}
+use Rattle.definitions.specs.Links.{Edge, Forward, Graph, Joined, Walk, members, step, stop, no-leasts}
 use Rattle.definitions.specs.Plan.{Offset, Span, after, source}
 use Rattle.definitions.specs.Rounds.{cell, extend, offer, raise, relax, round, rounds, stable}
 use Rattle.laws.proofs.Bools.{same-or-not}
@@ -227,7 +227,7 @@ stable-walk {es} {x} {y} {k} {p} {q} row st p₀ q₀ c (step {p = p₁} {q = q�
     (omega arith)
     (omega arith)
 
-covers-offset : {E : Graph} {a v r o : ℕ} → r ≡ suc o → Reach E a v o → ((p q : ℕ) → Span E a v p q → Covers r p q) → Offset E a v o
+covers-offset : {E : Graph} {a v r o : ℕ} → r ≡ suc o → Reach E a v o → ((p q : ℕ) → Span E a v p q → Covers r p q) → Offset no-leasts E a v o
 covers-offset h R C =
     record { p = R .p; q = R .q; span = R .span; attained = omega (arith, C (R .p) (R .q) (R .span) .enough, R .under); bound = λ p q s. omega (arith, C p q s .enough) }
 
@@ -259,7 +259,7 @@ module _ {n : ℕ} {es : List Edge} {a : ℕ} {row : List ℕ} (shape : Shape n 
       (w .gains)
       (w .losses)
 
-  pub rounds-offset : (v o : ℕ) → cell (rounds es n row) v ≡ suc o → Offset (members es) a v o
+  pub rounds-offset : (v o : ℕ) → cell (rounds es n row) v ≡ suc o → Offset no-leasts (members es) a v o
   rounds-offset v o h = covers-offset h (rounds-under shape grounded S n v o h) (λ p q s. rounds-span s)
 
   -- One round more changes nothing: what it might raise, some walk weighs, and that is covered.

@@ -8,16 +8,16 @@ use Rattle.definitions.specs.Anchors.{InAnchorSet, WellPosed, chain, is-source}
 use Rattle.definitions.specs.Links.{After, AfterWalk, Edge, Forward, Graph, Joined, LateInto, UsableFrom, Walk, _⊑_, step, stop}
 use Rattle.definitions.specs.Waits.{Wait, wait-edge, wait-pair}
 use Rattle.laws.proofs.Bools.{bool-cases, both-ways, cond-true}
-use Rattle.theory.specs.Graphs.{Acyclic, Carries, Consistent, FirstGains, ForwardAcyclic, Gains, KeepsEdge, NonPositive, Rooted, Schedule, Serializable, Shape, Timely, WaitEdge, Waited, Well}
+use Rattle.theory.specs.Graphs.{Acyclic, Carries, Consistent, FirstGains, ForwardAcyclic, Gains, KeepsEdge, Leasts, NonPositive, Rooted, Schedule, Serializable, Shape, Timely, WaitEdge, Waited, Well}
 use Rattle.theory.proofs.Usables.{carries-usable, dec-late-into, forward-usable, timely-usable, usable-member, usable-shape, usable-sub}
 use Rattle.theory.proofs.Walks.{after-bound, after-edge, after-from, after-join, after-joined, after-mono, after-start-below, after-to, after-trans, after-walk, chain-after, counted-forward, forward-losses}
 use Rattle.theory.proofs.Walks.{join, joined-mono, member-after, member-mono, member-to, schedule-mono, some-after, walk-edge, walk-from, walk-mono, walk-none, walk-to}
 
 -- What holds of the edges of E and of the serialization edges holds of those of E′.
-pub waited-each : {E E′ : Graph} → Waited E E′ → (P : Edge → Type 0) → ((e : Edge) → E e → P e) → ((e : Edge) → WaitEdge E e → P e) → (e : Edge) → E′ e → P e
-waited-each {E} W P sent added e m = go (W .only e m)
+pub waited-each : {least : ℕ → ℕ} {E E′ : Graph} → Waited least E E′ → (P : Edge → Type 0) → ((e : Edge) → E e → P e) → ((e : Edge) → WaitEdge least E e → P e) → (e : Edge) → E′ e → P e
+waited-each {least} {E} W P sent added e m = go (W .only e m)
   where
-    go : E e ⊎ WaitEdge E e → P e
+    go : E e ⊎ WaitEdge least E e → P e
     go (inl h) = sent e h
     go (inr h) = added e h
 
@@ -28,7 +28,7 @@ wait-after w = some-after (after-to (w .enters) (after-join (w .reaches .walk) (
 wait-walk : {E : Graph} {a i : ℕ} → Wait E a i → After E a i
 wait-walk {E} {a} w = some-after (after-mono (usable-sub E a) (wait-after w .walk))
 
-module _ {E E′ : Graph} (W : Waited E E′) where
+module _ {least : ℕ → ℕ} {E E′ : Graph} (W : Waited least E E′) where
   after-first : (e : Edge) → E′ e → e .counted ≡ true → e .from ≢ 0 → After E (e .from) (e .to)
   after-first =
       waited-each W
@@ -59,13 +59,13 @@ module _ {E E′ : Graph} (W : Waited E E′) where
       some-after
       (after-edge
       {E = Forward E′}
-      (wait-edge (wait-pair a i))
-      (W .adds (wait-edge (wait-pair a i)) (record { counts = refl; forward = refl; gainless = refl; lossless = refl; timely = refl; wait = w }), refl)
+      (wait-edge least (wait-pair a i))
+      (W .adds (wait-edge least (wait-pair a i)) (record { counts = refl; forward = refl; gains = refl; lossless = refl; timely = refl; wait = w }), refl)
       refl
       (w .reaches .walk .not-source))
 
   -- A walk of E′, within any part H of it, is one of E, as long as no serialization edge of it could be closed into a circle. Induction on the walk.
-  walk-within : {H : Graph} {x y k p q : ℕ} → H ⊑ E′ → Walk H x y k p q → ((e : Edge) → WaitEdge E e → H e → Joined H x (e .from) → Joined H (e .to) y → ⊥) → Walk (λ e. E e × H e) x y k p q
+  walk-within : {H : Graph} {x y k p q : ℕ} → H ⊑ E′ → Walk H x y k p q → ((e : Edge) → WaitEdge least E e → H e → Joined H x (e .from) → Joined H (e .to) y → ⊥) → Walk (λ e. E e × H e) x y k p q
   walk-within i (stop e hk hp hq) never = stop e hk hp hq
   walk-within {H} {x} {y} {k} {p} {q} i (step {y = y₀} {k = k₀} {p = p₀} {q = q₀} w e m f o hk hp hq) never =
       go
@@ -73,7 +73,7 @@ module _ {E E′ : Graph} (W : Waited E E′) where
       (walk-within i w (λ e′ h m′ into out.
       never e′ h m′ into (record { k = _; p = _; q = _; walk = join (out .walk) (walk-from (sym f) (walk-to (walk-edge e m) o refl refl refl)) })))
     where
-      go : E e ⊎ WaitEdge E e → Walk (λ e. E e × H e) x y₀ k₀ p₀ q₀ → Walk (λ e. E e × H e) x y k p q
+      go : E e ⊎ WaitEdge least E e → Walk (λ e. E e × H e) x y₀ k₀ p₀ q₀ → Walk (λ e. E e × H e) x y k p q
       go (inl h) v = step v e (h, m) f o hk hp hq
       go (inr h) v =
           absurd (never e h m (record { k = _; p = _; q = _; walk = walk-to w (sym f) refl refl refl }) (record { k = _; p = _; q = _; walk = walk-to (walk-none (e .to)) o refl refl refl }))
@@ -91,7 +91,7 @@ module _ {E E′ : Graph} (W : Waited E E′) where
     waited-acyclic : Acyclic E′
     waited-acyclic a w = acyclic a (after-back (w .walk))
 
-    wait-off-cycles : (e : Edge) → WaitEdge E e → {k p q : ℕ} → Walk E′ (e .to) (e .from) k p q → ⊥
+    wait-off-cycles : (e : Edge) → WaitEdge least E e → {k p q : ℕ} → Walk E′ (e .to) (e .from) k p q → ⊥
     wait-off-cycles e h w = waited-acyclic (e .from) (some-after (after-join (after-edge e (W .adds e h) (h .counts) (h .wait .reaches .walk .not-source)) w))
 
     closed-within : {x k p q : ℕ} → Walk E′ x x k p q → Walk E x x k p q
@@ -100,12 +100,15 @@ module _ {E E′ : Graph} (W : Waited E E′) where
     waited-nonpositive : NonPositive E → NonPositive E′
     waited-nonpositive never = record { closed = λ w. never .closed (closed-within w) }
 
--- A member of the anchor set of v that is not step 0 ends before v starts: a chain loses nothing and is never late.
-pub member-bound : {n : ℕ} {F : Graph} {d t : ℕ → ℕ} {a v : ℕ} → Shape n F → Schedule F d t → a ≢ 0 → InAnchorSet F a v → t a + d a ≤ t v
-member-bound shape s n (is-source h) = absurd (n h)
-member-bound {F = F} shape s n (chain c) =
+-- A member of the anchor set of v that is not step 0 ends before v starts: a chain gains the least of its first step, loses nothing and is never late.
+pub member-bound : (least : ℕ → ℕ) {n : ℕ} {F : Graph} {d t : ℕ → ℕ} {a v : ℕ} → Shape n F → Leasts least F → Schedule F d t → a ≢ 0 → InAnchorSet F a v → t a + least a + d a ≤ t v
+member-bound least shape leasts s n (is-source h) = absurd (n h)
+member-bound least {F = F} {a = a} shape leasts s n (chain c) =
+    let first : least a ≤ c .walk .edge .gain = subst (λ (x : ℕ). least x ≤ c .walk .edge .gain) (c .walk .leaves) (leasts (c .walk .edge) (c .walk .mem .0) (c .walk .counts)) in
     omega (
       arith,
+      first,
+      c .walk .gains,
       after-bound {E = Forward F} (λ e m. shape .forward-timely e (m .0) (m .1)) (schedule-mono (λ e m. m .0) s) (c .walk),
       forward-losses shape (c .walk .rest),
       c .walk .losses,
@@ -114,7 +117,7 @@ member-bound {F = F} shape s n (chain c) =
 
 -- Where no return is late, every schedule of a well-posed graph F above E keeps the waits of E: a walk of E from the end of a stays where a is in the anchor set of F, so F has a chain from a wherever a
 -- wait for a stands.
-module _ {n : ℕ} {E E′ F : Graph} {d t : ℕ → ℕ} (W : Waited E E′) (above : E ⊑ F) (shape : Shape n F) (posed : WellPosed F) (timely : Timely F) (s : Schedule F d t) where
+module _ {n : ℕ} {least : ℕ → ℕ} {E E′ F : Graph} {d t : ℕ → ℕ} (W : Waited least E E′) (above : E ⊑ F) (shape : Shape n F) (posed : WellPosed F) (timely : Timely F) (leasts : Leasts least F) (s : Schedule F d t) where
   carries : (a : ℕ) → Carries F a
   carries a e m b i = go (posed a e m b i)
     where
@@ -122,10 +125,12 @@ module _ {n : ℕ} {E E′ F : Graph} {d t : ℕ → ℕ} (W : Waited E E′) (a
       go (inl j) = j
       go (inr j) = absurd (both-ways (j .0) (timely e m))
 
-  pub rival-waits : {a i : ℕ} → Wait E a i → t a + d a ≤ t i
+  pub rival-waits : {a i : ℕ} → Wait E a i → t a + least a + d a ≤ t i
   rival-waits {a} w =
       member-bound
+      least
       shape
+      leasts
       s
       (w .reaches .walk .not-source)
       (member-to (w .enters) (carries a (w .edge) (above (w .edge) (w .mem .0)) (w .returns) (member-after shape (carries a) (after-mono (λ e m. above e (m .0)) (w .reaches .walk)))))
@@ -133,11 +138,11 @@ module _ {n : ℕ} {E E′ F : Graph} {d t : ℕ → ℕ} (W : Waited E E′) (a
   pub rival-keeps : Schedule E′ d t
   rival-keeps = record { starts = s .starts; keeps = waited-each W (KeepsEdge d t) (λ e m. s .keeps e (above e m)) waits-kept }
     where
-      waits-kept : (e : Edge) → WaitEdge E e → KeepsEdge d t e
-      waits-kept e h = omega (arith, rival-waits (h .wait), h .gainless, h .lossless, cond-true (d (e .from)) 0 (h .counts))
+      waits-kept : (e : Edge) → WaitEdge least E e → KeepsEdge d t e
+      waits-kept e h = omega (arith, rival-waits (h .wait), h .gains, h .lossless, cond-true (d (e .from)) 0 (h .counts))
 
 -- What E′ takes over from E.
-module _ {n : ℕ} {E E′ : Graph} (W : Waited E E′) (shape : Shape n E) where
+module _ {n : ℕ} {least : ℕ → ℕ} {E E′ : Graph} (W : Waited least E E′) (shape : Shape n E) where
   pub waited-shape : Shape n E′
   waited-shape = record {
     from-below = waited-each W (λ e. e .from < n) (shape .from-below) (λ e h. after-start-below (usable-shape shape (e .from)) (h .wait .reaches));
@@ -152,15 +157,24 @@ module _ {n : ℕ} {E E′ : Graph} (W : Waited E E′) (shape : Shape n E) wher
   waited-timely timely = waited-each W (λ e. e .late ≡ false) timely (λ e h. h .timely)
 
 -- Forward chains stay.
-pub waited-rooted : {n : ℕ} {E E′ : Graph} → Waited E E′ → Rooted n E → Rooted n E′
+pub waited-rooted : {n : ℕ} {least : ℕ → ℕ} {E E′ : Graph} → Waited least E E′ → Rooted n E → Rooted n E′
 waited-rooted W rooted v b = joined-mono (λ e m. (W .keeps-all e (m .0), m .1)) (rooted v b)
 
--- Serialization edges gain nothing.
-pub waited-gains : {E E′ : Graph} {g : ℕ} → Waited E E′ → Gains E g → Gains E′ g
-waited-gains {g = g} W G = waited-each W (λ e. e .gain ≤ g) G (λ e h. omega (arith, h .gainless))
+-- Serialization edges gain the leasts of their anchors, as counted edges out of these do.
+pub waited-leasts : {least : ℕ → ℕ} {E E′ : Graph} → Waited least E E′ → Leasts least E → Leasts least E′
+waited-leasts {least} W L = waited-each W (λ e. e .counted ≡ true → least (e .from) ≤ e .gain) L (λ e h c. omega (arith, h .gains))
 
-pub waited-first-gains : {E E′ : Graph} {g : ℕ} → Waited E E′ → FirstGains E g → FirstGains E′ g
-waited-first-gains {g = g} W G = waited-each W (λ e. (e .from ≡ 0) ⊎ (e .counted ≡ true) → e .gain ≤ g) G (λ e h i. omega (arith, h .gainless))
+pub waited-gains : {least : ℕ → ℕ} {E E′ : Graph} {g : ℕ} → Waited least E E′ → Leasts least E → Gains E g → Gains E′ g
+waited-gains {least} {E} {g = g} W L G = waited-each W (λ e. e .gain ≤ g) G added
+  where
+    added : (e : Edge) → WaitEdge least E e → e .gain ≤ g
+    added e h =
+        let w = h .wait .reaches .walk in
+        let first : least (e .from) ≤ w .edge .gain = subst (λ (x : ℕ). least x ≤ w .edge .gain) (w .leaves) (L (w .edge) (w .mem .0) (w .counts)) in
+        omega (arith, h .gains, first, G (w .edge) (w .mem .0))
+
+pub waited-first-gains : {least : ℕ → ℕ} {E E′ : Graph} (g : ℕ) → Waited least E E′ → FirstGains least E g → FirstGains least E′ g
+waited-first-gains {least} g W G = waited-each W (λ e. (e .from ≡ 0) ⊎ (e .counted ≡ true) → e .gain ≤ least (e .from) + g) G (λ e h i. omega (arith, h .gains))
 
 -- In a well-posed graph what the end of b reaches, b stands before. So, where forward edges close no circle, no step waits for its own end.
 module _ {n : ℕ} {E : Graph} (shape : Shape n E) (posed : WellPosed E) where
@@ -214,7 +228,7 @@ module _ {n : ℕ} {E : Graph} (shape : Shape n E) where
 
 -- E′ is well-posed, where its forward edges close no circle. What the end of a precedes in E′, it reaches in E: along forward edges of E, and over a wait for b by the walk that the wait stands for, which
 -- cannot cross a, as b would stand before a then. So a is a member at a return's end as sent, or that end waits for a.
-module _ {n : ℕ} {E E′ : Graph} (shape : Shape n E) (W : Waited E E′) (dec : (a i : ℕ) → Dec (InAnchorSet E a i)) where
+module _ {n : ℕ} {least : ℕ → ℕ} {E E′ : Graph} (shape : Shape n E) (W : Waited least E E′) (dec : (a i : ℕ) → Dec (InAnchorSet E a i)) where
   waited-member : (a : ℕ) (e : Edge) → UsableFrom E a e → e .back ≡ true → After (UsableFrom E a) a (e .from) → InAnchorSet E′ a (e .to)
   waited-member a e m b r = go (dec a (e .to))
     where
@@ -237,7 +251,7 @@ module _ {n : ℕ} {E E′ : Graph} (shape : Shape n E) (W : Waited E E′) (dec
         over (inl v) = some-after (after-join (r .walk) v)
         over (inr x) = absurd (no-crossing c x)
 
-        go : E e ⊎ WaitEdge E e → After (UsableFrom E a) a (e .to)
+        go : E e ⊎ WaitEdge least E e → After (UsableFrom E a) a (e .to)
         go (inl h) = some-after (after-join (r .walk) (walk-edge e (h, forward-usable shape a e h (m .1))))
         go (inr h) = over (cross-after shape a (wait-after (h .wait) .walk))
 
@@ -249,7 +263,7 @@ module _ {n : ℕ} {E E′ : Graph} (shape : Shape n E) (W : Waited E E′) (dec
     reach-first : (e : Edge) → Forward E′ e → e .counted ≡ true → e .from ≢ 0 → After (UsableFrom E (e .from)) (e .from) (e .to)
     reach-first e m c z = go (W .only e (m .0))
       where
-        go : E e ⊎ WaitEdge E e → After (UsableFrom E (e .from)) (e .from) (e .to)
+        go : E e ⊎ WaitEdge least E e → After (UsableFrom E (e .from)) (e .from) (e .to)
         go (inl h) = some-after (after-edge e (h, forward-usable shape (e .from) e h (m .1)) c z)
         go (inr h) = wait-after (h .wait)
 
@@ -266,7 +280,7 @@ module _ {n : ℕ} {E E′ : Graph} (shape : Shape n E) (W : Waited E E′) (dec
     waited-well-posed a e m b (is-source h) = inl (is-source h)
     waited-well-posed a e m b (chain c) = go (W .only e m) (dec-late-into e a)
       where
-        go : E e ⊎ WaitEdge E e → Dec (LateInto e a) → InAnchorSet E′ a (e .to) ⊎ LateInto e a
+        go : E e ⊎ WaitEdge least E e → Dec (LateInto e a) → InAnchorSet E′ a (e .to) ⊎ LateInto e a
         go (inr h) i = absurd (both-ways b (h .forward))
         go (inl h) (yes i) = inr i
         go (inl h) (no i) = inl (waited-member a e (h, i) b (chain-reach c))
@@ -285,14 +299,14 @@ posed-no-wait {E = E} {a = a} {i = i} shape posed w =
     go (inr j) = w .mem .1 j
 
 -- E′ can be scheduled where E can and the waits can be put in.
-pub waited-well : {n : ℕ} {E E′ : Graph} → ((a i : ℕ) → Dec (InAnchorSet E a i)) → Waited E E′ → Well n E → Serializable E′ → Well n E′
+pub waited-well : {n : ℕ} {least : ℕ → ℕ} {E E′ : Graph} → ((a i : ℕ) → Dec (InAnchorSet E a i)) → Waited least E E′ → Well n E → Serializable E′ → Well n E′
 waited-well dec W w serial =
     let shape = waited-shape W (w .shape) in
     let acyclic = forward-acyclic (serial .acyclic) in
     record { some = w .some; shape = shape; rooted = waited-rooted W (w .rooted); consistent = posed-consistent shape (waited-well-posed (w .shape) W dec acyclic) acyclic; never = serial .never }
 
 -- Where no return is late the waits can always be put in.
-pub timely-serializable : {n : ℕ} {E E′ : Graph} → Waited E E′ → Timely E → Well n E → ForwardAcyclic E → Serializable E′
+pub timely-serializable : {n : ℕ} {least : ℕ → ℕ} {E E′ : Graph} → Waited least E E′ → Timely E → Well n E → ForwardAcyclic E → Serializable E′
 timely-serializable {E = E} W timely w once =
     let acyclic : Acyclic E = λ a u. w .consistent a (some-after (after-mono (timely-usable timely a) (u .walk))) in
     record { acyclic = waited-forward-acyclic W once (λ a u. waited-acyclic W acyclic a (chain-after u)); never = waited-nonpositive W acyclic (w .never) }

@@ -10,7 +10,7 @@ use native.Mathlib.Nat.{suc-mul}
 use lib.ListN.{length}
 use Rattle.definitions.specs.Anchors.{InAnchorSet, WellPosed, chain, in-anchor-set, is-source}
 use Rattle.definitions.specs.Basics.{largest}
-use Rattle.definitions.specs.Links.{After, Edge, Forward, Graph, UsableFrom, members}
+use Rattle.definitions.specs.Links.{After, Edge, Forward, Graph, UsableFrom, members, no-leasts}
 use Rattle.definitions.specs.Plan.{Offset, Span, after, offset, source, start-from, start-times, start-turns}
 use Rattle.definitions.specs.Rounds.{cell}
 use Rattle.laws.proofs.Bools.{same-or-not}
@@ -26,59 +26,59 @@ use Rattle.theory.proofs.Usables.{well-acyclic, usable-sub}
 use Rattle.theory.proofs.Walks.{after-start-below, after-trans, chain-after, member-below, source-first, walk-mono}
 
 -- A start time for each step.
-pub start-turns-length : (n : ℕ) (es : List Edge) (d : ℕ → ℕ) (k : ℕ) → length (start-turns n es d k) ≡ n
+pub start-turns-length : (n : ℕ) (least : ℕ → ℕ) (es : List Edge) (d : ℕ → ℕ) (k : ℕ) → length (start-turns n least es d k) ≡ n
 unfolding start-turns
-start-turns-length n es d zero = zeros-length n
-start-turns-length n es d (suc k) = tabulate-length (start-from n es d (start-turns n es d k)) n
+start-turns-length n least es d zero = zeros-length n
+start-turns-length n least es d (suc k) = tabulate-length (start-from n least es d (start-turns n least es d k)) n
 
-pub start-times-length : (n : ℕ) (es : List Edge) (d : ℕ → ℕ) → length (start-times n es d) ≡ n
+pub start-times-length : (n : ℕ) (least : ℕ → ℕ) (es : List Edge) (d : ℕ → ℕ) → length (start-times n least es d) ≡ n
 unfolding start-times
-start-times-length n es d = start-turns-length n es d n
+start-times-length n least es d = start-turns-length n least es d n
 
 -- Start times depend on the delays below n alone.
-start-from-same : (n : ℕ) (es : List Edge) (d d′ : ℕ → ℕ) (row : List ℕ) → ((a : ℕ) → a < n → d a ≡ d′ a) → (v : ℕ) → start-from n es d row v ≡ start-from n es d′ row v
+start-from-same : (n : ℕ) (least : ℕ → ℕ) (es : List Edge) (d d′ : ℕ → ℕ) (row : List ℕ) → ((a : ℕ) → a < n → d a ≡ d′ a) → (v : ℕ) → start-from n least es d row v ≡ start-from n least es d′ row v
 unfolding start-from
-start-from-same n es d d′ row h zero = refl
-start-from-same n es d d′ row h (suc v) =
+start-from-same n least es d d′ row h zero = refl
+start-from-same n least es d d′ row h (suc v) =
     largest-same
     (λ a. in-anchor-set n es a (suc v))
-    (λ a. cell row a + d a + offset n es a (suc v))
-    (λ a. cell row a + d′ a + offset n es a (suc v))
+    (λ a. cell row a + d a + offset n least es a (suc v))
+    (λ a. cell row a + d′ a + offset n least es a (suc v))
     n
     (λ a b i. omega (arith, h a b))
 
-start-turns-same : (n : ℕ) (es : List Edge) (d d′ : ℕ → ℕ) → ((a : ℕ) → a < n → d a ≡ d′ a) → (k : ℕ) → start-turns n es d k ≡ start-turns n es d′ k
+start-turns-same : (n : ℕ) (least : ℕ → ℕ) (es : List Edge) (d d′ : ℕ → ℕ) → ((a : ℕ) → a < n → d a ≡ d′ a) → (k : ℕ) → start-turns n least es d k ≡ start-turns n least es d′ k
 unfolding start-turns
-start-turns-same n es d d′ h zero = refl
-start-turns-same n es d d′ h (suc k) =
+start-turns-same n least es d d′ h zero = refl
+start-turns-same n least es d d′ h (suc k) =
     tabulate-same
-    (start-from n es d (start-turns n es d k))
-    (start-from n es d′ (start-turns n es d′ k))
+    (start-from n least es d (start-turns n least es d k))
+    (start-from n least es d′ (start-turns n least es d′ k))
     n
-    (λ v b. start-from-same n es d d′ (start-turns n es d k) h v ∙ ap (λ (row : List ℕ). start-from n es d′ row v) (start-turns-same n es d d′ h k))
+    (λ v b. start-from-same n least es d d′ (start-turns n least es d k) h v ∙ ap (λ (row : List ℕ). start-from n least es d′ row v) (start-turns-same n least es d d′ h k))
 
-pub start-times-same : (n : ℕ) (es : List Edge) (d d′ : ℕ → ℕ) → ((a : ℕ) → a < n → d a ≡ d′ a) → start-times n es d ≡ start-times n es d′
+pub start-times-same : (n : ℕ) (least : ℕ → ℕ) (es : List Edge) (d d′ : ℕ → ℕ) → ((a : ℕ) → a < n → d a ≡ d′ a) → start-times n least es d ≡ start-times n least es d′
 unfolding start-times
-start-times-same n es d d′ h = start-turns-same n es d d′ h n
+start-times-same n least es d d′ h = start-turns-same n least es d d′ h n
 
 -- The start of v under the delays d, and the term of the anchor a in it.
 abbrev pub start-time : ℕ → List Edge → (ℕ → ℕ) → ℕ → ℕ
-start-time n es d = cell (start-times n es d)
+start-time n es d = cell (start-times n no-leasts es d)
 
 abbrev pub start-term : ℕ → List Edge → (ℕ → ℕ) → ℕ → ℕ → ℕ
-start-term n es d v a = start-time n es d a + d a + offset n es a v
+start-term n es d v a = start-time n es d a + d a + offset n no-leasts es a v
 
 -- What each turn does.
-module _ {n : ℕ} {es : List Edge} (shape : Shape n (members es)) (d : ℕ → ℕ) where
+module _ (least : ℕ → ℕ) {n : ℕ} {es : List Edge} (shape : Shape n (members es)) (d : ℕ → ℕ) where
   abbrev turn : ℕ → ℕ → ℕ
-  turn k v = cell (start-turns n es d k) v
+  turn k v = cell (start-turns n least es d k) v
 
   abbrev term : ℕ → ℕ → ℕ → ℕ
-  term k v a = turn k a + d a + offset n es a v
+  term k v a = turn k a + d a + offset n least es a v
 
-  turn-next : (k v : ℕ) → v < n → turn (suc k) v ≡ start-from n es d (start-turns n es d k) v
+  turn-next : (k v : ℕ) → v < n → turn (suc k) v ≡ start-from n least es d (start-turns n least es d k) v
   unfolding start-turns
-  turn-next k v b = tabulate-at (start-from n es d (start-turns n es d k)) n v 0 b
+  turn-next k v b = tabulate-at (start-from n least es d (start-turns n least es d k)) n v 0 b
 
   turn-largest : (k v : ℕ) → suc v < n → turn (suc k) (suc v) ≡ largest (λ a. in-anchor-set n es a (suc v)) (term k (suc v)) n
   unfolding start-from
@@ -90,9 +90,9 @@ module _ {n : ℕ} {es : List Edge} (shape : Shape n (members es)) (d : ℕ → 
     where
       go : Dec (0 < n) → turn (suc k) 0 ≡ 0
       go (yes b) = unfold start-from in turn-next k 0 b
-      go (no b) = unfold start-turns in tabulate-past (start-from n es d (start-turns n es d k)) n 0 0 (omega arith)
+      go (no b) = unfold start-turns in tabulate-past (start-from n least es d (start-turns n least es d k)) n 0 0 (omega arith)
 
-  pub start-times-source : cell (start-times n es d) 0 ≡ 0
+  pub start-times-source : cell (start-times n least es d) 0 ≡ 0
   unfolding start-times
   start-times-source = turn-source n
 
@@ -133,7 +133,7 @@ module _ {n : ℕ} {es : List Edge} (shape : Shape n (members es)) (d : ℕ → 
         (behind-more (After (Forward (members es))) (λ x y z. after-trans) [] v a (λ z i. absurd (List·Memᴰ·not-nil i)) w)
 
     -- The rule of document 01: the largest term over the anchor set.
-    pub start-times-rule : (v : ℕ) → v < n → v ≢ 0 → cell (start-times n es d) v ≡ largest (λ a. in-anchor-set n es a v) (λ a. cell (start-times n es d) a + d a + offset n es a v) n
+    pub start-times-rule : (v : ℕ) → v < n → v ≢ 0 → cell (start-times n least es d) v ≡ largest (λ a. in-anchor-set n es a v) (λ a. cell (start-times n least es d) a + d a + offset n least es a v) n
     unfolding start-times
     start-times-rule zero b z = absurd (z refl)
     start-times-rule (suc u) b z = go n refl
@@ -153,39 +153,39 @@ module _ {n : ℕ} {es : List Edge} (shape : Shape n (members es)) (d : ℕ → 
 -- The start times are the relative schedule: the largest term bounds the terms and is one of them.
 module _ {n : ℕ} {es : List Edge} (well : Well n (members es)) (posed : WellPosed (members es)) (d : ℕ → ℕ) (no-wait : d 0 ≡ 0) where
   abbrev S : ℕ → ℕ
-  S = cell (start-times n es d)
+  S = cell (start-times n no-leasts es d)
 
   abbrev value : ℕ → ℕ → ℕ
-  value v a = S a + d a + offset n es a v
+  value v a = S a + d a + offset n no-leasts es a v
 
   -- The source's offset for itself is 0: a closed walk is not above 0.
-  source-offset : offset n es 0 0 ≡ 0
+  source-offset : offset n no-leasts es 0 0 ≡ 0
   source-offset = let O = offset-found well posed 0 0 (well .some) (is-source refl) in go O (O .span)
     where
-      go : (O : Offset (UsableFrom (members es) 0) 0 0 (offset n es 0 0)) → Span (UsableFrom (members es) 0) 0 0 (O .p) (O .q) → offset n es 0 0 ≡ 0
+      go : (O : Offset no-leasts (UsableFrom (members es) 0) 0 0 (offset n no-leasts es 0 0)) → Span (UsableFrom (members es) 0) 0 0 (O .p) (O .q) → offset n no-leasts es 0 0 ≡ 0
       go O (source h w) = omega (arith, well .never .closed (walk-mono (usable-sub (members es) 0) w), O .attained)
       go O (after w) = absurd (w .not-source refl)
 
   rule : (v : ℕ) → v < n → v ≢ 0 → S v ≡ largest (λ a. in-anchor-set n es a v) (value v) n
-  rule = start-times-rule (well .shape) d (well-acyclic well)
+  rule = start-times-rule no-leasts (well .shape) d (well-acyclic well)
 
   at-source : S 0 ≡ 0
-  at-source = start-times-source (well .shape) d
+  at-source = start-times-source no-leasts (well .shape) d
 
   above-by : (a v : ℕ) → v < n → InAnchorSet (members es) a v → (v ≡ 0) ⊎ (v ≢ 0) → value v a ≤ S v
   above-by a v b (is-source h) (inl e) =
-      omega (arith, ap S h, ap S e, at-source, ap d h, no-wait, ap (λ (x : ℕ). offset n es x v) h, ap (λ (x : ℕ). offset n es 0 x) e, source-offset)
+      omega (arith, ap S h, ap S e, at-source, ap d h, no-wait, ap (λ (x : ℕ). offset n no-leasts es x v) h, ap (λ (x : ℕ). offset n no-leasts es 0 x) e, source-offset)
   above-by a v b (chain w) (inl e) =
       absurd (source-first (well .rooted) (well-acyclic well) (after-start-below (well .shape) (chain-after w)) (subst (λ (x : ℕ). After (Forward (members es)) a x) e w))
   above-by a v b i (inr z) =
       omega (arith, rule v b z, largest-above (λ x. in-anchor-set n es x v) (value v) n a (member-below (well .shape) b i) (in-anchor-set-iff (well .shape) a v .1 i))
 
-  attained-by : (v : ℕ) → v < n → (v ≡ 0) ⊎ (v ≢ 0) → Attained (members es) d S (offset n es) v
+  attained-by : (v : ℕ) → v < n → (v ≡ 0) ⊎ (v ≢ 0) → Attained (members es) d S (offset n no-leasts es) v
   attained-by v b (inl e) =
-      record { anchor = 0; inside = is-source refl; equals = omega (arith, ap S e, at-source, no-wait, ap (λ (x : ℕ). offset n es 0 x) e, source-offset) }
+      record { anchor = 0; inside = is-source refl; equals = omega (arith, ap S e, at-source, no-wait, ap (λ (x : ℕ). offset n no-leasts es 0 x) e, source-offset) }
   attained-by v b (inr z) = go (largest-attained (λ x. in-anchor-set n es x v) (value v) n)
     where
-      go : (largest (λ x. in-anchor-set n es x v) (value v) n ≡ 0) ⊎ ((a : ℕ) × (a < n) × (in-anchor-set n es a v ≡ true) × (largest (λ x. in-anchor-set n es x v) (value v) n ≡ value v a)) → Attained (members es) d S (offset n es) v
+      go : (largest (λ x. in-anchor-set n es x v) (value v) n ≡ 0) ⊎ ((a : ℕ) × (a < n) × (in-anchor-set n es a v ≡ true) × (largest (λ x. in-anchor-set n es x v) (value v) n ≡ value v a)) → Attained (members es) d S (offset n no-leasts es) v
       go (inl e) = record {
         anchor = 0;
         inside = is-source refl;
@@ -193,7 +193,7 @@ module _ {n : ℕ} {es : List Edge} (well : Well n (members es)) (posed : WellPo
       }
       go (inr r) = record { anchor = r .0; inside = in-anchor-set-iff (well .shape) (r .0) v .0 (r .2); equals = omega (arith, rule v b z, r .3) }
 
-  pub start-times-relative : Relative n (members es) d (cell (start-times n es d)) (offset n es)
+  pub start-times-relative : Relative n (members es) d (cell (start-times n no-leasts es d)) (offset n no-leasts es)
   start-times-relative =
       record { starts = at-source; no-wait = no-wait; offsets = offset-found well posed; above = λ a v b i. above-by a v b i (same-or-not v 0); attained = λ v b. attained-by v b (same-or-not v 0) }
 

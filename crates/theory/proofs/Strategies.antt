@@ -12,11 +12,11 @@ use Rattle.definitions.specs.Anchors.{InAnchorSet, WellPosed, chain, is-source}
 use Rattle.definitions.specs.Links.{After, Edge, Forward, Graph, UsableFrom, Walk, step, stop}
 use Rattle.definitions.specs.Plan.{Span, after, source}
 use Rattle.laws.proofs.Bools.{bool-cases, both-ways, cond-false, cond-true, same-or-not}
-use Rattle.theory.specs.Graphs.{Acyclic, ForwardAcyclic, KeepsEdge, NonPositive, Relative, Schedule, Serializable, Shape, WaitEdge, Waited, sole-delay}
+use Rattle.theory.specs.Graphs.{Acyclic, ForwardAcyclic, KeepsEdge, Leasts, NonPositive, Relative, Schedule, Serializable, Shape, WaitEdge, Waited, sole-delay}
 use Rattle.theory.specs.Strategies.{Assigned, Ended, Strategy, Unbounded}
 use Rattle.theory.proofs.AnchorOrder.{anchor-induct}
-use Rattle.theory.proofs.RelativeSchedules.{relative-keeps}
-use Rattle.theory.proofs.Serialization.{member-bound, wait-after, waited-each, waited-forward-acyclic, waited-shape}
+use Rattle.theory.proofs.RelativeSchedules.{chain-offset, relative-keeps}
+use Rattle.theory.proofs.Serialization.{member-bound, wait-after, waited-each, waited-forward-acyclic, waited-leasts, waited-shape}
 use Rattle.theory.proofs.Slack.{after-slack, schedule-nonpositive, slack, slack-same}
 use Rattle.theory.proofs.SoleDelays.{sole-delay-other, sole-delay-own}
 use Rattle.theory.proofs.Usables.{carries-usable, member-usable, usable-member, usable-shape, usable-sub}
@@ -45,24 +45,24 @@ after-open {Open = Open} unbounded w =
     let W = w .walk in
     subst Open (W .leaves) (unbounded .counted-open (W .edge) (W .mem .0) (W .counts) (λ z. W .not-source (sym (W .leaves) ∙ z)))
 
-pub unbounded-waited : {Open : ℕ → Type 0} {E E′ : Graph} → Unbounded Open E → Waited E E′ → Unbounded Open E′
-unbounded-waited {Open} unbounded W = record {
+pub unbounded-waited : {least : ℕ → ℕ} {Open : ℕ → Type 0} {E E′ : Graph} → Unbounded Open E → Waited least E E′ → Unbounded Open E′
+unbounded-waited {Open = Open} unbounded W = record {
   not-source = unbounded .not-source;
   counted-open = waited-each W (λ e. e .counted ≡ true → e .from ≢ 0 → Open (e .from)) (unbounded .counted-open) (λ e h c z. after-open unbounded (wait-after (h .wait)));
   late-open = waited-each W (λ e. e .late ≡ true → Open (e .to)) (unbounded .late-open) (λ e h l. absurd (both-ways l (h .timely)));
 }
 
-module _ {n : ℕ} {Open : ℕ → Type 0} {E : Graph} {ρ : (ℕ → ℕ) → ℕ → ℕ} (shape : Shape n E) (unbounded : Unbounded Open E) (R : Strategy n Open E ρ) where
+module _ {n : ℕ} {least : ℕ → ℕ} {Open : ℕ → Type 0} {E : Graph} {ρ : (ℕ → ℕ) → ℕ → ℕ} (shape : Shape n E) (unbounded : Unbounded Open E) (R : Strategy n least Open E ρ) where
   -- Were a to last M, it would not have ended at v's start, if it had not before; nothing that has ended tells the two apart, so v would start at the same tick. But M is more than the walk allows.
-  outlasts : (d : ℕ → ℕ) → Assigned Open d → (a v : ℕ) → v < n → (w : After (UsableFrom E a) a v) → (M : ℕ) → M ≡ suc (ρ d v + w .q + slack d (w .walk .rest)) → ρ d a + d a ≤ ρ d v ⊎ (ρ d v < ρ d a + d a) → ρ d a + d a ≤ ρ d v
+  outlasts : (d : ℕ → ℕ) → Assigned Open d → (a v : ℕ) → v < n → (w : After (UsableFrom E a) a v) → (M : ℕ) → M ≡ suc (ρ d v + w .q + slack d (w .walk .rest)) → ρ d a + least a + d a ≤ ρ d v ⊎ (ρ d v < ρ d a + least a + d a) → ρ d a + least a + d a ≤ ρ d v
   outlasts d L a v b w M big (inl h) = h
   outlasts d L a v b w M big (inr h) = absurd (omega (arith, same, bound, alike, but-at d a M))
     where
       L′ : Assigned Open (but d a M)
       L′ = but-assigned L a M (after-open unbounded w)
 
-      agree : (u : ℕ) → Ended ρ d u (ρ d v) ⊎ Ended ρ (but d a M) u (ρ d v) → (u ≡ a) ⊎ (u ≢ a) → d u ≡ but d a M u
-      agree u (inl e) (inl s) = absurd (omega (arith, e, h, ap (ρ d) s, ap d s))
+      agree : (u : ℕ) → Ended least ρ d u (ρ d v) ⊎ Ended least ρ (but d a M) u (ρ d v) → (u ≡ a) ⊎ (u ≢ a) → d u ≡ but d a M u
+      agree u (inl e) (inl s) = absurd (omega (arith, e, h, ap (ρ d) s, ap least s, ap d s))
       agree u (inr e) (inl s) = absurd (omega (arith, e, ap (but d a M) s, but-at d a M))
       agree u e (inr s) = sym (but-other d a M u s)
 
@@ -76,10 +76,10 @@ module _ {n : ℕ} {Open : ℕ → Type 0} {E : Graph} {ρ : (ℕ → ℕ) → �
       alike = slack-same {d = d} {d′ = but d a M} (λ u h. sym (but-other d a M u h)) (w .walk .rest)
 
   -- So what the end of a reaches starts after that end.
-  strategy-waits : (d : ℕ → ℕ) → Assigned Open d → (a v : ℕ) → v < n → After (UsableFrom E a) a v → ρ d a + d a ≤ ρ d v
-  strategy-waits d L a v b w = outlasts d L a v b w _ refl (go (decLe (ρ d a + d a) (ρ d v)))
+  strategy-waits : (d : ℕ → ℕ) → Assigned Open d → (a v : ℕ) → v < n → After (UsableFrom E a) a v → ρ d a + least a + d a ≤ ρ d v
+  strategy-waits d L a v b w = outlasts d L a v b w _ refl (go (decLe (ρ d a + least a + d a) (ρ d v)))
     where
-      go : Dec (ρ d a + d a ≤ ρ d v) → ρ d a + d a ≤ ρ d v ⊎ (ρ d v < ρ d a + d a)
+      go : Dec (ρ d a + least a + d a ≤ ρ d v) → ρ d a + least a + d a ≤ ρ d v ⊎ (ρ d v < ρ d a + least a + d a)
       go (yes h) = inl h
       go (no h) = inr (omega arith)
 
@@ -87,7 +87,7 @@ module _ {n : ℕ} {Open : ℕ → Type 0} {E : Graph} {ρ : (ℕ → ℕ) → �
   strategy-patient : (d : ℕ → ℕ) → Assigned Open d → (c : ℕ) → c < n → Open c → ρ (but d c 0) c ≤ ρ d c
   strategy-patient d L c b o = go (decLe (ρ (but d c 0) c) (ρ d c))
     where
-      agree : ¬ (ρ (but d c 0) c ≤ ρ d c) → (u : ℕ) → Ended ρ d u (ρ d c) ⊎ Ended ρ (but d c 0) u (ρ d c) → (u ≡ c) ⊎ (u ≢ c) → d u ≡ but d c 0 u
+      agree : ¬ (ρ (but d c 0) c ≤ ρ d c) → (u : ℕ) → Ended least ρ d u (ρ d c) ⊎ Ended least ρ (but d c 0) u (ρ d c) → (u ≡ c) ⊎ (u ≢ c) → d u ≡ but d c 0 u
       agree h u (inl e) (inl s) = omega (arith, e, ap (ρ d) s, ap (but d c 0) s, but-at d c 0)
       agree h u (inr e) (inl s) = absurd (omega (arith, e, h, ap (ρ (but d c 0)) s))
       agree h u e (inr s) = sym (but-other d c 0 u s)
@@ -96,38 +96,38 @@ module _ {n : ℕ} {Open : ℕ → Type 0} {E : Graph} {ρ : (ℕ → ℕ) → �
       go (yes h) = h
       go (no h) = omega (arith, R .blind d (but d c 0) L (but-assigned L c 0 o) (ρ d c) (λ u k e. agree h u e (same-or-not u c)) c b refl)
 
-  module _ {E′ : Graph} (W : Waited E E′) where
+  module _ {E′ : Graph} (W : Waited least E E′) where
     strategy-keeps-waits : (d : ℕ → ℕ) → Assigned Open d → Schedule E′ d (ρ d)
     strategy-keeps-waits d L = record { starts = R .keeps d L .starts; keeps = λ e m. go e m (W .only e m) }
       where
-        go : (e : Edge) → E′ e → E e ⊎ WaitEdge E e → KeepsEdge d (ρ d) e
+        go : (e : Edge) → E′ e → E e ⊎ WaitEdge least E e → KeepsEdge d (ρ d) e
         go e m (inl h) = R .keeps d L .keeps e h
         go e m (inr h) =
             omega (
               arith,
               strategy-waits d L (e .from) (e .to) (waited-shape W shape .to-below e m) (wait-after (h .wait)),
-              h .gainless,
+              h .gains,
               h .lossless,
               cond-true (d (e .from)) 0 (h .counts),
             )
 
     -- 28 has no such rival. With delays of 0 its start times show that no closed walk is above 0; and around a circle over a wait, were its step to last 1, they would rise.
-    strategy-acyclic : Acyclic (Forward E′)
-    strategy-acyclic a w =
+    strategy-acyclic : Leasts least E → Acyclic (Forward E′)
+    strategy-acyclic leasts a w =
         let u = w .walk in
         let o : Open a = subst Open (u .leaves) (unbounded-waited unbounded W .counted-open (u .edge) (u .mem .0) (u .counts) (λ z. u .not-source (sym (u .leaves) ∙ z))) in
         omega (
           arith,
-          member-bound (waited-shape W shape) (strategy-keeps-waits (sole-delay 1 a) (assigned o)) (u .not-source) (chain w),
+          member-bound least (waited-shape W shape) (waited-leasts W leasts) (strategy-keeps-waits (sole-delay 1 a) (assigned o)) (u .not-source) (chain w),
           sole-delay-own 1 a (u .not-source),
         )
       where
         assigned : Open a → Assigned Open (sole-delay 1 a)
         assigned o v h = sole-delay-other 1 a v (λ e. h (subst Open (sym e) o))
 
-    pub strategy-serializable : ForwardAcyclic E → Serializable E′
-    strategy-serializable none =
-        record { acyclic = waited-forward-acyclic W none strategy-acyclic; never = schedule-nonpositive (strategy-keeps-waits (λ v. 0) (λ v h. refl)) }
+    pub strategy-serializable : Leasts least E → ForwardAcyclic E → Serializable E′
+    strategy-serializable leasts none =
+        record { acyclic = waited-forward-acyclic W none (strategy-acyclic leasts); never = schedule-nonpositive (strategy-keeps-waits (λ v. 0) (λ v h. refl)) }
 
 -- S is the relative schedule under all delays.
 abbrev pub RelativeAll : ℕ → Graph → ((ℕ → ℕ) → ℕ → ℕ) → (ℕ → ℕ → ℕ) → Type 0
@@ -157,13 +157,13 @@ module _ {n : ℕ} {E : Graph} {S : (ℕ → ℕ) → ℕ → ℕ} {off : ℕ �
     abbrev zero-at : {d : ℕ → ℕ} → Assigned Open d → d 0 ≡ 0
     zero-at L = L 0 (unbounded .not-source)
 
-    -- Our starts are such a rival: what they turn on has finished by then.
-    pub ours-strategy : NonPositive E → Strategy n Open E S
-    ours-strategy never = record { keeps = λ d L. relative-keeps shape posed never (rel d (zero-at L)); blind = blind }
+    -- Our starts are such a rival: what they turn on has finished by then, as an offset is no less than the least of its anchor.
+    pub ours-strategy : {least : ℕ → ℕ} → Leasts least E → NonPositive E → Strategy n least Open E S
+    ours-strategy {least} leasts never = record { keeps = λ d L. relative-keeps shape posed never (rel d (zero-at L)); blind = blind }
       where
-        blind : (d d′ : ℕ → ℕ) → Assigned Open d → Assigned Open d′ → (t : ℕ) → ((v : ℕ) → v < n → Ended S d v t ⊎ Ended S d′ v t → d v ≡ d′ v) → (v : ℕ) → v < n → S d v ≡ t → S d′ v ≡ t
+        blind : (d d′ : ℕ → ℕ) → Assigned Open d → Assigned Open d′ → (t : ℕ) → ((v : ℕ) → v < n → Ended least S d v t ⊎ Ended least S d′ v t → d v ≡ d′ v) → (v : ℕ) → v < n → S d v ≡ t → S d′ v ≡ t
         blind d d′ L L′ t h v b q =
-            let before : (a : ℕ) → After (Forward E) a v → d a ≡ d′ a = λ a w. h a (after-start-below shape (chain-after w)) (inl (omega (arith, q, rel d (zero-at L) .above a v b (chain w)))) in
+            let before : (a : ℕ) → After (Forward E) a v → d a ≡ d′ a = λ a w. h a (after-start-below shape (chain-after w)) (inl (omega (arith, q, rel d (zero-at L) .above a v b (chain w), chain-offset least shape leasts w (rel d (zero-at L) .offsets a v b (chain w))))) in
             sym (starts-same d d′ (zero-at L) (zero-at L′) v b before) ∙ q
 
     -- And none that keeps the waits starts v before us. Induction along anchors and then along the walk of the offset, for all delays at once: over a late return into c, take c to last nothing. That moves
@@ -244,6 +244,6 @@ abbrev pub Earliest : ℕ → (ℕ → Type 0) → ((ℕ → ℕ) → ℕ → �
 Earliest n Open S ρ = (v : ℕ) → v < n → (d : ℕ → ℕ) → Assigned Open d → S d v ≤ ρ d v
 
 -- All together: a rival on the graph as sent, our starts on the graph with its waits.
-pub strategy-earliest : {n : ℕ} {Open : ℕ → Type 0} {E E′ : Graph} {S ρ : (ℕ → ℕ) → ℕ → ℕ} {off : ℕ → ℕ → ℕ} → Shape n E → Unbounded Open E → Waited E E′ → Acyclic (Forward E′) → WellPosed E′ → RelativeAll n E′ S off → Strategy n Open E ρ → Earliest n Open S ρ
+pub strategy-earliest : {n : ℕ} {least : ℕ → ℕ} {Open : ℕ → Type 0} {E E′ : Graph} {S ρ : (ℕ → ℕ) → ℕ → ℕ} {off : ℕ → ℕ → ℕ} → Shape n E → Unbounded Open E → Waited least E E′ → Acyclic (Forward E′) → WellPosed E′ → RelativeAll n E′ S off → Strategy n least Open E ρ → Earliest n Open S ρ
 strategy-earliest shape unbounded W acyclic posed rel R =
     earliest-by (waited-shape W shape) acyclic rel (unbounded-waited unbounded W) posed (strategy-keeps-waits shape unbounded R W) (strategy-patient shape unbounded R)

@@ -95,21 +95,21 @@ module _ {n : ℕ} {es : List Edge} (shape : Shape n (members es)) where
   listed-wait {w} m = waits-for-iff shape (w .anchor) (w .target) .0 (wait-list-only n es m .2)
 
   -- The sheet with its waits in.
-  pub serialized-waited : Waited (members es) (members (serialized n es))
+  pub serialized-waited : {least : ℕ → ℕ} → Waited least (members es) (members (serialized n least es))
   unfolding serialized
-  serialized-waited = record { keeps-all = λ e m. Memᴰ·append-left (map wait-edge (wait-list n es)) m; adds = adds; only = λ e m. only e (List·Memᴰ·append-cases es m) }
+  serialized-waited {least} = record { keeps-all = λ e m. Memᴰ·append-left (map (wait-edge least) (wait-list n es)) m; adds = adds; only = λ e m. only e (List·Memᴰ·append-cases es m) }
     where
-      is-wait-edge : (e : Edge) → WaitEdge (members es) e → e ≡ wait-edge (wait-pair (e .from) (e .to))
-      is-wait-edge e h = λ i. record { from = e .from; to = e .to; gain = h .gainless i; loss = h .lossless i; counted = h .counts i; back = h .forward i; late = h .timely i }
+      is-wait-edge : (e : Edge) → WaitEdge least (members es) e → e ≡ wait-edge least (wait-pair (e .from) (e .to))
+      is-wait-edge e h = λ i. record { from = e .from; to = e .to; gain = h .gains i; loss = h .lossless i; counted = h .counts i; back = h .forward i; late = h .timely i }
 
-      adds : (e : Edge) → WaitEdge (members es) e → List·Memᴰ e (es ++ map wait-edge (wait-list n es))
-      adds e h = Memᴰ·append-right es (Memᴰ·cast (is-wait-edge e h) (Memᴰ·map wait-edge (wait-listed (h .wait))))
+      adds : (e : Edge) → WaitEdge least (members es) e → List·Memᴰ e (es ++ map (wait-edge least) (wait-list n es))
+      adds e h = Memᴰ·append-right es (Memᴰ·cast (is-wait-edge e h) (Memᴰ·map (wait-edge least) (wait-listed (h .wait))))
 
-      only : (e : Edge) → List·Memᴰ e es ⊎ List·Memᴰ e (map wait-edge (wait-list n es)) → List·Memᴰ e es ⊎ WaitEdge (members es) e
+      only : (e : Edge) → List·Memᴰ e es ⊎ List·Memᴰ e (map (wait-edge least) (wait-list n es)) → List·Memᴰ e es ⊎ WaitEdge least (members es) e
       only e (inl m) = inl m
       only e (inr m) =
-          let r = Memᴰ·of-map wait-edge (wait-list n es) m in
-          inr (subst (WaitEdge (members es)) (r .2) (record { counts = refl; forward = refl; gainless = refl; lossless = refl; timely = refl; wait = listed-wait (r .1) }))
+          let r = Memᴰ·of-map (wait-edge least) (wait-list n es) m in
+          inr (subst (WaitEdge least (members es)) (r .2) (record { counts = refl; forward = refl; gains = refl; lossless = refl; timely = refl; wait = listed-wait (r .1) }))
 
   -- No waits are needed exactly where the graph is well-posed.
   empty-none : (l : List WaitPair) → ltb 0 (length l) ≡ false → (w : WaitPair) → ¬ List·Memᴰ w l
@@ -144,16 +144,16 @@ module _ {n : ℕ} {es : List Edge} (shape : Shape n (members es)) where
               (record { edge = e; mem = (m, l); returns = b; enters = refl; reaches = chain-usable shape c; absent = i })))
 
   -- Then the waits change nothing.
-  pub serialized-none : needs-waits n es ≡ false → serialized n es ≡ es
+  pub serialized-none : (least : ℕ → ℕ) → needs-waits n es ≡ false → serialized n least es ≡ es
   unfolding serialized needs-waits wait-count
-  serialized-none h = ap (λ (l : List WaitPair). es ++ map wait-edge l) (none-empty (wait-list n es) (empty-none (wait-list n es) h)) ∙ append-nil es
+  serialized-none least h = ap (λ (l : List WaitPair). es ++ map (wait-edge least) l) (none-empty (wait-list n es) (empty-none (wait-list n es) h)) ∙ append-nil es
 
   -- Where its forward edges close no circle, the graph with its waits is well-posed.
-  pub serialized-well-posed : Acyclic (Forward (members (serialized n es))) → WellPosed (members (serialized n es))
-  serialized-well-posed = waited-well-posed shape serialized-waited (dec-member shape)
+  pub serialized-well-posed : (least : ℕ → ℕ) → Acyclic (Forward (members (serialized n least es))) → WellPosed (members (serialized n least es))
+  serialized-well-posed least = waited-well-posed shape serialized-waited (dec-member shape)
 
-  pub serialized-shape : Shape n (members (serialized n es))
-  serialized-shape = waited-shape serialized-waited shape
+  pub serialized-shape : (least : ℕ → ℕ) → Shape n (members (serialized n least es))
+  serialized-shape least = waited-shape serialized-waited shape
 
 -- The maps: bit a of map i.
 pub wait-map-bit : (n : ℕ) (es : List Edge) (i a : ℕ) → test-bit (wait-map n es i) a ≡ (ltb a n && (ltb i n && waits-for n es a i))

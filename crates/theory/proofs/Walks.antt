@@ -5,7 +5,7 @@ use mathlib.Core.Logic.{_≢_, _⊎_, inl, inr}
 use Prim.Native.Nat.{_+_, _<_, _≤_, suc, ℕ}
 use native.Mathlib.Omega.{arith}
 use Rattle.definitions.specs.Anchors.{InAnchorSet, chain, is-source}
-use Rattle.definitions.specs.Links.{After, AfterWalk, Edge, Forward, Graph, Joined, Walk, _⊑_, step, stop}
+use Rattle.definitions.specs.Links.{After, AfterWalk, Edge, Forward, Graph, Joined, Walk, _⊑_, step, stop, no-leasts}
 use Rattle.definitions.specs.Plan.{Offset, Span, after, source}
 use Rattle.laws.proofs.Bools.{bool-cases, both-ways, cond-false, cond-true, same-or-not}
 use Rattle.theory.specs.Graphs.{Acyclic, Carries, Schedule, Shape, Timely}
@@ -219,5 +219,5 @@ span-mono : {E F : Graph} {a v p q : ℕ} → E ⊑ F → Span E a v p q → Spa
 span-mono i (source h w) = source h (walk-mono i w)
 span-mono i (after w) = after (after-mono i w)
 
-pub offset-same : {E F : Graph} {a v o : ℕ} → E ⊑ F → F ⊑ E → Offset E a v o → Offset F a v o
+pub offset-same : {least : ℕ → ℕ} {E F : Graph} {a v o : ℕ} → E ⊑ F → F ⊑ E → Offset least E a v o → Offset least F a v o
 offset-same i j O = record { p = O .p; q = O .q; span = span-mono i (O .span); attained = O .attained; bound = λ p q s. O .bound p q (span-mono j s) }

@@ -4,13 +4,13 @@ use mathlib.Core.Bool.{cond, false, true}
 use mathlib.Core.Logic.{_≢_, _⊎_}
 use Prim.Native.Nat.{_+_, _<_, _≤_, suc, zero, ℕ}
 use lib.Dec.{eqb}
-use Rattle.definitions.specs.Anchors.{InAnchorSet}
-use Rattle.definitions.specs.Limits.{most-gain}
-use Rattle.definitions.specs.Links.{After, Edge, Forward, Graph, Joined, UsableFrom, Walk, _⊑_}
+use Rattle.definitions.specs.Anchors.{InAnchorSet, WellPosed}
+use Rattle.definitions.specs.Limits.{most-gain, most-ticks}
+use Rattle.definitions.specs.Links.{After, Edge, Forward, Graph, Joined, UsableFrom, Walk, _⊑_, no-leasts}
 use Rattle.definitions.specs.Plan.{Offset}
 use Rattle.definitions.specs.Waits.{Wait}
 
--- Start times t keep an edge under the delays d. This is `Keeps` of a link, read off its edge.
+-- Start times t keep an edge under the delays d: those of the theory are what steps last past their leasts, which the edges hold (request L6). This is `Keeps` of a link, read off its edge.
 abbrev pub KeepsEdge : (ℕ → ℕ) → (ℕ → ℕ) → Edge → Type 0
 KeepsEdge d t e = t (e .from) + e .gain + cond (e .counted) (d (e .from)) 0 ≤ t (e .to) + e .loss + cond (e .late) (d (e .to)) 0
 
@@ -70,19 +70,30 @@ pub record NonPositive (E : Graph) : Type 0 where
 abbrev pub Gains : Graph → ℕ → Type 0
 Gains E g = (e : Edge) → E e → e .gain ≤ g
 
--- No edge that a walk from step 0, or from the end of an open step, begins with gains more than g.
-abbrev pub FirstGains : Graph → ℕ → Type 0
-FirstGains E g = (e : Edge) → E e → (e .from ≡ 0) ⊎ (e .counted ≡ true) → e .gain ≤ g
+-- A counted edge gains at least the least of the step that it leaves.
+abbrev pub Leasts : (ℕ → ℕ) → Graph → Type 0
+Leasts least E = (e : Edge) → E e → e .counted ≡ true → least (e .from) ≤ e .gain
+
+-- No edge that a walk from step 0, or from the end of an open step, begins with gains more than g, the least not counted.
+abbrev pub FirstGains : (ℕ → ℕ) → Graph → ℕ → Type 0
+FirstGains least E g = (e : Edge) → E e → (e .from ≡ 0) ⊎ (e .counted ≡ true) → e .gain ≤ least (e .from) + g
+
+-- The leasts of a sheet with the edges E: step 0 has none, and each is a number of two bytes.
+pub record SheetLeasts (least : ℕ → ℕ) (E : Graph) : Type 0 where
+  pub source : least 0 ≡ 0
+  pub small : (a : ℕ) → least a ≤ most-ticks
+  pub leasts : Leasts least E
 
 -- No edge loses more than l.
 abbrev pub Losses : Graph → ℕ → Type 0
 Losses E l = (e : Edge) → E e → e .loss ≤ l
 
--- What the kernels ask of the graph of a sheet of n steps.
-pub record SheetGraph (n : ℕ) (E : Graph) : Type 0 where
+-- What the kernels ask of the graph of a sheet of n steps and its leasts.
+pub record SheetGraph (n : ℕ) (least : ℕ → ℕ) (E : Graph) : Type 0 where
   pub shape : Shape n E
   pub entered : Entered n E
   pub gains : Gains E most-gain
+  pub leasts : SheetLeasts least E
 
 -- A graph that can be scheduled for every list of delays: not refused 10 or 11.
 pub record Well (n : ℕ) (E : Graph) : Type 0 where
@@ -92,25 +103,32 @@ pub record Well (n : ℕ) (E : Graph) : Type 0 where
   pub consistent : Consistent E
   pub never : NonPositive E
 
+-- What a plan with leasts asks of its graph: it can be scheduled and is well-posed, its counted edges gain the leasts of their steps, and step 0 has none.
+pub record Lasting (n : ℕ) (least : ℕ → ℕ) (E : Graph) : Type 0 where
+  pub well : Well n E
+  pub posed : WellPosed E
+  pub leasts : Leasts least E
+  pub source : least 0 ≡ 0
+
 -- The waits can be put in, and E′ is the graph with them: not refusal 28.
 pub record Serializable (E′ : Graph) : Type 0 where
   pub acyclic : ForwardAcyclic E′
   pub never : NonPositive E′
 
--- The serialization edge of a wait.
-pub record WaitEdge (E : Graph) (e : Edge) : Type 0 where
+-- The serialization edge of a wait: it gains the least of its anchor.
+pub record WaitEdge (least : ℕ → ℕ) (E : Graph) (e : Edge) : Type 0 where
   pub counts : e .counted ≡ true
   pub forward : e .back ≡ false
-  pub gainless : e .gain ≡ 0
+  pub gains : e .gain ≡ least (e .from)
   pub lossless : e .loss ≡ 0
   pub timely : e .late ≡ false
   pub wait : Wait E (e .from) (e .to)
 
 -- E′ has the edges of E and a serialization edge for each wait of E, and no others.
-pub record Waited (E E′ : Graph) : Type 0 where
+pub record Waited (least : ℕ → ℕ) (E E′ : Graph) : Type 0 where
   pub keeps-all : E ⊑ E′
-  pub adds : (e : Edge) → WaitEdge E e → E′ e
-  pub only : (e : Edge) → E′ e → E e ⊎ WaitEdge E e
+  pub adds : (e : Edge) → WaitEdge least E e → E′ e
+  pub only : (e : Edge) → E′ e → E e ⊎ WaitEdge least E e
 
 -- S v is one of the terms of v's anchor set.
 pub record Attained (E : Graph) (d S : ℕ → ℕ) (off : ℕ → ℕ → ℕ) (v : ℕ) : Type 0 where
@@ -123,7 +141,7 @@ pub record Attained (E : Graph) (d S : ℕ → ℕ) (off : ℕ → ℕ → ℕ) 
 pub record Relative (n : ℕ) (E : Graph) (d S : ℕ → ℕ) (off : ℕ → ℕ → ℕ) : Type 0 where
   pub starts : S 0 ≡ 0
   pub no-wait : d 0 ≡ 0
-  pub offsets : (a v : ℕ) → v < n → InAnchorSet E a v → Offset (UsableFrom E a) a v (off a v)
+  pub offsets : (a v : ℕ) → v < n → InAnchorSet E a v → Offset no-leasts (UsableFrom E a) a v (off a v)
   pub above : (a v : ℕ) → v < n → InAnchorSet E a v → S a + d a + off a v ≤ S v
   pub attained : (v : ℕ) → v < n → Attained E d S off v
 

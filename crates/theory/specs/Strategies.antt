@@ -16,11 +16,11 @@ pub record Unbounded (Open : ℕ → Type 0) (E : Graph) : Type 0 where
   pub counted-open : (e : Edge) → E e → e .counted ≡ true → e .from ≢ 0 → Open (e .from)
   pub late-open : (e : Edge) → E e → e .late ≡ true → Open (e .to)
 
--- Step v has finished by tick t.
-abbrev pub Ended : ((ℕ → ℕ) → ℕ → ℕ) → (ℕ → ℕ) → ℕ → ℕ → Type 0
-Ended ρ d v t = ρ d v + d v ≤ t
+-- Step v has finished by tick t: it lasts its least and its delay.
+abbrev pub Ended : (ℕ → ℕ) → ((ℕ → ℕ) → ℕ → ℕ) → (ℕ → ℕ) → ℕ → ℕ → Type 0
+Ended least ρ d v t = ρ d v + least v + d v ≤ t
 
 -- It keeps every edge for all delays; and where two lists of delays are the same at every step that has finished by a tick under either of them, it starts the same steps then.
-pub record Strategy (n : ℕ) (Open : ℕ → Type 0) (E : Graph) (ρ : (ℕ → ℕ) → ℕ → ℕ) : Type 0 where
+pub record Strategy (n : ℕ) (least : ℕ → ℕ) (Open : ℕ → Type 0) (E : Graph) (ρ : (ℕ → ℕ) → ℕ → ℕ) : Type 0 where
   pub keeps : (d : ℕ → ℕ) → Assigned Open d → Schedule E d (ρ d)
-  pub blind : (d d′ : ℕ → ℕ) → Assigned Open d → Assigned Open d′ → (t : ℕ) → ((v : ℕ) → v < n → Ended ρ d v t ⊎ Ended ρ d′ v t → d v ≡ d′ v) → (v : ℕ) → v < n → ρ d v ≡ t → ρ d′ v ≡ t
+  pub blind : (d d′ : ℕ → ℕ) → Assigned Open d → Assigned Open d′ → (t : ℕ) → ((v : ℕ) → v < n → Ended least ρ d v t ⊎ Ended least ρ d′ v t → d v ≡ d′ v) → (v : ℕ) → v < n → ρ d v ≡ t → ρ d′ v ≡ t

@@ -46,14 +46,14 @@ pub record HandedAll (E : ℕ → Graph) (number : List ℕ) (u : ℕ) (x : ℕ 
   pub square : Square (length d) d′
   pub each : (width : ℕ) (anchor : ℕ → ℕ) → Numbers width number anchor → (k : ℕ) → k < width → Handed (E (anchor k)) u (x k) (column d k) (column d′ k) (test-bit m) (test-bit m′)
 
--- The graph of one edge, and that of the waits for u, bit i of a map.
+-- The graph of one edge, and that of the waits for u, bit i of a map: each gains the least of u.
 abbrev pub Only : Edge → Graph
 Only e x = x ≡ e
 
-pub record WaitsFor (u m : ℕ) (e : Edge) : Type 0 where
+pub record WaitsFor (least u m : ℕ) (e : Edge) : Type 0 where
   pub target : ℕ
   pub waits : test-bit m target ≡ true
-  pub same : e ≡ wait-edge (record { anchor = u; target = target })
+  pub same : e ≡ wait-edge (λ a. least) (record { anchor = u; target = target })
 
 -- Steps without a mark have handed on all that they have.
 abbrev pub Covered : Graph → (ℕ → ℕ) → (ℕ → Bool) → Type 0

@@ -9,11 +9,11 @@ use native.Mathlib.Decide.{decLt}
 use lib.Dec.{ltb}
 use lib.ListN.{length, getD, List·getD-eq-default}
 use borrow.Author.Tests.{ltb-true, lt-ltb}
-use Rattle.definitions.specs.Anchors.{WellPosed}
+use Rattle.definitions.specs.Anchors.{InAnchorSet, WellPosed, chain, is-source}
 use Rattle.definitions.specs.Basics.{test-bit}
 use Rattle.definitions.specs.Limits.{most-gain, most-steps}
 use Rattle.definitions.specs.Links.{Edge, Graph, LateInto, _⊑_, members, usable}
-use Rattle.definitions.specs.Plan.{first-row, offset-row}
+use Rattle.definitions.specs.Plan.{first-row, offset, offset-row}
 use Rattle.definitions.specs.Rounds.{after-row, cell, source-row}
 use Rattle.definitions.specs.Waits.{wait-edge}
 use Rattle.data_edges.specs.Serial.{Within, wait-edges}
@@ -28,9 +28,11 @@ use Rattle.walk_edge.specs.Columns.{Sought, WaitsFor, column}
 use Rattle.walk_cells.proofs.Tables.{square-then}
 use Rattle.walk_seed.specs.Seeds.{Prepared}
 use Rattle.walk_sweep.specs.Graphs.{Both, SweptBy}
-use Rattle.theory.specs.Graphs.{Gains, Well}
+use Rattle.theory.specs.Graphs.{Gains, Leasts, SheetLeasts, Well}
 use Rattle.theory.specs.Sweeps.{Leads, Seeds, Sweeps, more, none}
 use Rattle.theory.proofs.FirstRows.{seeds-length, zeros-length}
+use Rattle.theory.proofs.Offsets.{offset-found, offset-row-iff}
+use Rattle.theory.proofs.RelativeSchedules.{chain-offset}
 use Rattle.theory.proofs.Relaxation.{raise-length, rounds-length}
 use Rattle.theory.proofs.Sweeping.{offsets-seeded, offsets-settle, offsets-small, offsets-swept, sweeps-rest}
 use Rattle.theory.proofs.Usables.{forward-usable, members-usable, usable-members}
@@ -50,13 +52,13 @@ offsets-past n es a v b =
     List·getD-eq-default (offset-row n es a) 0 short
 
 -- The loop over the sweeps.
-module _ (es waiting number : List ℕ) (width n : ℕ) (d₀ : List (List ℕ)) where
+module _ (es : List ℕ) (least : ℕ → ℕ) (waiting number : List ℕ) (width n : ℕ) (d₀ : List (List ℕ)) where
   -- Every step that has edges has a mark.
-  pub settling-start : (m : ℕ) → Square (length d₀) d₀ → ((v : ℕ) → test-bit m v ≡ ltb v n) → SettlingBy es waiting number width n 0 d₀ d₀ m
+  pub settling-start : (m : ℕ) → Square (length d₀) d₀ → ((v : ℕ) → test-bit m v ≡ ltb v n) → SettlingBy es least waiting number width n 0 d₀ d₀ m
   settling-start m S all =
       record { square = S; each = λ anchor N c b. record { under = λ t U. U; covers = λ t U i e x q. absurd (both-ways (all (e .from) ∙ lt-ltb (e .from) n (i e x)) q); sweeps = λ t U i. none {s = column d₀ c} refl (λ v. omega arith) } }
 
-  pub settling-more : {k c : ℕ} {d d′ : List (List ℕ)} {m m′ : ℕ} → SettlingBy es waiting number width n k d₀ d m → SweptBy es waiting number width (λ v. v < n) c d d′ m m′ → SettlingBy es waiting number width n (k + 1) d₀ d′ m′
+  pub settling-more : {k c : ℕ} {d d′ : List (List ℕ)} {m m′ : ℕ} → SettlingBy es least waiting number width n k d₀ d m → SweptBy es least waiting number width (λ v. v < n) c d d′ m m′ → SettlingBy es least waiting number width n (k + 1) d₀ d′ m′
   settling-more {k} {d} {d′} P Q =
       record {
         square = square-then (P .square) (Q .square);
@@ -67,18 +69,18 @@ module _ (es waiting number : List ℕ) (width n : ℕ) (d₀ : List (List ℕ))
         };
       }
 
-  pub settling-opened : {d : List (List ℕ)} {m : ℕ} → Square (length d₀) d₀ → Opened es waiting number width n d₀ d m → SettlingBy es waiting number width n 1 d₀ d m
+  pub settling-opened : {d : List (List ℕ)} {m : ℕ} → Square (length d₀) d₀ → Opened es least waiting number width n d₀ d m → SettlingBy es least waiting number width n 1 d₀ d m
   settling-opened S O = settling-more (settling-start (O .marks) S (O .all)) (O .swept)
 
   -- Without marks every edge has handed on, and further sweeps would change nothing.
-  pub settling-rest : {k m : ℕ} {d : List (List ℕ)} → k ≤ n → m ≡ 0 → SettlingBy es waiting number width n k d₀ d m → SettledBy es waiting number width n d₀ d
+  pub settling-rest : {k m : ℕ} {d : List (List ℕ)} → k ≤ n → m ≡ 0 → SettlingBy es least waiting number width n k d₀ d m → SettledBy es least waiting number width n d₀ d
   settling-rest {k} {m} {d} few still P =
       record {
         square = P .square;
         each = λ anchor N c b. let p = P .each anchor N c b in record {
           under = p .under;
           sweeps = λ t U i.
-              subst (λ (j : ℕ). Sweeps (Both es waiting (anchor c)) (column d₀ c) j (column d c)) padded
+              subst (λ (j : ℕ). Sweeps (Both es least waiting (anchor c)) (column d₀ c) j (column d c)) padded
               (sweeps-rest (λ e x. p .covers t U i e x (ap (λ (y : ℕ). test-bit y (e .from)) still ∙ test-zero (e .from))) (n - k) k (p .sweeps t U i));
         };
       }
@@ -86,53 +88,53 @@ module _ (es waiting number : List ℕ) (width n : ℕ) (d₀ : List (List ℕ))
       padded : n - k + k ≡ n
       padded = omega arith
 
-  pub settling-end : {k m : ℕ} {d : List (List ℕ)} → k ≤ n → n ≤ k → SettlingBy es waiting number width n k d₀ d m → SettledBy es waiting number width n d₀ d
+  pub settling-end : {k m : ℕ} {d : List (List ℕ)} → k ≤ n → n ≤ k → SettlingBy es least waiting number width n k d₀ d m → SettledBy es least waiting number width n d₀ d
   settling-end {k} {m} {d} b h P =
       let e : k ≡ n = omega arith in
-      record { square = P .square; each = λ anchor N c l. let p = P .each anchor N c l in record { under = p .under; sweeps = λ t U i. subst (λ (j : ℕ). Sweeps (Both es waiting (anchor c)) (column d₀ c) j (column d c)) e (p .sweeps t U i) } }
+      record { square = P .square; each = λ anchor N c l. let p = P .each anchor N c l in record { under = p .under; sweeps = λ t U i. subst (λ (j : ℕ). Sweeps (Both es least waiting (anchor c)) (column d₀ c) j (column d c)) e (p .sweeps t U i) } }
 
 -- What waits stands below n, where the maps that say so are turned round.
 pub turned-within : (maps waiting : List ℕ) (n : ℕ) → ((v k : ℕ) → row-bit waiting k v ≡ (ltb v n && row-bit maps v k)) → Within n waiting
 turned-within maps waiting n turned k v h = ltb-true v n (and-split (ltb v n) (row-bit maps v k) (sym (turned v k) ∙ h) .0)
 
 -- The edges of the words and of the waits, as one list and as the sweeps go over them: for each anchor those that it may use.
-module _ (es maps waiting : List ℕ) (n : ℕ) (within : Within n maps) (turned : (v k : ℕ) → row-bit waiting k v ≡ (ltb v n && row-bit maps v k)) where
-  both-waits : (e : Edge) → WaitsFor (e .from) (getD waiting (e .from) 0) e → List·Memᴰ e (wait-edges n maps)
+module _ (es : List ℕ) (least : ℕ → ℕ) (maps waiting : List ℕ) (n : ℕ) (within : Within n maps) (turned : (v k : ℕ) → row-bit waiting k v ≡ (ltb v n && row-bit maps v k)) where
+  both-waits : (e : Edge) → WaitsFor (least (e .from)) (e .from) (getD waiting (e .from) 0) e → List·Memᴰ e (wait-edges n least maps)
   both-waits e w =
       let t = and-split (ltb (w .target) n) (row-bit maps (w .target) (e .from)) (sym (turned (w .target) (e .from)) ∙ w .waits) in
-      wait-edges-has n maps e (record { anchor = e .from; target = w .target; anchor-below = within (w .target) (e .from) (t .1); target-below = ltb-true (w .target) n (t .0); stands = t .1; same = w .same })
+      wait-edges-has n least maps e (record { anchor = e .from; target = w .target; anchor-below = within (w .target) (e .from) (t .1); target-below = ltb-true (w .target) n (t .0); stands = t .1; same = w .same })
 
-  both-list : (a : ℕ) → Both es waiting a ⊑ members (usable (graph es ++ wait-edges n maps) a)
-  both-list a e (inl m) = usable-members (graph es ++ wait-edges n maps) a e (Memᴰ·append-left (wait-edges n maps) (m .0), m .1)
+  both-list : (a : ℕ) → Both es least waiting a ⊑ members (usable (graph es ++ wait-edges n least maps) a)
+  both-list a e (inl m) = usable-members (graph es ++ wait-edges n least maps) a e (Memᴰ·append-left (wait-edges n least maps) (m .0), m .1)
   both-list a e (inr w) =
-      usable-members (graph es ++ wait-edges n maps) a e (Memᴰ·append-right (graph es) (both-waits e w), λ l. both-ways (l .0) (ap (λ (x : Edge). x .late) (w .same)))
+      usable-members (graph es ++ wait-edges n least maps) a e (Memᴰ·append-right (graph es) (both-waits e w), λ l. both-ways (l .0) (ap (λ (x : Edge). x .late) (w .same)))
 
-  list-waits : (e : Edge) → List·Memᴰ e (wait-edges n maps) → WaitsFor (e .from) (getD waiting (e .from) 0) e
+  list-waits : (e : Edge) → List·Memᴰ e (wait-edges n least maps) → WaitsFor (least (e .from)) (e .from) (getD waiting (e .from) 0) e
   list-waits e m =
-      let w = wait-edges-only n maps e m in
+      let w = wait-edges-only n least maps e m in
       let o : e .from ≡ w .anchor = ap (λ (x : Edge). x .from) (w .same) in
-      record { target = w .target; waits = ap (λ (x : ℕ). row-bit waiting x (w .target)) o ∙ turned (w .target) (w .anchor) ∙ and-join (lt-ltb (w .target) n (w .target-below)) (w .stands); same = w .same ∙ ap (λ (x : ℕ). wait-edge (record { anchor = x; target = w .target })) (sym o) }
+      record { target = w .target; waits = ap (λ (x : ℕ). row-bit waiting x (w .target)) o ∙ turned (w .target) (w .anchor) ∙ and-join (lt-ltb (w .target) n (w .target-below)) (w .stands); same = w .same ∙ ap (λ (x : ℕ). wait-edge least (record { anchor = x; target = w .target })) (sym o) }
 
-  list-by : (a : ℕ) (e : Edge) → ¬ LateInto e a → List·Memᴰ e (graph es) ⊎ List·Memᴰ e (wait-edges n maps) → Both es waiting a e
+  list-by : (a : ℕ) (e : Edge) → ¬ LateInto e a → List·Memᴰ e (graph es) ⊎ List·Memᴰ e (wait-edges n least maps) → Both es least waiting a e
   list-by a e u (inl m) = inl (m, u)
   list-by a e u (inr m) = inr (list-waits e m)
 
-  list-both : (a : ℕ) → members (usable (graph es ++ wait-edges n maps) a) ⊑ Both es waiting a
+  list-both : (a : ℕ) → members (usable (graph es ++ wait-edges n least maps) a) ⊑ Both es least waiting a
   list-both a e m =
-      let r = members-usable (graph es ++ wait-edges n maps) a e m in
+      let r = members-usable (graph es ++ wait-edges n least maps) a e m in
       list-by a e (r .1) (List·Memᴰ·append-cases (graph es) (r .0))
 
 -- From what the columns begin with, n sweeps end at the offsets: for an anchor whose members in sets are the steps that have offsets.
 module _
-    (es maps waiting sets : List ℕ) (n : ℕ) (few : n ≤ most-steps) (within : Within n maps)
-    (turned : (v k : ℕ) → row-bit waiting k v ≡ (ltb v n && row-bit maps v k)) (well : Well n (members (graph es ++ wait-edges n maps)))
-    (posed : WellPosed (members (graph es ++ wait-edges n maps))) (gains : Gains (members (graph es ++ wait-edges n maps)) most-gain) where
+    (es : List ℕ) (least : ℕ → ℕ) (maps waiting sets : List ℕ) (n : ℕ) (few : n ≤ most-steps) (within : Within n maps)
+    (turned : (v k : ℕ) → row-bit waiting k v ≡ (ltb v n && row-bit maps v k)) (well : Well n (members (graph es ++ wait-edges n least maps)))
+    (posed : WellPosed (members (graph es ++ wait-edges n least maps))) (gains : Gains (members (graph es ++ wait-edges n least maps)) most-gain) (leasts : SheetLeasts least (members (graph es))) where
   abbrev g : List Edge
-  g = graph es ++ wait-edges n maps
+  g = graph es ++ wait-edges n least maps
 
   module _
-      {number : List ℕ} {width rows : ℕ} {d d′ : List (List ℕ)} (begun : Prepared (members (graph es)) sets n width number rows d)
-      (settled : SettledBy es waiting number width n d d′) (a : ℕ) (inside : a < n) (support : Supported n (graph es ++ wait-edges n maps) sets a)
+      {number : List ℕ} {width rows : ℕ} {d d′ : List (List ℕ)} (begun : Prepared least (members (graph es)) sets n width number rows d)
+      (settled : SettledBy es least waiting number width n d d′) (a : ℕ) (inside : a < n) (support : Supported n (graph es ++ wait-edges n least maps) sets a)
       (v₀ : ℕ) (b₀ : v₀ < n) (member : row-bit sets v₀ a ≡ true) where
     abbrev t : ℕ → ℕ
     t = cell (offset-row n g a)
@@ -163,12 +165,28 @@ module _
     abbrev r : ℕ → ℕ
     r = column d k
 
+    -- An offset is no less than the least of its anchor: the edges and the waits gain it, and step 0 has none.
+    waited-leasts : Leasts least (members g)
+    waited-leasts e m c = by (List·Memᴰ·append-cases (graph es) m)
+      where
+        by : List·Memᴰ e (graph es) ⊎ List·Memᴰ e (wait-edges n least maps) → least (e .from) ≤ e .gain
+        by (inl m) = leasts .leasts e m c
+        by (inr m) = let w = wait-edges-only n least maps e m .same in omega (arith, ap (λ (x : Edge). x .gain) w, ap (λ (x : Edge). least (x .from)) w)
+
+    heavy : (v : ℕ) → v < n → 1 ≤ t v → suc (least a) ≤ t v
+    unfolding offset
+    heavy v b h = by (offset-row-iff well posed a v b .0 h)
+      where
+        by : InAnchorSet (members g) a v → suc (least a) ≤ t v
+        by (is-source z) = omega (arith, ap least z, leasts .source)
+        by (chain c) = omega (arith, chain-offset least (well .shape) waited-leasts c (offset-found well posed a v b (chain c)))
+
     -- A counted edge is no return, and so is never late.
     leading : (e : Edge) → List·Memᴰ e g → Leads a e → List·Memᴰ e (usable g a)
     leading e m l = usable-members g a e (m, forward-usable (well .shape) a e m (counted-forward (well .shape) e m (l .counts)))
 
-    low : (e : Edge) → Both es waiting a e → e .from < n
-    low e m = well .shape .from-below e (members-usable g a e (both-list es maps waiting n within turned a e m) .0)
+    low : (e : Edge) → Both es least waiting a e → e .from < n
+    low e m = well .shape .from-below e (members-usable g a e (both-list es least maps waiting n within turned a e m) .0)
 
     small : (v : ℕ) → t v ≤ roof
     small v = by (decLt v n)
@@ -177,41 +195,43 @@ module _
         by (yes b) = omega (arith, offsets-small well posed a inside gains few v b)
         by (no b) = omega (arith, offsets-past n g a v (omega arith))
 
-    live : (v : ℕ) → 1 ≤ t v → 1 ≤ r v
-    live v h = let m = is-member v h in begun .columns k there .live v (m .0) (subst (λ (x : ℕ). row-bit sets v x ≡ true) (sym own) (m .1))
+    begun-live : (v : ℕ) → 1 ≤ t v → suc (least a) ≤ r v
+    begun-live v h =
+        let m = is-member v h in
+        subst (λ (x : ℕ). suc (least x) ≤ r v) own (begun .columns k there .live v (m .0) (subst (λ (x : ℕ). row-bit sets v x ≡ true) (sym own) (m .1)))
 
     leads : (e : Edge) → Leads (begun .anchor k) e → Leads a e
     leads e l = subst (λ (x : ℕ). Leads x e) own l
 
     below : (v : ℕ) → r v ≤ t v
     below =
-        begun .columns k there .sound t (λ e m l. seeds .after e (leading e (Memᴰ·append-left (wait-edges n maps) m) (leads e l)) (leads e l))
-        (λ v b h. has v b (subst (λ (x : ℕ). row-bit sets v x ≡ true) own h))
+        begun .columns k there .sound t (λ e m l. seeds .after e (leading e (Memᴰ·append-left (wait-edges n least maps) m) (leads e l)) (leads e l))
+        (λ v b h. subst (λ (x : ℕ). suc (least x) ≤ t v) (sym own) (heavy v b (has v b (subst (λ (x : ℕ). row-bit sets v x ≡ true) own h))))
 
-    sought : Sought (Both es waiting a) t r
+    sought : Sought (Both es least waiting a) t r
     sought =
-        record { settles = λ e m. offsets-settle well posed a inside e (both-list es maps waiting n within turned a e m); under = record { small = small; below = below; live = live } }
+        record { settles = λ e m. offsets-settle well posed a inside e (both-list es least maps waiting n within turned a e m); under = record { small = small; below = below; live = λ v h. omega (arith, begun-live v h) } }
 
-    -- The seeds: a wait gains nothing, and so it begins a walk of weight 0.
-    after-by : (e : Edge) → Leads a e → 1 ≤ t (e .to) → List·Memᴰ e (graph es) ⊎ List·Memᴰ e (wait-edges n maps) → suc (e .gain - e .loss) ≤ r (e .to)
+    -- The seeds: a wait for a gains the least of a, and so it begins a walk of that weight.
+    after-by : (e : Edge) → Leads a e → 1 ≤ t (e .to) → List·Memᴰ e (graph es) ⊎ List·Memᴰ e (wait-edges n least maps) → suc (e .gain - e .loss) ≤ r (e .to)
     after-by e l h (inl m) =
         let p = is-member (e .to) h in
         begun .columns k there .begun e m (subst (λ (x : ℕ). Leads x e) (sym own) l) (p .0) (subst (λ (x : ℕ). row-bit sets (e .to) x ≡ true) (sym own) (p .1))
     after-by e l h (inr m) =
-        let w = wait-edges-only n maps e m .same in
-        omega (arith, live (e .to) h, ap (λ (x : Edge). x .gain) w)
+        let w = wait-edges-only n least maps e m .same in
+        omega (arith, begun-live (e .to) h, ap (λ (x : Edge). x .gain) w, ap least (sym (ap (λ (x : Edge). x .from) w) ∙ l .leaves))
 
     after : (e : Edge) → members (usable g a) e → Leads a e → suc (e .gain - e .loss) ≤ r (e .to)
     after e m l = after-by e l (omega (arith, seeds .after e m l)) (List·Memᴰ·append-cases (graph es) (members-usable g a e m .0))
 
     sown : Seeds (members (usable g a)) a r
-    sown = record { source = λ h. live 0 (seeds .source h); after = after }
+    sown = record { source = λ h. omega (arith, begun-live 0 (seeds .source h)); after = after }
 
-    done : Settled (Both es waiting a) n r (column d′ k)
-    done = subst (λ (x : ℕ). Settled (Both es waiting x) n r (column d′ k)) own (settled .each (begun .anchor) (begun .numbers) k there)
+    done : Settled (Both es least waiting a) n r (column d′ k)
+    done = subst (λ (x : ℕ). Settled (Both es least waiting x) n r (column d′ k)) own (settled .each (begun .anchor) (begun .numbers) k there)
 
     swept : Sweeps (members (usable g a)) r n (column d′ k)
-    swept = sweeps-as (list-both es maps waiting n within turned a) (done .sweeps t sought low)
+    swept = sweeps-as (list-both es least maps waiting n within turned a) (done .sweeps t sought low)
       where
         sweeps-as : {E F : Graph} {r s : ℕ → ℕ} {k : ℕ} → F ⊑ E → Sweeps E r k s → Sweeps F r k s
         sweeps-as i (none h up) = none h up
@@ -221,7 +241,7 @@ module _
     found v = offsets-swept well posed a inside sown swept (done .under t sought .under .below) v
 
     -- And so do the cells that are spread.
-    pub walks-found : {d″ : List (List ℕ)} → Spread number (λ w. w < n) (row-bit sets) d′ d″ → entry d″ v₀ a ≡ cell (offset-row n (graph es ++ wait-edges n maps) a) v₀
+    pub walks-found : {d″ : List (List ℕ)} → Spread number (λ w. w < n) (row-bit sets) d′ d″ → entry d″ v₀ a ≡ cell (offset-row n (graph es ++ wait-edges n least maps) a) v₀
     walks-found S =
         let e : getD number a 0 % 64 ≡ k = omega (arith, there, begun .few) in
         S .here v₀ a b₀ (omega arith) member ∙ ap (λ (x : ℕ). column d′ x v₀) e ∙ found v₀

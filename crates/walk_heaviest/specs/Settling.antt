@@ -21,7 +21,7 @@ use Rattle.walk_cells.specs.Tables.{Square, entry}
 use Rattle.walk_edge.specs.Columns.{Covered, Numbers, Sought, column}
 use Rattle.walk_seed.specs.Seeds.{Empty}
 use Rattle.walk_sweep.specs.Graphs.{Both, SweptBy, visits}
-use Rattle.theory.specs.Graphs.{Gains, Rooted, Shape, Well}
+use Rattle.theory.specs.Graphs.{Gains, Rooted, Shape, SheetLeasts, Well}
 use Rattle.theory.specs.Sweeps.{Sweeps}
 
 -- n sweeps over one column, where the edges leave the steps below n alone. Below a column that is sought nothing is raised above it.
@@ -30,9 +30,9 @@ pub record Settled (E : Graph) (n : ℕ) (r s : ℕ → ℕ) : Type 0 where
   pub sweeps : (t : ℕ → ℕ) → Sought E t r → ((e : Edge) → E e → e .from < n) → Sweeps E r n s
 
 -- The same for every numbered column, each in the graph of its anchor.
-pub record SettledBy (es waiting number : List ℕ) (width n : ℕ) (d d′ : List (List ℕ)) : Type 0 where
+pub record SettledBy (es : List ℕ) (least : ℕ → ℕ) (waiting number : List ℕ) (width n : ℕ) (d d′ : List (List ℕ)) : Type 0 where
   pub square : Square (length d) d′
-  pub each : (anchor : ℕ → ℕ) → Numbers width number anchor → (k : ℕ) → k < width → Settled (Both es waiting (anchor k)) n (column d k) (column d′ k)
+  pub each : (anchor : ℕ → ℕ) → Numbers width number anchor → (k : ℕ) → k < width → Settled (Both es least waiting (anchor k)) n (column d k) (column d′ k)
 
 -- k sweeps over one column, where the edges leave the steps below n alone, and what its marks then say.
 pub record Settling (E : Graph) (n k : ℕ) (r s : ℕ → ℕ) (g : ℕ → Bool) : Type 0 where
@@ -40,15 +40,15 @@ pub record Settling (E : Graph) (n k : ℕ) (r s : ℕ → ℕ) (g : ℕ → Boo
   pub covers : (t : ℕ → ℕ) → Sought E t r → ((e : Edge) → E e → e .from < n) → Covered E s g
   pub sweeps : (t : ℕ → ℕ) → Sought E t r → ((e : Edge) → E e → e .from < n) → Sweeps E r k s
 
-pub record SettlingBy (es waiting number : List ℕ) (width n k : ℕ) (d d′ : List (List ℕ)) (m : ℕ) : Type 0 where
+pub record SettlingBy (es : List ℕ) (least : ℕ → ℕ) (waiting number : List ℕ) (width n k : ℕ) (d d′ : List (List ℕ)) (m : ℕ) : Type 0 where
   pub square : Square (length d) d′
-  pub each : (anchor : ℕ → ℕ) → Numbers width number anchor → (c : ℕ) → c < width → Settling (Both es waiting (anchor c)) n k (column d c) (column d′ c) (test-bit m)
+  pub each : (anchor : ℕ → ℕ) → Numbers width number anchor → (c : ℕ) → c < width → Settling (Both es least waiting (anchor c)) n k (column d c) (column d′ c) (test-bit m)
 
 -- The first sweep, of few visits: every step below n has a mark before it.
-pub record Opened (es waiting number : List ℕ) (width n : ℕ) (d d′ : List (List ℕ)) (m : ℕ) : Type 0 where
+pub record Opened (es : List ℕ) (least : ℕ → ℕ) (waiting number : List ℕ) (width n : ℕ) (d d′ : List (List ℕ)) (m : ℕ) : Type 0 where
   pub marks : ℕ
   pub all : (v : ℕ) → test-bit marks v ≡ ltb v n
-  pub swept : SweptBy es waiting number width (λ v. v < n) (visits n) d d′ marks m
+  pub swept : SweptBy es least waiting number width (λ v. v < n) (visits n) d d′ marks m
 
 -- In the rows R the cells of the members M say what the columns of those anchors said; other rows stay.
 pub record Spread (number : List ℕ) (R : ℕ → Type 0) (M : ℕ → ℕ → Bool) (d d′ : List (List ℕ)) : Type 0 where
@@ -67,10 +67,10 @@ pub record Spreadable (map v : ℕ) (number : List ℕ) (d : List (List ℕ)) : 
   pub low : (a : ℕ) → a < 64 → test-bit map a ≡ true → getD number a 0 ≤ a
 
 -- All sweeps, and whether 10 does not apply. It is known where a first sweep that leaves no mark says so.
-pub record SettledIf (es waiting number : List ℕ) (width n : ℕ) (d d′ : List (List ℕ)) (r : Bool) : Type 0 where
+pub record SettledIf (es : List ℕ) (least : ℕ → ℕ) (waiting number : List ℕ) (width n : ℕ) (d d′ : List (List ℕ)) (r : Bool) : Type 0 where
   pub square : Square (length d) d′
-  pub settled : r ≡ true → SettledBy es waiting number width n d d′
-  pub told : Shape n (members (graph es)) → Rooted n (members (graph es)) → ((d₁ : List (List ℕ)) (m : ℕ) → Opened es waiting number width n d d₁ m → m ≡ 0 → rests n es ≡ true) → r ≡ rests n es
+  pub settled : r ≡ true → SettledBy es least waiting number width n d d′
+  pub told : Shape n (members (graph es)) → Rooted n (members (graph es)) → ((d₁ : List (List ℕ)) (m : ℕ) → Opened es least waiting number width n d d₁ m → m ≡ 0 → rests n es ≡ true) → r ≡ rests n es
 
 -- What heaviest walks are sought over: edges with their lists, and an empty table with a row for each step below n and each end.
 pub record Seekable (n : ℕ) (es lists : List ℕ) (d : List (List ℕ)) : Type 0 where
@@ -80,12 +80,12 @@ pub record Seekable (n : ℕ) (es lists : List ℕ) (d : List (List ℕ)) : Type
   pub ends : EndsBelow es (length d)
 
 -- The edges with the waits that maps hold.
-abbrev pub waited : ℕ → List ℕ → List ℕ → List Edge
-waited n es maps = graph es ++ wait-edges n maps
+abbrev pub waited : ℕ → List ℕ → (ℕ → ℕ) → List ℕ → List Edge
+waited n es least maps = graph es ++ wait-edges n least maps
 
 -- What is found where 10 does not apply: at [v][a] the cell of step v for anchor a, over the edges and the waits, where a is a member of row v of sets; for an anchor whose members in sets are the steps that its walks reach.
-pub record Found (n : ℕ) (es maps sets : List ℕ) (d d′ : List (List ℕ)) (r : Bool) : Type 0 where
+pub record Found (n : ℕ) (es : List ℕ) (least : ℕ → ℕ) (maps sets : List ℕ) (d d′ : List (List ℕ)) (r : Bool) : Type 0 where
   pub square : Square (length d) d′
-  pub cells : r ≡ true → Within n maps → Well n (members (waited n es maps)) → WellPosed (members (waited n es maps)) → Gains (members (waited n es maps)) most-gain → (a : ℕ) → a < n
-      → Supported n (waited n es maps) sets a → (v : ℕ) → v < n → row-bit sets v a ≡ true → entry d′ v a ≡ cell (offset-row n (waited n es maps) a) v
-  pub told : Shape n (members (graph es)) → Rooted n (members (graph es)) → Gains (members (graph es)) most-gain → ((v : ℕ) → v < n → row-bit sets v 0 ≡ true) → r ≡ rests n es
+  pub cells : r ≡ true → Within n maps → SheetLeasts least (members (graph es)) → Well n (members (waited n es least maps)) → WellPosed (members (waited n es least maps)) → Gains (members (waited n es least maps)) most-gain → (a : ℕ) → a < n
+      → Supported n (waited n es least maps) sets a → (v : ℕ) → v < n → row-bit sets v a ≡ true → entry d′ v a ≡ cell (offset-row n (waited n es least maps) a) v
+  pub told : Shape n (members (graph es)) → Rooted n (members (graph es)) → Gains (members (graph es)) most-gain → SheetLeasts least (members (graph es)) → ((v : ℕ) → v < n → row-bit sets v 0 ≡ true) → r ≡ rests n es

@@ -12,6 +12,7 @@ ghost use Rattle.data_lists.specs.Lists.{WithLists};
 ghost use Rattle.definitions.specs.Basics.{test-bit};
 ghost use Rattle.definitions.specs.Limits.{most-steps};
 ghost use Rattle.definitions.specs.Links.{members};
+ghost use Rattle.data_edges.specs.Serial.{leasts-in};
 ghost use Rattle.data_edges.specs.Words.{graph};
 ghost use Rattle.walk_feasible.specs.Search.{rests};
 ghost use Rattle.data_relations.specs.Rows.{row-bit};
@@ -47,6 +48,7 @@ fn sweep_first(
     d: &mut [[u32; 64]],
     es: &[u64],
     lists: &[u16],
+    leasts: &[u16; 64],
     waiting: &[u64; 64],
     order: &[u8; 64],
     place: &[u8; 64],
@@ -55,10 +57,22 @@ fn sweep_first(
     n: usize,
 ) -> u64
     requires { ⌜ Sweepable n width (now es) (now lists) (now waiting) (now d) ⌝ }
-    ensures { λ r. ⌜ Opened (now (es .entry)) (now (waiting .entry)) (now (number .entry)) width n (now (d .entry)) (now (d .exit)) r ⌝ }
+    ensures { λ r. ⌜ Opened (now (es .entry)) (leasts-in (now (leasts .entry))) (now (waiting .entry)) (now (number .entry)) width n (now (d .entry)) (now (d .exit)) r ⌝ }
 {
     let marks = data_sets::below(n);
-    sweep(d, marks, es, lists, waiting, order, place, number, width, n)
+    sweep(
+        d,
+        marks,
+        es,
+        lists,
+        leasts,
+        waiting,
+        order,
+        place,
+        number,
+        width,
+        n,
+    )
 }
 
 // The sweeps after the first, until there have been n, or fewer where nothing is left to hand on.
@@ -67,6 +81,7 @@ fn sweep_on(
     marks: u64,
     es: &[u64],
     lists: &[u16],
+    leasts: &[u16; 64],
     waiting: &[u64; 64],
     order: &[u8; 64],
     place: &[u8; 64],
@@ -75,7 +90,7 @@ fn sweep_on(
     n: usize,
 )
     requires { ⌜ Sweepable n width (now es) (now lists) (now waiting) (now d) ⌝ }
-    ensures { λ r. ⌜ ((d₀ : List (List ℕ)) → SettlingBy (now (es .entry)) (now (waiting .entry)) (now (number .entry)) width n 1 d₀ (now (d .entry)) marks → SettledBy (now (es .entry)) (now (waiting .entry)) (now (number .entry)) width n d₀ (now (d .exit))) ⌝ }
+    ensures { λ r. ⌜ ((d₀ : List (List ℕ)) → SettlingBy (now (es .entry)) (leasts-in (now (leasts .entry))) (now (waiting .entry)) (now (number .entry)) width n 1 d₀ (now (d .entry)) marks → SettledBy (now (es .entry)) (leasts-in (now (leasts .entry))) (now (waiting .entry)) (now (number .entry)) width n d₀ (now (d .exit))) ⌝ }
 {
     let mut left = marks;
     let mut k = 1;
@@ -83,7 +98,19 @@ fn sweep_on(
         if left == 0 {
             return;
         }
-        left = sweep(d, left, es, lists, waiting, order, place, number, width, n);
+        left = sweep(
+            d,
+            left,
+            es,
+            lists,
+            leasts,
+            waiting,
+            order,
+            place,
+            number,
+            width,
+            n,
+        );
         k += 1;
     }
 }
@@ -104,6 +131,7 @@ fn settle(
     d: &mut [[u32; 64]],
     es: &[u64],
     lists: &[u16],
+    leasts: &[u16; 64],
     waiting: &[u64; 64],
     order: &[u8; 64],
     number: &[u8; 64],
@@ -111,10 +139,21 @@ fn settle(
     n: usize,
 ) -> bool
     requires { ⌜ Sweepable n width (now es) (now lists) (now waiting) (now d) ⌝ }
-    ensures { λ r. ⌜ SettledIf (now (es .entry)) (now (waiting .entry)) (now (number .entry)) width n (now (d .entry)) (now (d .exit)) r ⌝ }
+    ensures { λ r. ⌜ SettledIf (now (es .entry)) (leasts-in (now (leasts .entry))) (now (waiting .entry)) (now (number .entry)) width n (now (d .entry)) (now (d .exit)) r ⌝ }
 {
     let place = places(order, n);
-    let marks = sweep_first(d, es, lists, waiting, order, &place, number, width, n);
+    let marks = sweep_first(
+        d,
+        es,
+        lists,
+        leasts,
+        waiting,
+        order,
+        &place,
+        number,
+        width,
+        n,
+    );
     if !possible(marks, es, lists, order, n) {
         return false;
     }
@@ -123,6 +162,7 @@ fn settle(
         marks,
         es,
         lists,
+        leasts,
         waiting,
         order,
         &place,
@@ -164,19 +204,20 @@ pub fn walks_if_possible(
     d: &mut [[u32; 64]],
     es: &[u64],
     lists: &[u16],
+    leasts: &[u16; 64],
     maps: &[u64; 64],
     sets: &[u64; 64],
     order: &[u8; 64],
     n: usize,
 ) -> bool
     requires { ⌜ Seekable n (now es) (now lists) (now d) ⌝ }
-    ensures { λ r. ⌜ Found n (now (es .entry)) (now (maps .entry)) (now (sets .entry)) (now (d .entry)) (now (d .exit)) r ⌝ }
+    ensures { λ r. ⌜ Found n (now (es .entry)) (leasts-in (now (leasts .entry))) (now (maps .entry)) (now (sets .entry)) (now (d .entry)) (now (d .exit)) r ⌝ }
 {
     let mut waiting = [0u64; 64];
     transpose(maps, n, &mut waiting);
     let mut number = no_numbers();
-    let width = seed(d, &mut number, es, sets, n);
-    if !settle(d, es, lists, &waiting, order, &number, width, n) {
+    let width = seed(d, &mut number, es, leasts, sets, n);
+    if !settle(d, es, lists, leasts, &waiting, order, &number, width, n) {
         return false;
     }
     spread_rows(d, &number, sets, n);

@@ -19,13 +19,13 @@ use Rattle.laws.proofs.Bools.{bool-cases, both-ways, same-or-not}
 use Rattle.laws.proofs.Maps.{test-zero}
 use Rattle.laws.proofs.Tests.{any-below-by}
 use Rattle.data_relations.specs.Rows.{row-bit}
-use Rattle.walk_cells.specs.Cells.{value, weightless}
+use Rattle.walk_cells.specs.Cells.{value}
 use Rattle.walk_cells.specs.Tables.{Square, entry}
-use Rattle.walk_cells.proofs.Values.{value-empty, value-weightless}
+use Rattle.walk_cells.proofs.Values.{value-empty}
 use Rattle.walk_edge.specs.Columns.{Numbers, Only, column}
 use Rattle.walk_cells.proofs.Tables.{square-stored, square-then, stored-beside, stored-here, stored-other}
 use Rattle.theory.specs.Sweeps.{Leads}
-use Rattle.walk_seed.specs.Seeds.{Begins, Begun, BegunAll, Empty, Idle, Numbered, Prepared, Raised, Seeded}
+use Rattle.walk_seed.specs.Seeds.{Begins, Begun, BegunAll, Empty, Idle, Numbered, Prepared, Raised, Seeded, Sown}
 use Rattle.walk_seed.proofs.Numbering.{left-still}
 
 -- One cell is stored to, and the others stay.
@@ -51,71 +51,73 @@ pub raised-kept : (v k c : ℕ) (d : List (List ℕ)) → Square (length d) d �
 raised-kept v k c d S l = record { square = S; here = omega arith; other = λ w j o. refl }
 
 -- The pairs of step v and the members of a map that are not left; and those of the rows of sets below v.
-abbrev pub Sown : ℕ → ℕ → ℕ → ℕ → ℕ → Type 0
-Sown v map left w a = (w ≡ v) × (a < 64) × (test-bit map a ≡ true) × (test-bit left a ≡ false)
+abbrev pub Passed : ℕ → ℕ → ℕ → ℕ → ℕ → Type 0
+Passed v map left w a = (w ≡ v) × (a < 64) × (test-bit map a ≡ true) × (test-bit left a ≡ false)
 
 abbrev pub Below : List ℕ → ℕ → ℕ → ℕ → Type 0
 Below sets v w a = (w < v) × (a < 64) × (row-bit sets w a ≡ true)
 
 -- Seeds of no pair, of one pair, and of some pairs and then of others.
-module _ (number : List ℕ) where
-  seeded-none : {P : ℕ → ℕ → Type 0} (d : List (List ℕ)) → Square (length d) d → ((v a : ℕ) → ¬ P v a) → Seeded number P d d
-  seeded-none d S none = record { square = S; here = λ v a p. absurd (none v a p); other = λ v k o. refl; either = λ v k. inr refl }
+module _ (least : ℕ → ℕ) (number : List ℕ) where
+  sown-as : {P R : ℕ → ℕ → Type 0} {d d′ : List (List ℕ)} {v k : ℕ} → ((w a : ℕ) → P w a → R w a) → entry d′ v k ≡ entry d v k → Sown least number P d v k → Sown least number R d′ v k
+  sown-as {v = v} i same S = record { anchor = S .anchor; pair = i v (S .anchor) (S .pair); here = S .here; weighs = ap value same ∙ S .weighs }
 
-  seeded-one : {P : ℕ → ℕ → Type 0} (v a k : ℕ) {d d′ : List (List ℕ)} → k ≡ getD number a 0 % 64 → P v a → ((w b : ℕ) → P w b → (w ≡ v) × (b ≡ a)) → Stored v k weightless d d′ → Seeded number P d d′
-  seeded-one {P} v a k {d} {d′} is own only T = record { square = T .square; here = here; other = λ w j o. other w j o (same-or-not w v) (same-or-not j k); either = λ w j. either w j (same-or-not w v) (same-or-not j k) }
+  seeded-none : {P : ℕ → ℕ → Type 0} (d : List (List ℕ)) → Square (length d) d → ((v a : ℕ) → ¬ P v a) → Seeded least number P d d
+  seeded-none d S none = record { square = S; sown = λ v a p. absurd (none v a p); either = λ v k. inr refl }
+
+  seeded-one : {P : ℕ → ℕ → Type 0} (v a k c : ℕ) {d d′ : List (List ℕ)} → k ≡ getD number a 0 % 64 → value c ≡ suc (least a) → P v a → ((w b : ℕ) → P w b → (w ≡ v) × (b ≡ a)) → Stored v k c d d′ → Seeded least number P d d′
+  seeded-one {P} v a k c {d} {d′} is weighs own only T = record { square = T .square; sown = λ w b p. let e = only w b p in rw (e .0, e .1, ← is) new; either = λ w j. either w j (same-or-not w v) (same-or-not j k) }
     where
-      here : (w b : ℕ) → P w b → entry d′ w (getD number b 0 % 64) ≡ weightless
-      here w b p = let e = only w b p in rw (e .0, e .1, ← is) (T .here)
+      new : Sown least number P d′ v k
+      new = record { anchor = a; pair = own; here = sym is; weighs = ap value (T .here) ∙ weighs }
 
-      other : (w j : ℕ) → ((b : ℕ) → P w b → getD number b 0 % 64 ≢ j) → (w ≡ v) ⊎ (w ≢ v) → (j ≡ k) ⊎ (j ≢ k) → entry d′ w j ≡ entry d w j
-      other w j o (inl e) (inl f) = absurd (o a (subst (λ (x : ℕ). P x a) (sym e) own) (sym is ∙ sym f))
-      other w j o (inl e) (inr f) = T .other w j (inr f)
-      other w j o (inr e) f = T .other w j (inl e)
-
-      either : (w j : ℕ) → (w ≡ v) ⊎ (w ≢ v) → (j ≡ k) ⊎ (j ≢ k) → (entry d′ w j ≡ weightless) ⊎ (entry d′ w j ≡ entry d w j)
-      either w j (inl e) (inl f) = inl (rw (e, f) (T .here))
+      either : (w j : ℕ) → (w ≡ v) ⊎ (w ≢ v) → (j ≡ k) ⊎ (j ≢ k) → Sown least number P d′ w j ⊎ (entry d′ w j ≡ entry d w j)
+      either w j (inl e) (inl f) = inl (rw (e, f) new)
       either w j (inl e) (inr f) = inr (T .other w j (inr f))
       either w j (inr e) f = inr (T .other w j (inl e))
 
-  seeded-both : {P Q R : ℕ → ℕ → Type 0} {d d′ d″ : List (List ℕ)} → ((v a : ℕ) → P v a → R v a) → ((v a : ℕ) → Q v a → R v a) → ((v a : ℕ) → R v a → P v a ⊎ Q v a) → Seeded number P d d′ → Seeded number Q d′ d″ → Seeded number R d d″
+  seeded-both : {P Q R : ℕ → ℕ → Type 0} {d d′ d″ : List (List ℕ)} → ((v a : ℕ) → P v a → R v a) → ((v a : ℕ) → Q v a → R v a) → ((v a : ℕ) → R v a → P v a ⊎ Q v a) → Seeded least number P d d′ → Seeded least number Q d′ d″ → Seeded least number R d d″
   seeded-both {P} {Q} {R} {d} {d′} {d″} i j split A B =
-      record { square = square-then (A .square) (B .square); here = λ v a r. here v a (split v a r); other = λ v k o. B .other v k (λ a q. o a (j v a q)) ∙ A .other v k (λ a p. o a (i v a p)); either = λ v k. either v k (B .either v k) (A .either v k) }
+      record { square = square-then (A .square) (B .square); sown = λ v a r. sown v a (split v a r); either = λ v k. either v k (B .either v k) (A .either v k) }
     where
-      stays : (v k : ℕ) → entry d′ v k ≡ weightless → (entry d″ v k ≡ weightless) ⊎ (entry d″ v k ≡ entry d′ v k) → entry d″ v k ≡ weightless
-      stays v k h (inl e) = e
-      stays v k h (inr e) = e ∙ h
+      stays : (v k : ℕ) → Sown least number P d′ v k → Sown least number Q d″ v k ⊎ (entry d″ v k ≡ entry d′ v k) → Sown least number R d″ v k
+      stays v k S (inl new) = sown-as j refl new
+      stays v k S (inr e) = sown-as i e S
 
-      here : (v a : ℕ) → P v a ⊎ Q v a → entry d″ v (getD number a 0 % 64) ≡ weightless
-      here v a (inl p) = stays v (getD number a 0 % 64) (A .here v a p) (B .either v (getD number a 0 % 64))
-      here v a (inr q) = B .here v a q
+      sown : (v a : ℕ) → P v a ⊎ Q v a → Sown least number R d″ v (getD number a 0 % 64)
+      sown v a (inl p) = stays v (getD number a 0 % 64) (A .sown v a p) (B .either v (getD number a 0 % 64))
+      sown v a (inr q) = sown-as j refl (B .sown v a q)
 
-      either : (v k : ℕ) → (entry d″ v k ≡ weightless) ⊎ (entry d″ v k ≡ entry d′ v k) → (entry d′ v k ≡ weightless) ⊎ (entry d′ v k ≡ entry d v k) → (entry d″ v k ≡ weightless) ⊎ (entry d″ v k ≡ entry d v k)
-      either v k (inl e) f = inl e
-      either v k (inr e) (inl f) = inl (e ∙ f)
+      either : (v k : ℕ) → Sown least number Q d″ v k ⊎ (entry d″ v k ≡ entry d′ v k) → Sown least number P d′ v k ⊎ (entry d′ v k ≡ entry d v k) → Sown least number R d″ v k ⊎ (entry d″ v k ≡ entry d v k)
+      either v k (inl S) f = inl (sown-as j refl S)
+      either v k (inr e) (inl S) = inl (sown-as i e S)
       either v k (inr e) (inr f) = inr (e ∙ f)
 
-  seeded-as : {P R : ℕ → ℕ → Type 0} {d d′ : List (List ℕ)} → ((v a : ℕ) → P v a → R v a) → ((v a : ℕ) → R v a → P v a) → Seeded number P d d′ → Seeded number R d d′
-  seeded-as i j A = record { square = A .square; here = λ v a r. A .here v a (j v a r); other = λ v k o. A .other v k (λ a p. o a (i v a p)); either = A .either }
+  seeded-as : {P R : ℕ → ℕ → Type 0} {d d′ : List (List ℕ)} → ((v a : ℕ) → P v a → R v a) → ((v a : ℕ) → R v a → P v a) → Seeded least number P d d′ → Seeded least number R d d′
+  seeded-as {P} {R} {d} {d′} i j A = record { square = A .square; sown = λ v a r. sown-as i refl (A .sown v a (j v a r)); either = λ v k. either v k (A .either v k) }
+    where
+      either : (v k : ℕ) → Sown least number P d′ v k ⊎ (entry d′ v k ≡ entry d v k) → Sown least number R d′ v k ⊎ (entry d′ v k ≡ entry d v k)
+      either v k (inl S) = inl (sown-as i refl S)
+      either v k (inr e) = inr e
 
   -- The loop over the members of a map.
-  pub sown-start : (v map : ℕ) (d : List (List ℕ)) → Square (length d) d → Seeded number (Sown v map map) d d
-  sown-start v map d S = seeded-none d S (λ w a p. both-ways (p .2) (p .3))
+  pub passed-start : (v map : ℕ) (d : List (List ℕ)) → Square (length d) d → Seeded least number (Passed v map map) d d
+  passed-start v map d S = seeded-none d S (λ w a p. both-ways (p .2) (p .3))
 
-  pub sown-more : (v map left left′ a k : ℕ) {d d′ d″ : List (List ℕ)} → a < 64 → test-bit map a ≡ true → test-bit left a ≡ true → ((j : ℕ) → test-bit left′ j ≡ (test-bit left j && not (eqb j a)))
-      → k ≡ getD number a 0 % 64 → Seeded number (Sown v map left) d d′ → Stored v k weightless d′ d″ → Seeded number (Sown v map left′) d d″
-  sown-more v map left left′ a k low within member leaves is A T =
+  pub passed-more : (v map left left′ a k c : ℕ) {d d′ d″ : List (List ℕ)} → a < 64 → test-bit map a ≡ true → test-bit left a ≡ true → ((j : ℕ) → test-bit left′ j ≡ (test-bit left j && not (eqb j a)))
+      → k ≡ getD number a 0 % 64 → value c ≡ suc (least a) → Seeded least number (Passed v map left) d d′ → Stored v k c d′ d″ → Seeded least number (Passed v map left′) d d″
+  passed-more v map left left′ a k c low within member leaves is weighs A T =
       seeded-both {Q = λ w b. (w ≡ v) × (b ≡ a)}
       (λ w b p. (p .0, p .1, p .2, leaves b ∙ ap (λ (t : Bool). t && not (eqb b a)) (p .3)))
       (λ w b p. rw (p .1) ((p .0, low, within, gone)))
       (λ w b p. split w b p (same-or-not b a))
       A
-      (seeded-one v a k is (refl, refl) (λ w b p. p) T)
+      (seeded-one v a k c is weighs (refl, refl) (λ w b p. p) T)
     where
       gone : test-bit left′ a ≡ false
       gone = leaves a ∙ ap (λ (t : Bool). test-bit left a && not t) (eq-eqb a a refl) ∙ and-false (test-bit left a)
 
-      split : (w b : ℕ) → Sown v map left′ w b → (b ≡ a) ⊎ (b ≢ a) → Sown v map left w b ⊎ ((w ≡ v) × (b ≡ a))
+      split : (w b : ℕ) → Passed v map left′ w b → (b ≡ a) ⊎ (b ≢ a) → Passed v map left w b ⊎ ((w ≡ v) × (b ≡ a))
       split w b p (inl e) = inr (p .0, e)
       split w b p (inr o) = inl (p .0, p .1, p .2, by (bool-cases (test-bit left b)))
         where
@@ -123,14 +125,14 @@ module _ (number : List ℕ) where
           by (inl t) = absurd (both-ways (left-still left left′ a leaves b t o) (p .3))
           by (inr t) = t
 
-  pub sown-end : (v map left : ℕ) {d d′ : List (List ℕ)} → left ≡ 0 → Seeded number (Sown v map left) d d′ → Seeded number (λ w a. (w ≡ v) × (a < 64) × (test-bit map a ≡ true)) d d′
-  sown-end v map left z A = seeded-as (λ w a p. (p .0, p .1, p .2)) (λ w a p. (p .0, p .1, p .2, ap (λ (x : ℕ). test-bit x a) z ∙ test-zero a)) A
+  pub passed-end : (v map left : ℕ) {d d′ : List (List ℕ)} → left ≡ 0 → Seeded least number (Passed v map left) d d′ → Seeded least number (λ w a. (w ≡ v) × (a < 64) × (test-bit map a ≡ true)) d d′
+  passed-end v map left z A = seeded-as (λ w a p. (p .0, p .1, p .2)) (λ w a p. (p .0, p .1, p .2, ap (λ (x : ℕ). test-bit x a) z ∙ test-zero a)) A
 
   -- The loop over the rows.
-  pub below-start : (sets : List ℕ) (d : List (List ℕ)) → Square (length d) d → Seeded number (Below sets 0) d d
+  pub below-start : (sets : List ℕ) (d : List (List ℕ)) → Square (length d) d → Seeded least number (Below sets 0) d d
   below-start sets d S = seeded-none d S (λ w a p. omega (arith, p .0))
 
-  pub below-more : (sets : List ℕ) (v : ℕ) {d d′ d″ : List (List ℕ)} → Seeded number (Below sets v) d d′ → Seeded number (λ w a. (w ≡ v) × (a < 64) × (test-bit (getD sets v 0) a ≡ true)) d′ d″ → Seeded number (Below sets (v + 1)) d d″
+  pub below-more : (sets : List ℕ) (v : ℕ) {d d′ d″ : List (List ℕ)} → Seeded least number (Below sets v) d d′ → Seeded least number (λ w a. (w ≡ v) × (a < 64) × (test-bit (getD sets v 0) a ≡ true)) d′ d″ → Seeded least number (Below sets (v + 1)) d d″
   below-more sets v A B =
       seeded-both
       (λ w a p. (omega (arith, p .0), p .1, p .2))
@@ -257,11 +259,11 @@ idle-more es k gain idle is z j b = by (same-or-not j k)
     by (inl e) = rw e (λ c. sym (is c) ∙ z)
     by (inr o) = idle j (omega arith)
 
--- Seeds and then edges: an anchor's column begins with the walk of weight 0 where the anchor is a member, and with nothing elsewhere, as no other anchor has its number.
+-- Seeds and then edges: an anchor's column begins with a walk that weighs its least where the anchor is a member, and with nothing elsewhere, as no other anchor has its number.
 module _
-    {E : Graph} {number : List ℕ} {width : ℕ} {d₀ d₁ d₂ : List (List ℕ)} (sets : List ℕ) (n all : ℕ) (empty : Empty d₀)
+    {least : ℕ → ℕ} {E : Graph} {number : List ℕ} {width : ℕ} {d₀ d₁ d₂ : List (List ℕ)} (sets : List ℕ) (n all : ℕ) (empty : Empty d₀)
     (union : (a : ℕ) → test-bit all a ≡ any-below (λ v. row-bit sets v a) n) (N : Numbered all width number)
-    (seeded : Seeded number (λ w a. (w < n) × (a < 64) × (row-bit sets w a ≡ true)) d₀ d₁) (begun : BegunAll E number d₁ d₂) where
+    (seeded : Seeded least number (λ w a. (w < n) × (a < 64) × (row-bit sets w a ≡ true)) d₀ d₁) (begun : BegunAll E number d₁ d₂) where
   listed : (v a : ℕ) → v < n → row-bit sets v a ≡ true → getD number a 0 < width
   listed v a b h = N .listed a (union a ∙ any-below-by (λ w. row-bit sets w a) n b h)
 
@@ -272,9 +274,6 @@ module _
     numbered : getD number a 0 % 64 ≡ k
     numbered = omega (arith, N .numbers .there k b, N .few)
 
-    one : (v : ℕ) → v < n → row-bit sets v a ≡ true → column d₁ k v ≡ 1
-    one v c h = ap (λ (x : ℕ). column d₁ x v) (sym numbered) ∙ ap value (seeded .here v a (c, N .numbers .inside k b, h)) ∙ value-weightless
-
     -- The number of a member is its own.
     alone : (v x : ℕ) → (v < n) × (x < 64) × (row-bit sets v x ≡ true) → getD number x 0 % 64 ≡ k → x ≡ a
     alone v x p h =
@@ -282,22 +281,30 @@ module _
         let e : getD number x 0 ≡ k = omega (arith, N .few) in
         sym (N .numbers .back x (p .1) l) ∙ ap (N .anchor) e
 
-    nothing : (v : ℕ) → ¬ ((v < n) × (row-bit sets v a ≡ true)) → column d₁ k v ≡ 0
-    nothing v none =
-        ap value (seeded .other v k (λ x p h. none (p .0, ap (row-bit sets v) (sym (alone v x p h)) ∙ p .2)) ∙ empty .cells v k) ∙ value-empty
+    first : (v : ℕ) → v < n → row-bit sets v a ≡ true → column d₁ k v ≡ suc (least a)
+    first v c h =
+        let S = seeded .sown v a (c, N .numbers .inside k b, h) in
+        ap (λ (x : ℕ). column d₁ x v) (sym numbered) ∙ S .weighs ∙ ap (λ (x : ℕ). suc (least x)) (alone v (S .anchor) (S .pair) (S .here ∙ numbered))
 
-    below : (t : ℕ → ℕ) → ((v : ℕ) → v < n → row-bit sets v a ≡ true → 1 ≤ t v) → (v : ℕ) → column d₁ k v ≤ t v
+    nothing : (v : ℕ) → ¬ ((v < n) × (row-bit sets v a ≡ true)) → column d₁ k v ≡ 0
+    nothing v none = by (seeded .either v k)
+      where
+        by : Sown least number (λ w x. (w < n) × (x < 64) × (row-bit sets w x ≡ true)) d₁ v k ⊎ (entry d₁ v k ≡ entry d₀ v k) → column d₁ k v ≡ 0
+        by (inl S) = absurd (none (S .pair .0, ap (row-bit sets v) (sym (alone v (S .anchor) (S .pair) (S .here))) ∙ S .pair .2))
+        by (inr e) = ap value (e ∙ empty .cells v k) ∙ value-empty
+
+    below : (t : ℕ → ℕ) → ((v : ℕ) → v < n → row-bit sets v a ≡ true → suc (least a) ≤ t v) → (v : ℕ) → column d₁ k v ≤ t v
     below t live v = by (decLt v n) (bool-cases (row-bit sets v a))
       where
         by : Dec (v < n) → (row-bit sets v a ≡ true) ⊎ (row-bit sets v a ≡ false) → column d₁ k v ≤ t v
-        by (yes c) (inl h) = omega (arith, one v c h, live v c h)
+        by (yes c) (inl h) = omega (arith, first v c h, live v c h)
         by (yes c) (inr h) = omega (arith, nothing v (λ p. both-ways (p .1) h))
         by (no c) h = omega (arith, nothing v (λ p. c (p .0)))
 
-    begins : Begins E sets n (N .anchor k) (column d₂ k)
+    begins : Begins least E sets n (N .anchor k) (column d₂ k)
     begins =
         let B = begun .each width (N .anchor) (N .numbers) (N .few) k b in
-        record { live = λ v c h. omega (arith, one v c h, B .up v); begun = λ e m l c h. B .begun e m l (omega (arith, one (e .to) c h)); sound = λ t s live. B .sound t s (below t live) }
+        record { live = λ v c h. omega (arith, first v c h, B .up v); begun = λ e m l c h. B .begun e m l (omega (arith, first (e .to) c h)); sound = λ t s live. B .sound t s (below t live) }
 
-  pub prepared : Prepared E sets n width number (length d₀) d₂
+  pub prepared : Prepared least E sets n width number (length d₀) d₂
   prepared = record { anchor = N .anchor; numbers = N .numbers; few = N .few; listed = listed; low = λ v a b c h. N .low a c (union a ∙ any-below-by (λ w. row-bit sets w a) n b h); square = square-then (seeded .square) (begun .square); columns = begins }

@@ -1,4 +1,5 @@
--- Numbers of columns, and what a column begins with: at the members of its anchor's column of sets the walk of weight 0, and the weight of each counted edge out of the anchor that gains.
+-- Numbers of columns, and what a column begins with: at the members of its anchor's column of sets a walk that weighs the anchor's least,
+-- and the weight of each counted edge out of the anchor that gains.
 use mathlib.Core.Path.{_≡_}
 use mathlib.Core.Bool.{true}
 use mathlib.Core.Logic.{_⊎_, _≢_}
@@ -10,7 +11,7 @@ use Rattle.definitions.specs.Limits.{most-steps}
 use Rattle.definitions.specs.Links.{Edge, Graph}
 use Rattle.data_edges.specs.Words.{EndsBelow, unpack}
 use Rattle.data_relations.specs.Rows.{row-bit}
-use Rattle.walk_cells.specs.Cells.{empty, value, weightless}
+use Rattle.walk_cells.specs.Cells.{empty, value}
 use Rattle.walk_cells.specs.Tables.{Square, entry}
 use Rattle.walk_edge.specs.Columns.{Numbers, column}
 use Rattle.theory.specs.Sweeps.{Leads}
@@ -52,12 +53,18 @@ pub record Raised (v k c : ℕ) (d d′ : List (List ℕ)) : Type 0 where
   pub here : value (entry d′ v k) ≡ max (value (entry d v k)) (value c)
   pub other : (w j : ℕ) → (w ≢ v) ⊎ (j ≢ k) → entry d′ w j ≡ entry d w j
 
--- The walk of weight 0 comes into the cells of the pairs P of a step and an anchor, and nothing into another.
-pub record Seeded (number : List ℕ) (P : ℕ → ℕ → Type 0) (d d′ : List (List ℕ)) : Type 0 where
+-- The cell of step v in column k says a walk that weighs the least of an anchor: one that has the column and is a pair with v, by P.
+pub record Sown (least : ℕ → ℕ) (number : List ℕ) (P : ℕ → ℕ → Type 0) (d : List (List ℕ)) (v k : ℕ) : Type 0 where
+  pub anchor : ℕ
+  pub pair : P v anchor
+  pub here : getD number anchor 0 % 64 ≡ k
+  pub weighs : value (entry d v k) ≡ suc (least anchor)
+
+-- Such walks come into the cells of the pairs P of a step and an anchor, and nothing into another.
+pub record Seeded (least : ℕ → ℕ) (number : List ℕ) (P : ℕ → ℕ → Type 0) (d d′ : List (List ℕ)) : Type 0 where
   pub square : Square (length d) d′
-  pub here : (v a : ℕ) → P v a → entry d′ v (getD number a 0 % 64) ≡ weightless
-  pub other : (v k : ℕ) → ((a : ℕ) → P v a → getD number a 0 % 64 ≢ k) → entry d′ v k ≡ entry d v k
-  pub either : (v k : ℕ) → (entry d′ v k ≡ weightless) ⊎ (entry d′ v k ≡ entry d v k)
+  pub sown : (v a : ℕ) → P v a → Sown least number P d′ v (getD number a 0 % 64)
+  pub either : (v k : ℕ) → Sown least number P d′ v k ⊎ (entry d′ v k ≡ entry d v k)
 
 -- No counted edge of the first k words gains.
 abbrev pub Idle : List ℕ → ℕ → Type 0
@@ -74,17 +81,17 @@ pub record BegunAll (E : Graph) (number : List ℕ) (d d′ : List (List ℕ)) :
   pub each : (width : ℕ) (anchor : ℕ → ℕ) → Numbers width number anchor → width ≤ 64 → (k : ℕ) → k < width → Begun E (anchor k) (column d k) (column d′ k)
 
 -- What the column s of anchor a begins with.
-pub record Begins (E : Graph) (sets : List ℕ) (n a : ℕ) (s : ℕ → ℕ) : Type 0 where
-  pub live : (v : ℕ) → v < n → row-bit sets v a ≡ true → 1 ≤ s v
+pub record Begins (least : ℕ → ℕ) (E : Graph) (sets : List ℕ) (n a : ℕ) (s : ℕ → ℕ) : Type 0 where
+  pub live : (v : ℕ) → v < n → row-bit sets v a ≡ true → suc (least a) ≤ s v
   pub begun : (e : Edge) → E e → Leads a e → e .to < n → row-bit sets (e .to) a ≡ true → suc (e .gain - e .loss) ≤ s (e .to)
-  pub sound : (t : ℕ → ℕ) → ((e : Edge) → E e → Leads a e → suc (e .gain - e .loss) ≤ t (e .to)) → ((v : ℕ) → v < n → row-bit sets v a ≡ true → 1 ≤ t v) → (v : ℕ) → s v ≤ t v
+  pub sound : (t : ℕ → ℕ) → ((e : Edge) → E e → Leads a e → suc (e .gain - e .loss) ≤ t (e .to)) → ((v : ℕ) → v < n → row-bit sets v a ≡ true → suc (least a) ≤ t v) → (v : ℕ) → s v ≤ t v
 
 -- A table of so many rows whose columns are numbered and begun.
-pub record Prepared (E : Graph) (sets : List ℕ) (n width : ℕ) (number : List ℕ) (rows : ℕ) (d : List (List ℕ)) : Type 0 where
+pub record Prepared (least : ℕ → ℕ) (E : Graph) (sets : List ℕ) (n width : ℕ) (number : List ℕ) (rows : ℕ) (d : List (List ℕ)) : Type 0 where
   pub anchor : ℕ → ℕ
   pub numbers : Numbers width number anchor
   pub few : width ≤ 64
   pub listed : (v a : ℕ) → v < n → row-bit sets v a ≡ true → getD number a 0 < width
   pub low : (v a : ℕ) → v < n → a < 64 → row-bit sets v a ≡ true → getD number a 0 ≤ a
   pub square : Square rows d
-  pub columns : (k : ℕ) → k < width → Begins E sets n (anchor k) (column d k)
+  pub columns : (k : ℕ) → k < width → Begins least E sets n (anchor k) (column d k)

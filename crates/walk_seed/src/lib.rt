@@ -6,12 +6,14 @@ use data_edges::edge_to;
 use data_edges::is_counted;
 ghost use mathlib.Core.Path.{_≡_};
 ghost use mathlib.Core.Bool.{true, false};
-ghost use Prim.Native.Nat.{ℕ, _+_, _<_, _≤_};
+ghost use Prim.Native.Nat.{ℕ, suc, _+_, _<_, _≤_};
 ghost use lib.ListN.{length};
 ghost use Rattle.definitions.specs.Basics.{any-below, test-bit};
 ghost use Rattle.definitions.specs.Links.{members};
+ghost use Rattle.data_edges.specs.Serial.{leasts-in};
 ghost use Rattle.data_edges.specs.Words.{EndsBelow, graph, unpack};
 ghost use Rattle.data_relations.specs.Rows.{row-bit};
+ghost use Rattle.walk_cells.specs.Cells.{value};
 ghost use Rattle.walk_cells.specs.Tables.{Rows, Square, Target};
 ghost use Rattle.walk_edge.specs.Columns.{Only};
 ghost use Rattle.walk_seed.specs.Seeds.{Blank, BegunAll, Idle, Leading, Numbered, Prepared, Raised, Seedable, Seeded};
@@ -46,28 +48,36 @@ fn number_members(all: u64, number: &mut [u8; 64]) -> usize
     width as usize
 }
 
-// The walk of weight 0 at step v, in the columns of the members of a map.
-fn seed_row(d: &mut [[u32; 64]], number: &[u8; 64], map: u64, v: usize)
+// The cell of the walk that weighs a least.
+fn least_cell(least: u16) -> u32
+    ensures { λ r. ⌜ value r ≡ suc least ⌝ }
+{
+    walk_cells::WEIGHTLESS + (least as u32)
+}
+
+// The walks that weigh the leasts of their anchors at step v, in the columns of the members of a map.
+fn seed_row(d: &mut [[u32; 64]], number: &[u8; 64], leasts: &[u16; 64], map: u64, v: usize)
     requires { ⌜ (v < length (now d)) × Square (length (now d)) (now d) ⌝ }
-    ensures { λ r. ⌜ Seeded (now (number .entry)) (λ w a. (w ≡ v) × (a < 64) × (test-bit map a ≡ true)) (now (d .entry)) (now (d .exit)) ⌝ }
+    ensures { λ r. ⌜ Seeded (leasts-in (now (leasts .entry))) (now (number .entry)) (λ w a. (w ≡ v) × (a < 64) × (test-bit map a ≡ true)) (now (d .entry)) (now (d .exit)) ⌝ }
 {
     let mut left = map;
     while left != 0 {
         let a = data_bits::lowest(left);
         let k = data_indices::place(number[a]);
-        d[v][k] = walk_cells::WEIGHTLESS;
+        let first = least_cell(leasts[a]);
+        d[v][k] = first;
         left = data_bits::without_lowest(left);
     }
 }
 
 // The same at every step below n, by its row of sets.
-fn seed_rows(d: &mut [[u32; 64]], number: &[u8; 64], sets: &[u64; 64], n: usize)
+fn seed_rows(d: &mut [[u32; 64]], number: &[u8; 64], leasts: &[u16; 64], sets: &[u64; 64], n: usize)
     requires { ⌜ Rows n (now d) ⌝ }
-    ensures { λ r. ⌜ Seeded (now (number .entry)) (λ w a. (w < n) × (a < 64) × (row-bit (now (sets .entry)) w a ≡ true)) (now (d .entry)) (now (d .exit)) ⌝ }
+    ensures { λ r. ⌜ Seeded (leasts-in (now (leasts .entry))) (now (number .entry)) (λ w a. (w < n) × (a < 64) × (row-bit (now (sets .entry)) w a ≡ true)) (now (d .entry)) (now (d .exit)) ⌝ }
 {
     let mut v = 0;
     while v < n {
-        seed_row(d, number, sets[v], v);
+        seed_row(d, number, leasts, sets[v], v);
         v += 1;
     }
 }
@@ -162,15 +172,16 @@ pub fn seed(
     d: &mut [[u32; 64]],
     number: &mut [u8; 64],
     es: &[u64],
+    leasts: &[u16; 64],
     sets: &[u64; 64],
     n: usize,
 ) -> usize
     requires { ⌜ Seedable n (now es) (now number) (now d) ⌝ }
-    ensures { λ r. ⌜ Prepared (members (graph (now (es .entry)))) (now (sets .entry)) n r (now (number .exit)) (length (now (d .entry))) (now (d .exit)) ⌝ }
+    ensures { λ r. ⌜ Prepared (leasts-in (now (leasts .entry))) (members (graph (now (es .entry)))) (now (sets .entry)) n r (now (number .exit)) (length (now (d .entry))) (now (d .exit)) ⌝ }
 {
     let all = all_members(sets, n);
     let width = number_members(all, number);
-    seed_rows(d, number, sets, n);
+    seed_rows(d, number, leasts, sets, n);
     seed_edges(d, number, es);
     width
 }

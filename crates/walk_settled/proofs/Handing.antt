@@ -55,13 +55,13 @@ module _ (test : ℕ → Bool) where
       go (inr q) = both-ways q f
 
 -- The tests of the edges and of the maps are that of the list: the waits in it are the bits of the maps.
-module _ (d : List (List ℕ)) (n : ℕ) (es maps : List ℕ) where
+module _ (d : List (List ℕ)) (n : ℕ) (least : ℕ → ℕ) (es maps : List ℕ) where
   abbrev both : List Edge
-  both = graph es ++ wait-edges n maps
+  both = graph es ++ wait-edges n least maps
 
   -- The edge of a wait of i for a, and whether the map of i has it.
   abbrev pair : ℕ → ℕ → Edge
-  pair i a = wait-edge (record { anchor = a; target = i })
+  pair i a = wait-edge least (record { anchor = a; target = i })
 
   abbrev stands : ℕ → ℕ → Bool
   stands i a = test-bit (getD maps i 0) a
@@ -69,32 +69,32 @@ module _ (d : List (List ℕ)) (n : ℕ) (es maps : List ℕ) where
   pub edges-fail : all (handed-on d) (graph es) ≡ false → all (handed-on d) both ≡ false
   edges-fail f =
       not-passing (all (handed-on d) both)
-      (λ t. both-ways (all-by (handed-on d) (graph es) (λ e m. all-each (handed-on d) both t e (Memᴰ·append-left (wait-edges n maps) m))) f)
+      (λ t. both-ways (all-by (handed-on d) (graph es) (λ e m. all-each (handed-on d) both t e (Memᴰ·append-left (wait-edges n least maps) m))) f)
 
-  pub both-pass : n ≤ 64 → all (handed-on d) (graph es) ≡ true → Within n maps → all-below (λ i. waits-handed-on d (getD maps i 0) i) n ≡ all (handed-on d) both
+  pub both-pass : n ≤ 64 → all (handed-on d) (graph es) ≡ true → Within n maps → all-below (λ i. waits-handed-on d least (getD maps i 0) i) n ≡ all (handed-on d) both
   both-pass few edges within = same-test _ _ to from
     where
-      waits : all-below (λ i. waits-handed-on d (getD maps i 0) i) n ≡ true → (e : Edge) → WaitBit n maps e → handed-on d e ≡ true
+      waits : all-below (λ i. waits-handed-on d least (getD maps i 0) i) n ≡ true → (e : Edge) → WaitBit n least maps e → handed-on d e ≡ true
       waits t e w = go (or-split (not (stands (w .target) (w .anchor))) (handed-on d (pair (w .target) (w .anchor))) (all-below-each _ 64 (all-below-each _ n t (w .target) (w .target-below)) (w .anchor) (omega (arith, w .anchor-below))))
         where
           go : (not (stands (w .target) (w .anchor)) ≡ true) ⊎ (handed-on d (pair (w .target) (w .anchor)) ≡ true) → handed-on d e ≡ true
           go (inl q) = absurd (false≢true (ap not (sym (w .stands)) ∙ q))
           go (inr q) = ap (handed-on d) (w .same) ∙ q
 
-      to : all-below (λ i. waits-handed-on d (getD maps i 0) i) n ≡ true → all (handed-on d) both ≡ true
+      to : all-below (λ i. waits-handed-on d least (getD maps i 0) i) n ≡ true → all (handed-on d) both ≡ true
       to t = all-by (handed-on d) both (λ e m. go e (List·Memᴰ·append-cases (graph es) m))
         where
-          go : (e : Edge) → List·Memᴰ e (graph es) ⊎ List·Memᴰ e (wait-edges n maps) → handed-on d e ≡ true
+          go : (e : Edge) → List·Memᴰ e (graph es) ⊎ List·Memᴰ e (wait-edges n least maps) → handed-on d e ≡ true
           go e (inl m) = all-each (handed-on d) (graph es) edges e m
-          go e (inr m) = waits t e (wait-edges-only n maps e m)
+          go e (inr m) = waits t e (wait-edges-only n least maps e m)
 
       listed : (i a : ℕ) → i < n → stands i a ≡ true → List·Memᴰ (pair i a) both
       listed i a b s =
           Memᴰ·append-right
           (graph es)
-          (wait-edges-has n maps (pair i a) (record { anchor = a; target = i; anchor-below = within i a s; target-below = b; stands = s; same = refl }))
+          (wait-edges-has n least maps (pair i a) (record { anchor = a; target = i; anchor-below = within i a s; target-below = b; stands = s; same = refl }))
 
-      from : all (handed-on d) both ≡ true → all-below (λ i. waits-handed-on d (getD maps i 0) i) n ≡ true
+      from : all (handed-on d) both ≡ true → all-below (λ i. waits-handed-on d least (getD maps i 0) i) n ≡ true
       from t = all-below-by _ n (λ i b. all-below-by _ 64 (λ a c. go i a b (bool-cases (stands i a))))
         where
           go : (i a : ℕ) → i < n → (stands i a ≡ true) ⊎ (stands i a ≡ false) → (not (stands i a) || handed-on d (pair i a)) ≡ true

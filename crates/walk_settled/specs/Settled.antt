@@ -22,8 +22,8 @@ abbrev pub handed-on : List (List ℕ) → Edge → Bool
 handed-on d e = leb (cut-hand (source-column d) e) (source-column d (e .to))
 
 -- Every wait of step i has, where bit a of its map stands for a wait for a.
-abbrev pub waits-handed-on : List (List ℕ) → ℕ → ℕ → Bool
-waits-handed-on d map i = all-below (λ a. not (test-bit map a) || handed-on d (wait-edge (record { anchor = a; target = i }))) 64
+abbrev pub waits-handed-on : List (List ℕ) → (ℕ → ℕ) → ℕ → ℕ → Bool
+waits-handed-on d least map i = all-below (λ a. not (test-bit map a) || handed-on d (wait-edge least (record { anchor = a; target = i }))) 64
 
 -- The fields of an edge, over a table that has rows for all steps.
 pub record Fields (from to gain : ℕ) (d : List (List ℕ)) : Type 0 where

@@ -10,7 +10,7 @@ ghost use lib.Dec.{leb};
 ghost use lib.ListN.{getD};
 ghost use Rattle.definitions.specs.Basics.{all, all-below};
 ghost use Rattle.definitions.specs.Rounds.{extend};
-ghost use Rattle.data_edges.specs.Serial.{Within, wait-edges};
+ghost use Rattle.data_edges.specs.Serial.{Within, leasts-in, wait-edges};
 ghost use Rattle.data_edges.specs.Words.{graph, unpack};
 ghost use Rattle.walk_cells.specs.Cells.{largest};
 ghost use Rattle.walk_cells.specs.Tables.{Square, entry};
@@ -52,15 +52,23 @@ fn settled_edges(d: &[[u32; 64]; 64], es: &[u64]) -> bool
     true
 }
 
+// Whether a wait of step `to` has, by the least of the step that it waits for.
+fn handed_wait(d: &[[u32; 64]; 64], from: usize, to: usize, least: u16) -> bool
+    requires { ⌜ (from < 64) × (to < 64) × Square 64 (now d) ⌝ }
+    ensures { λ r. ⌜ r ≡ leb (min (extend (entry (now (d .entry)) from 0) least 0) largest) (entry (now (d .entry)) to 0) ⌝ }
+{
+    handed(d, from, to, least as u64, 0)
+}
+
 // Whether every wait of step i has, by the map of what it waits for.
-fn settled_row(d: &[[u32; 64]; 64], map: u64, i: usize) -> bool
+fn settled_row(d: &[[u32; 64]; 64], leasts: &[u16; 64], map: u64, i: usize) -> bool
     requires { ⌜ (i < 64) × Square 64 (now d) ⌝ }
-    ensures { λ r. ⌜ r ≡ waits-handed-on (now (d .entry)) map i ⌝ }
+    ensures { λ r. ⌜ r ≡ waits-handed-on (now (d .entry)) (leasts-in (now (leasts .entry))) map i ⌝ }
 {
     let mut left = map;
     while left != 0 {
         let a = data_bits::lowest(left);
-        if !handed(d, a, i, 0, 0) {
+        if !handed_wait(d, a, i, leasts[a]) {
             return false;
         }
         left = data_bits::without_lowest(left);
@@ -69,13 +77,13 @@ fn settled_row(d: &[[u32; 64]; 64], map: u64, i: usize) -> bool
 }
 
 // Whether every wait of the steps below n has.
-fn settled_waits(d: &[[u32; 64]; 64], maps: &[u64; 64], n: usize) -> bool
+fn settled_waits(d: &[[u32; 64]; 64], leasts: &[u16; 64], maps: &[u64; 64], n: usize) -> bool
     requires { ⌜ (n ≤ 64) × Square 64 (now d) ⌝ }
-    ensures { λ r. ⌜ r ≡ all-below (λ i. waits-handed-on (now (d .entry)) (getD (now (maps .entry)) i 0) i) n ⌝ }
+    ensures { λ r. ⌜ r ≡ all-below (λ i. waits-handed-on (now (d .entry)) (leasts-in (now (leasts .entry))) (getD (now (maps .entry)) i 0) i) n ⌝ }
 {
     let mut i = 0;
     while i < n {
-        if !settled_row(d, maps[i], i) {
+        if !settled_row(d, leasts, maps[i], i) {
             return false;
         }
         i += 1;
@@ -84,12 +92,18 @@ fn settled_waits(d: &[[u32; 64]; 64], maps: &[u64; 64], n: usize) -> bool
 }
 
 // Whether every edge and every wait that maps hold has handed on.
-pub fn settled(d: &[[u32; 64]; 64], es: &[u64], maps: &[u64; 64], n: usize) -> bool
+pub fn settled(
+    d: &[[u32; 64]; 64],
+    es: &[u64],
+    leasts: &[u16; 64],
+    maps: &[u64; 64],
+    n: usize,
+) -> bool
     requires { ⌜ (n ≤ 64) × Square 64 (now d) ⌝ }
-    ensures { λ r. ⌜ (Within n (now (maps .entry)) → r ≡ all (handed-on (now (d .entry))) (graph (now (es .entry)) ++ wait-edges n (now (maps .entry)))) ⌝ }
+    ensures { λ r. ⌜ (Within n (now (maps .entry)) → r ≡ all (handed-on (now (d .entry))) (graph (now (es .entry)) ++ wait-edges n (leasts-in (now (leasts .entry))) (now (maps .entry)))) ⌝ }
 {
     if !settled_edges(d, es) {
         return false;
     }
-    settled_waits(d, maps, n)
+    settled_waits(d, leasts, maps, n)
 }

@@ -93,53 +93,53 @@ module _ {number : List ℕ} {u : ℕ} {x : ℕ → ℕ} {d₀ : List (List ℕ)
   listed-as E G i j H = handed-as (λ a e b. (i e (b .0), b .1)) (λ a e b. (j e (b .0), b .1)) H
 
 -- The loop over what waits for u: those that are left have not been handed to.
-pub record Told (u m left : ℕ) (e : Edge) : Type 0 where
+pub record Told (least u m left : ℕ) (e : Edge) : Type 0 where
   pub target : ℕ
   pub waits : test-bit m target ≡ true
   pub told : test-bit left target ≡ false
-  pub same : e ≡ wait-edge (record { anchor = u; target = target })
+  pub same : e ≡ wait-edge (λ a. least) (record { anchor = u; target = target })
 
 -- A turn tells one more.
-module _ {waiting u : ℕ} (left left′ i : ℕ) (leaves : (j : ℕ) → test-bit left′ j ≡ (test-bit left j && not (eqb j i))) where
-  pub told-before : Told u waiting left ⊑ Told u waiting left′
+module _ {least waiting u : ℕ} (left left′ i : ℕ) (leaves : (j : ℕ) → test-bit left′ j ≡ (test-bit left j && not (eqb j i))) where
+  pub told-before : Told least u waiting left ⊑ Told least u waiting left′
   told-before e t =
       record { target = t .target; waits = t .waits; told = leaves (t .target) ∙ ap (λ (x : Bool). x && not (eqb (t .target) i)) (t .told); same = t .same }
 
-  pub told-new : ((j : ℕ) → test-bit left j ≡ true → test-bit waiting j ≡ true) → test-bit left i ≡ true → Only (wait-edge (record { anchor = u; target = i })) ⊑ Told u waiting left′
+  pub told-new : ((j : ℕ) → test-bit left j ≡ true → test-bit waiting j ≡ true) → test-bit left i ≡ true → Only (wait-edge (λ a. least) (record { anchor = u; target = i })) ⊑ Told least u waiting left′
   told-new within member e o = record { target = i; waits = within i member; told = leaves i ∙ gone (test-bit left i) (eqb i i) (eq-eqb i i refl); same = o }
 
-  by : (e : Edge) (t : Told u waiting left′ e) → (t .target ≡ i) ⊎ (t .target ≢ i) → Told u waiting left e ⊎ Only (wait-edge (record { anchor = u; target = i })) e
-  by e t (inl q) = inr (t .same ∙ ap (λ (x : ℕ). wait-edge (record { anchor = u; target = x })) q)
+  by : (e : Edge) (t : Told least u waiting left′ e) → (t .target ≡ i) ⊎ (t .target ≢ i) → Told least u waiting left e ⊎ Only (wait-edge (λ a. least) (record { anchor = u; target = i })) e
+  by e t (inl q) = inr (t .same ∙ ap (λ (x : ℕ). wait-edge (λ a. least) (record { anchor = u; target = x })) q)
   by e t (inr q) =
       inl (record { target = t .target; waits = t .waits; told = sym (stays (test-bit left (t .target)) (eqb (t .target) i) (ne-eqb (t .target) i q)) ∙ sym (leaves (t .target)) ∙ t .told; same = t .same })
 
-  pub told-split : (e : Edge) → Told u waiting left′ e → Told u waiting left e ⊎ Only (wait-edge (record { anchor = u; target = i })) e
+  pub told-split : (e : Edge) → Told least u waiting left′ e → Told least u waiting left e ⊎ Only (wait-edge (λ a. least) (record { anchor = u; target = i })) e
   told-split e t = by e t (same-or-not (t .target) i)
 
 -- Once none is left, all are told.
-pub told-waits : {waiting u left : ℕ} → Told u waiting left ⊑ WaitsFor u waiting
+pub told-waits : {least waiting u left : ℕ} → Told least u waiting left ⊑ WaitsFor least u waiting
 told-waits e t = record { target = t .target; waits = t .waits; same = t .same }
 
-pub waits-told : {waiting u : ℕ} (left : ℕ) → left ≡ 0 → WaitsFor u waiting ⊑ Told u waiting left
+pub waits-told : {least waiting u : ℕ} (left : ℕ) → left ≡ 0 → WaitsFor least u waiting ⊑ Told least u waiting left
 waits-told left z e w =
     record { target = w .target; waits = w .waits; told = ap (λ (x : ℕ). test-bit x (w .target)) z ∙ test-zero (w .target); same = w .same }
 
-module _ (waiting u : ℕ) (number : List ℕ) (x : ℕ → ℕ) (d₀ : List (List ℕ)) (m₀ : ℕ) where
-  pub told-start : Square (length d₀) d₀ → HandedAll (λ a. Told u waiting waiting) number u x d₀ d₀ m₀ m₀
+module _ (least waiting u : ℕ) (number : List ℕ) (x : ℕ → ℕ) (d₀ : List (List ℕ)) (m₀ : ℕ) where
+  pub told-start : Square (length d₀) d₀ → HandedAll (λ a. Told least u waiting waiting) number u x d₀ d₀ m₀ m₀
   told-start S = handed-none d₀ m₀ S (λ a e t o. both-ways (t .waits) (t .told))
 
   -- A wait is never late, so it is for every anchor.
   pub told-turn : (d d′ : List (List ℕ)) (m m′ left left′ i : ℕ) → ((j : ℕ) → test-bit left j ≡ true → test-bit waiting j ≡ true) → test-bit left i ≡ true
-      → ((j : ℕ) → test-bit left′ j ≡ (test-bit left j && not (eqb j i))) → HandedAll (λ a. Told u waiting left) number u x d₀ d m₀ m
-      → HandedAll (λ a. UsableFrom (Only (wait-edge (record { anchor = u; target = i }))) a) number u x d d′ m m′ → HandedAll (λ a. Told u waiting left′) number u x d₀ d′ m₀ m′
+      → ((j : ℕ) → test-bit left′ j ≡ (test-bit left j && not (eqb j i))) → HandedAll (λ a. Told least u waiting left) number u x d₀ d m₀ m
+      → HandedAll (λ a. UsableFrom (Only (wait-edge (λ a. least) (record { anchor = u; target = i }))) a) number u x d d′ m m′ → HandedAll (λ a. Told least u waiting left′) number u x d₀ d′ m₀ m′
   told-turn d d′ m m′ left left′ i within member leaves H K =
       handed-all refl (λ a. told-before left left′ i leaves) (λ a e o. told-new left left′ i leaves within member e (o .0)) (λ a e t o. usable a e (told-split left left′ i leaves e t)) H K
     where
-      usable : (a : ℕ) (e : Edge) → Told u waiting left e ⊎ Only (wait-edge (record { anchor = u; target = i })) e → Told u waiting left e ⊎ UsableFrom (Only (wait-edge (record { anchor = u; target = i }))) a e
+      usable : (a : ℕ) (e : Edge) → Told least u waiting left e ⊎ Only (wait-edge (λ a. least) (record { anchor = u; target = i })) e → Told least u waiting left e ⊎ UsableFrom (Only (wait-edge (λ a. least) (record { anchor = u; target = i }))) a e
       usable a e (inl t) = inl t
       usable a e (inr o) = inr (o, λ l. both-ways (l .0) (ap (λ (y : Edge). y .late) o))
 
-  pub told-end : (d : List (List ℕ)) (m left : ℕ) → left ≡ 0 → HandedAll (λ a. Told u waiting left) number u x d₀ d m₀ m → HandedAll (λ a. WaitsFor u waiting) number u x d₀ d m₀ m
+  pub told-end : (d : List (List ℕ)) (m left : ℕ) → left ≡ 0 → HandedAll (λ a. Told least u waiting left) number u x d₀ d m₀ m → HandedAll (λ a. WaitsFor least u waiting) number u x d₀ d m₀ m
   told-end d m left z H = handed-as (λ a. told-waits) (λ a. waits-told left z) H
 
 -- What is left of a map with a member taken out was in it.

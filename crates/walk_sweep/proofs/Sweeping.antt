@@ -153,30 +153,30 @@ free-both {E} {i} {j} {c} {r} few P Q =
     later n b R = record { ends = R .ends; gains = R .gains; room = omega (arith, R .room) }
 
 -- The same for all columns.
-pub swept-then : {es waiting number : List ℕ} {width : ℕ} {On Then All : ℕ → Type 0} {i j c : ℕ} {d d′ d″ : List (List ℕ)} {m m′ m″ : ℕ} → ((v : ℕ) → All v → On v ⊎ Then v) → i + j ≤ c
-    → SweptBy es waiting number width On i d d′ m m′ → SweptBy es waiting number width Then j d′ d″ m′ m″ → SweptBy es waiting number width All c d d″ m m″
+pub swept-then : {es : List ℕ} {least : ℕ → ℕ} {waiting number : List ℕ} {width : ℕ} {On Then All : ℕ → Type 0} {i j c : ℕ} {d d′ d″ : List (List ℕ)} {m m′ m″ : ℕ} → ((v : ℕ) → All v → On v ⊎ Then v) → i + j ≤ c
+    → SweptBy es least waiting number width On i d d′ m m′ → SweptBy es least waiting number width Then j d′ d″ m′ m″ → SweptBy es least waiting number width All c d d″ m m″
 swept-then split few P Q =
     record { square = square-then (P .square) (Q .square); each = λ anchor N k q. swept-both split (P .each anchor N k q) (Q .each anchor N k q); free = λ anchor N k q. free-both few (P .free anchor N k q) (Q .free anchor N k q) }
 
-pub swept-none : {es waiting number : List ℕ} {width : ℕ} {On : ℕ → Type 0} {c : ℕ} {d : List (List ℕ)} {m : ℕ} → Square (length d) d → ((v : ℕ) → On v → test-bit m v ≡ false) → SweptBy es waiting number width On c d d m m
+pub swept-none : {es : List ℕ} {least : ℕ → ℕ} {waiting number : List ℕ} {width : ℕ} {On : ℕ → Type 0} {c : ℕ} {d : List (List ℕ)} {m : ℕ} → Square (length d) d → ((v : ℕ) → On v → test-bit m v ≡ false) → SweptBy es least waiting number width On c d d m m
 swept-none S none = record { square = S; each = λ anchor N k q. swept-idle none; free = λ anchor N k q. free-idle }
 
 -- A visit: the edges out of u, and then what waits for it, with the cells that row u had.
 module _
-    (es waiting number row : List ℕ) (u own width top : ℕ) (d d′ d″ : List (List ℕ)) (m rest m′ m″ : ℕ) (trim : Trimmed (getD d u []) width own)
+    (es : List ℕ) (least : ℕ → ℕ) (waiting number row : List ℕ) (u own width top : ℕ) (d d′ d″ : List (List ℕ)) (m rest m′ m″ : ℕ) (trim : Trimmed (getD d u []) width own)
     (take : Taken (getD d u []) row own top) (bits : (v : ℕ) → test-bit rest v ≡ (test-bit m v && not (eqb v u)))
     (H : HandedAll (λ a. UsableFrom (members (graph es)) a) number u (lent row own) d d′ rest m′)
-    (K : HandedAll (λ a. WaitsFor u (getD waiting u 0)) number u (lent row own) d′ d″ m′ m″) where
-  waits-own : (a : ℕ) (e : Edge) → WaitsFor u (getD waiting u 0) e → Both es waiting a e
+    (K : HandedAll (λ a. WaitsFor (least u) u (getD waiting u 0)) number u (lent row own) d′ d″ m′ m″) where
+  waits-own : (a : ℕ) (e : Edge) → WaitsFor (least u) u (getD waiting u 0) e → Both es least waiting a e
   waits-own a e w =
       let o : e .from ≡ u = ap (λ (x : Edge). x .from) (w .same) in
-      inr (subst (λ (x : ℕ). WaitsFor x (getD waiting x 0) e) (sym o) w)
+      inr (subst (λ (x : ℕ). WaitsFor (least x) x (getD waiting x 0) e) (sym o) w)
 
-  split : (a : ℕ) (e : Edge) → Both es waiting a e → e .from ≡ u → UsableFrom (members (graph es)) a e ⊎ WaitsFor u (getD waiting u 0) e
+  split : (a : ℕ) (e : Edge) → Both es least waiting a e → e .from ≡ u → UsableFrom (members (graph es)) a e ⊎ WaitsFor (least u) u (getD waiting u 0) e
   split a e (inl i) o = inl i
-  split a e (inr w) o = inr (subst (λ (x : ℕ). WaitsFor x (getD waiting x 0) e) o w)
+  split a e (inr w) o = inr (subst (λ (x : ℕ). WaitsFor (least x) x (getD waiting x 0) e) o w)
 
-  whole : HandedAll (Both es waiting) number u (lent row own) d d″ rest m″
+  whole : HandedAll (Both es least waiting) number u (lent row own) d d″ rest m″
   whole = handed-all refl (λ a e i. inl i) waits-own split H K
 
   lends : (k : ℕ) → k < width → column d k u ≤ roof → (k < own) ⊎ (own ≤ k) → lent row own k ≡ column d k u
@@ -186,19 +186,19 @@ module _
   others : (v : ℕ) → v ≢ u → test-bit rest v ≡ test-bit m v
   others v o = bits v ∙ stays (test-bit m v) (eqb v u) (ne-eqb v u o)
 
-  pub visited : SweptBy es waiting number width (λ v. v ≡ u) 1 d d″ m m″
+  pub visited : SweptBy es least waiting number width (λ v. v ≡ u) 1 d d″ m m″
   visited =
       record { square = whole .square; each = λ anchor N k q. swept-visit others (whole .each width anchor N k q) (λ small. lends k q small (below-or-not k own)); free = λ anchor N k q. free-visit others (whole .each width anchor N k q) (λ small. lends k q small (below-or-not k own)) }
 
 -- Fewer steps, and more visits.
-pub swept-part : {es waiting number : List ℕ} {width : ℕ} {On All : ℕ → Type 0} {b c : ℕ} {d d′ : List (List ℕ)} {m m′ : ℕ} → ((v : ℕ) → All v → On v) → b ≤ c → SweptBy es waiting number width On b d d′ m m′ → SweptBy es waiting number width All c d d′ m m′
+pub swept-part : {es : List ℕ} {least : ℕ → ℕ} {waiting number : List ℕ} {width : ℕ} {On All : ℕ → Type 0} {b c : ℕ} {d d′ : List (List ℕ)} {m m′ : ℕ} → ((v : ℕ) → All v → On v) → b ≤ c → SweptBy es least waiting number width On b d d′ m m′ → SweptBy es least waiting number width All c d d′ m m′
 swept-part i few P =
     record { square = P .square; each = λ anchor N k q. let p = P .each anchor N k q in record { up = p .up; under = p .under; covers = p .covers; hands = λ t S c e m o. p .hands t S c e m (i (e .from) o) }; free = λ anchor N k q. free-both {j = 0} (omega arith) (P .free anchor N k q) free-idle }
 
 -- The loop of a sweep of c visits: once no more are left than there are steps, they are those of the steps from the last to the first.
-pub swept-down : {es waiting number : List ℕ} {width : ℕ} (n c k u : ℕ) {d d′ d″ : List (List ℕ)} {m m′ m″ : ℕ} → (k ≤ n → u ≡ k - 1) → 1 ≤ k → k ≤ c
-    → SweptBy es waiting number width (λ v. (k ≤ v) × (v < n)) (c - k) d d′ m m′ → SweptBy es waiting number width (λ v. v ≡ u) 1 d′ d″ m′ m″
-    → SweptBy es waiting number width (λ v. (k - 1 ≤ v) × (v < n)) (c - (k - 1)) d d″ m m″
+pub swept-down : {es : List ℕ} {least : ℕ → ℕ} {waiting number : List ℕ} {width : ℕ} (n c k u : ℕ) {d d′ d″ : List (List ℕ)} {m m′ m″ : ℕ} → (k ≤ n → u ≡ k - 1) → 1 ≤ k → k ≤ c
+    → SweptBy es least waiting number width (λ v. (k ≤ v) × (v < n)) (c - k) d d′ m m′ → SweptBy es least waiting number width (λ v. v ≡ u) 1 d′ d″ m′ m″
+    → SweptBy es least waiting number width (λ v. (k - 1 ≤ v) × (v < n)) (c - (k - 1)) d d″ m m″
 swept-down n c k u last some few P Q = swept-then (λ v o. by v o (down-split n k v o)) (omega arith) P Q
   where
     by : (v : ℕ) → (k - 1 ≤ v) × (v < n) → ((k ≤ v) × (v < n)) ⊎ (v ≡ k - 1) → ((k ≤ v) × (v < n)) ⊎ (v ≡ u)
@@ -206,7 +206,7 @@ swept-down n c k u last some few P Q = swept-then (λ v o. by v o (down-split n 
     by v o (inr h) = inr (h ∙ sym (last (omega (arith, o .1))))
 
 -- Where no mark is left, every step has handed on.
-pub swept-all : {es waiting number : List ℕ} {width : ℕ} {On All : ℕ → Type 0} {i c : ℕ} {d d′ : List (List ℕ)} {m m′ : ℕ} → m′ ≡ 0 → i ≤ c → SweptBy es waiting number width On i d d′ m m′ → SweptBy es waiting number width All c d d′ m m′
+pub swept-all : {es : List ℕ} {least : ℕ → ℕ} {waiting number : List ℕ} {width : ℕ} {On All : ℕ → Type 0} {i c : ℕ} {d d′ : List (List ℕ)} {m m′ : ℕ} → m′ ≡ 0 → i ≤ c → SweptBy es least waiting number width On i d d′ m m′ → SweptBy es least waiting number width All c d d′ m m′
 swept-all {All = All} z few P =
     swept-then {Then = All} {j = 0} (λ v x. inr x) (omega arith) P (swept-none (square-own (P .square)) (λ v x. ap (λ (y : ℕ). test-bit y v) z ∙ test-zero v))
 

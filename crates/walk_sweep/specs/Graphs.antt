@@ -1,4 +1,5 @@
 -- The edges that a sweep goes over for anchor a: those of a list of words that walks from its end may use, and the waits that maps hold, bit i of map b where i waits for b.
+-- A wait gains the least of what it waits for.
 use mathlib.Core.Path.{_≡_}
 use mathlib.Core.Bool.{true}
 use mathlib.Core.Logic.{_⊎_}
@@ -17,8 +18,8 @@ use Rattle.walk_lift.specs.Lifts.{Ready}
 use Rattle.walk_edge.specs.Columns.{Numbers, Swept, WaitsFor, column}
 use Rattle.walk_sweep.specs.Free.{Free}
 
-abbrev pub Both : List ℕ → List ℕ → ℕ → Graph
-Both es waiting a e = UsableFrom (members (graph es)) a e ⊎ WaitsFor (e .from) (getD waiting (e .from) 0) e
+abbrev pub Both : List ℕ → (ℕ → ℕ) → List ℕ → ℕ → Graph
+Both es least waiting a e = UsableFrom (members (graph es)) a e ⊎ WaitsFor (least (e .from)) (e .from) (getD waiting (e .from) 0) e
 
 -- Edges with their lists, over a table that has a row for each end.
 pub record Linked (es lists : List ℕ) (d : List (List ℕ)) : Type 0 where
@@ -69,10 +70,10 @@ pub record Next (k n left : ℕ) : Type 0 where
   pub marked : 0 < left
 
 -- Steps hand on in every numbered column, each in the graph of its anchor, by at most c visits.
-pub record SweptBy (es waiting number : List ℕ) (width : ℕ) (On : ℕ → Type 0) (c : ℕ) (d d′ : List (List ℕ)) (m m′ : ℕ) : Type 0 where
+pub record SweptBy (es : List ℕ) (least : ℕ → ℕ) (waiting number : List ℕ) (width : ℕ) (On : ℕ → Type 0) (c : ℕ) (d d′ : List (List ℕ)) (m m′ : ℕ) : Type 0 where
   pub square : Square (length d) d′
-  pub each : (anchor : ℕ → ℕ) → Numbers width number anchor → (k : ℕ) → k < width → Swept (Both es waiting (anchor k)) On (column d k) (column d′ k) (test-bit m) (test-bit m′)
-  pub free : (anchor : ℕ → ℕ) → Numbers width number anchor → (k : ℕ) → k < width → Free (Both es waiting (anchor k)) c (column d k) (column d′ k) (test-bit m) (test-bit m′)
+  pub each : (anchor : ℕ → ℕ) → Numbers width number anchor → (k : ℕ) → k < width → Swept (Both es least waiting (anchor k)) On (column d k) (column d′ k) (test-bit m) (test-bit m′)
+  pub free : (anchor : ℕ → ℕ) → Numbers width number anchor → (k : ℕ) → k < width → Free (Both es least waiting (anchor k)) c (column d k) (column d′ k) (test-bit m) (test-bit m′)
 
 -- The visits of one sweep: by the order so many that mostly nothing is left, and then one of each step. More by the order cost more than they bring where returns are many.
 abbrev pub visits : ℕ → ℕ

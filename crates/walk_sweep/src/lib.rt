@@ -8,8 +8,10 @@ ghost use mathlib.Core.List.{List};
 ghost use Prim.Native.Nat.{ℕ, _-_, _<_, _≤_};
 ghost use lib.ListN.{length};
 ghost use Rattle.definitions.specs.Links.{UsableFrom, members};
+ghost use Rattle.data_edges.specs.Serial.{leasts-in};
 ghost use Rattle.data_edges.specs.Words.{graph};
-ghost use Rattle.walk_lift.specs.Lifts.{lent};
+ghost use Rattle.walk_lift.specs.Lifts.{Raised, lent};
+ghost use Rattle.walk_cells.specs.Tables.{Target};
 ghost use Rattle.walk_edge.specs.Columns.{HandedAll, WaitsFor};
 ghost use Rattle.walk_sweep.specs.Graphs.{Next, Pushable, Sweepable, SweptBy, Tellable, Visitable, visits};
 
@@ -37,16 +39,41 @@ fn push_row(
     left
 }
 
-// What waits for u, by a map, is handed the row as it is.
-fn push_waits(d: &mut [[u32; 64]], row: &[u32; 64], marks: u64, waiting: u64, width: usize) -> u64
+// A row that waits is handed another, later by a least. Most steps have none: what adds nothing is made into faster code.
+fn raise_by(
+    d: &mut [[u32; 64]],
+    row: &[u32; 64],
+    to: usize,
+    least: u16,
+    width: usize,
+    marks: u64,
+) -> u64
+    requires { ⌜ (to < 64) × Target to width (now d) ⌝ }
+    ensures { λ r. ⌜ Raised (λ k. k < width) to least (now (row .entry)) (now (d .entry)) (now (d .exit)) marks r ⌝ }
+{
+    if least == 0 {
+        return raise_row(d, row, to, 0, width, marks);
+    }
+    raise_row(d, row, to, least as u32, width, marks)
+}
+
+// What waits for u, by a map, is handed the row, later by the least of u.
+fn push_waits(
+    d: &mut [[u32; 64]],
+    row: &[u32; 64],
+    marks: u64,
+    waiting: u64,
+    least: u16,
+    width: usize,
+) -> u64
     requires { ⌜ Tellable waiting width (now row) (now d) ⌝ }
-    ensures { λ r. ⌜ ((u : ℕ) (number : List ℕ) → HandedAll (λ a. WaitsFor u waiting) number u (lent (now (row .entry)) width) (now (d .entry)) (now (d .exit)) marks r) ⌝ }
+    ensures { λ r. ⌜ ((u : ℕ) (number : List ℕ) → HandedAll (λ a. WaitsFor least u waiting) number u (lent (now (row .entry)) width) (now (d .entry)) (now (d .exit)) marks r) ⌝ }
 {
     let mut left = marks;
     let mut todo = waiting;
     while todo != 0 {
         let i = data_bits::lowest(todo);
-        left = raise_row(d, row, i, 0, width, left);
+        left = raise_by(d, row, i, least, width, left);
         todo = data_bits::without_lowest(todo);
     }
     left
@@ -59,13 +86,14 @@ fn hand_on(
     marks: u64,
     es: &[u64],
     lists: &[u16],
+    leasts: &[u16; 64],
     waiting: &[u64; 64],
     u: usize,
     number: &[u8; 64],
     width: usize,
 ) -> u64
     requires { ⌜ Visitable u width (now es) (now lists) (now waiting) (now row) (now d) ⌝ }
-    ensures { λ r. ⌜ SweptBy (now (es .entry)) (now (waiting .entry)) (now (number .entry)) width (λ v. v ≡ u) 1 (now (d .entry)) (now (d .exit)) marks r × (length (now (row .exit)) ≡ 64) ⌝ }
+    ensures { λ r. ⌜ SweptBy (now (es .entry)) (leasts-in (now (leasts .entry))) (now (waiting .entry)) (now (number .entry)) width (λ v. v ≡ u) 1 (now (d .entry)) (now (d .exit)) marks r × (length (now (row .exit)) ≡ 64) ⌝ }
 {
     if !data_bits::has(marks, u) {
         return marks;
@@ -74,7 +102,7 @@ fn hand_on(
     let own = extent(&d[u], width);
     let top = take(d, u, row, own);
     let left = push_row(d, row, rest, es, lists, u, top, number, own);
-    push_waits(d, row, left, waiting[u], own)
+    push_waits(d, row, left, waiting[u], leasts[u], own)
 }
 
 // The places of steps, put to a map of places.
@@ -127,6 +155,7 @@ pub fn sweep(
     marks: u64,
     es: &[u64],
     lists: &[u16],
+    leasts: &[u16; 64],
     waiting: &[u64; 64],
     order: &[u8; 64],
     place: &[u8; 64],
@@ -135,7 +164,7 @@ pub fn sweep(
     n: usize,
 ) -> u64
     requires { ⌜ Sweepable n width (now es) (now lists) (now waiting) (now d) ⌝ }
-    ensures { λ r. ⌜ SweptBy (now (es .entry)) (now (waiting .entry)) (now (number .entry)) width (λ v. v < n) (visits n) (now (d .entry)) (now (d .exit)) marks r ⌝ }
+    ensures { λ r. ⌜ SweptBy (now (es .entry)) (leasts-in (now (leasts .entry))) (now (waiting .entry)) (now (number .entry)) width (λ v. v < n) (visits n) (now (d .entry)) (now (d .exit)) marks r ⌝ }
 {
     let mut row = [0u32; 64];
     let mut left = marks;
@@ -147,7 +176,18 @@ pub fn sweep(
         }
         let u = next_step(k, n, hint, left, order);
         let before = left;
-        left = hand_on(d, &mut row, before, es, lists, waiting, u, number, width);
+        left = hand_on(
+            d,
+            &mut row,
+            before,
+            es,
+            lists,
+            leasts,
+            waiting,
+            u,
+            number,
+            width,
+        );
         hint = noted(rest_of(hint), data_sets::minus(left, before), place);
         k -= 1;
     }

@@ -15,16 +15,16 @@ abbrev held : tie.After-status-code → tie.After-state-in
 held p = p .before .before
 
 abbrev start : tie.After-status-code → tie.Start
-start p = held p .before .before .before .before .before .before
+start p = held p .before .before .before .before .before .before .before .before
 
 -- The memory as it is lent, and the call that is made on the state in it.
 abbrev lent : tie.After-status-code → Memory
 lent p =
     let a = start p .args in
-    memory (now (a .words)) (now (a .tick)) (now (a .start)) (now (a .finish)) (now (a .map))
+    memory (now (a .words)) (now (a .tick)) (now (a .start)) (now (a .finish)) (now (a .least)) (now (a .map))
 
 abbrev call-on : tie.After-status-code → State → Outcome Progress
-call-on p st = called st (now (start p .args .table)) (start p .args .call)
+call-on p st = called st (now (start p .args .table)) (now (start p .args .leasts)) (start p .args .call)
 
 state-in-requires : tie.Need-state-in-requires
 state-in-requires c κs = search needs
@@ -45,7 +45,7 @@ returns c =
 
 returns-2 : tie.Need-returns-2
 returns-2 c =
-    let w = c .before .before in
+    let w = c .before .before .before in
     let p = w .before .before .before in
     leaves-stored (call-on p) (lent p) (p .status-code .ensures) (held p .state-in .ensures) (p .before .called .ensures) (omega arith) (w .words-of .ensures)
 

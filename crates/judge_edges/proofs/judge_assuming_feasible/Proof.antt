@@ -21,7 +21,7 @@ returns : tie.Need-returns
 returns c sheet =
     let u = c .refused .ensures in
     let s = c .before .before in
-    presumed-refused _ _ _ _ _ _ _ _ 8 (sorting-order _ _ (s .sort .ensures (sheet .shape) (sheet .entered)) (not-true _ (c .before .if1 .taken))) (u .1 .sorts) (ap verdict-of (u .0)) (start s .pre .1 .rows .no-maps) (u .1 .none)
+    presumed-refused _ _ _ _ _ _ _ _ _ 8 (sorting-order _ _ (s .sort .ensures (sheet .shape) (sheet .entered)) (not-true _ (c .before .if1 .taken))) (u .1 .sorts) (ap verdict-of (u .0)) (start s .pre .1 .rows .no-maps) (u .1 .none)
 
 serialize-requires : tie.Need-serialize-requires
 serialize-requires c κs = search needs
@@ -32,7 +32,7 @@ returns-2 c sheet =
     let s = f .before .sort .ensures (sheet .shape) (sheet .entered) in
     let passes = not-false _ (f .if1 .left) in
     let passed = sorting-order _ _ s passes in
-    presumed-rest _ _ _ _ _ _ _ _ passed (c .serialize .ensures .0) (c .serialize .ensures .1 (record { sheet = sheet; anchors = s .found passes; passes = passed }))
+    presumed-rest _ _ _ _ _ _ _ _ _ passed (c .serialize .ensures .0) (c .serialize .ensures .1 (record { sheet = sheet; anchors = s .found passes; passes = passed }))
 
 pub judge-assuming-feasible-spec : {M : Type 1} → statement M
 judge-assuming-feasible-spec =

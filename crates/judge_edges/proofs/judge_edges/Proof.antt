@@ -27,7 +27,7 @@ returns : tie.Need-returns
 returns c sheet =
     let u = c .refused .ensures in
     let s = c .before .before in
-    edges-refuse _ _ _ _ _ _ 8 (first-refused _ _ _ (sorting-order _ _ (s .sort .ensures (sheet .shape) (sheet .entered)) (not-true _ (c .before .if1 .taken)))) (ap verdict-of (u .0)) (start s .pre .1) (u .1 .none)
+    edges-refuse _ _ _ _ _ _ _ 8 (first-refused _ _ _ (sorting-order _ _ (s .sort .ensures (sheet .shape) (sheet .entered)) (not-true _ (c .before .if1 .taken)))) (ap verdict-of (u .0)) (start s .pre .1) (u .1 .none)
 
 feasible-requires : tie.Need-feasible-requires
 feasible-requires c κs = search needs
@@ -43,7 +43,7 @@ returns-2 c sheet =
     let u = c .refused2 .ensures in
     let passed = sorting-order _ _ (s .sort .ensures (sheet .shape) (sheet .entered)) (not-false _ (passing f .if1 .left)) in
     let settles = f .feasible .ensures (sheet .shape) (all-rooted _ _ passed (p .0 .some) (sheet .shape) (sheet .entered)) in
-    edges-refuse _ _ _ _ _ _ 10 (first-10 _ _ passed (sym settles ∙ not-true _ (c .before .if2 .taken))) (ap verdict-of (u .0)) (p .1) (u .1 .none)
+    edges-refuse _ _ _ _ _ _ _ 10 (first-10 _ _ passed (sym settles ∙ not-true _ (c .before .if2 .taken))) (ap verdict-of (u .0)) (p .1) (u .1 .none)
 
 serialize-requires : tie.Need-serialize-requires
 serialize-requires c κs = search needs
@@ -59,7 +59,7 @@ returns-3 c sheet =
     let settles = f .feasible .ensures (sheet .shape) (all-rooted _ _ passed (start s .pre .0 .some) (sheet .shape) (sheet .entered)) in
     let done = first-done _ _ passed (sym settles ∙ not-false _ (t .if2 .left)) in
     let unweighed = c .serialize .ensures .1 (record { sheet = sheet; anchors = found .found passes; passes = passed }) in
-    edges-go-on _ _ _ _ _ _ done (unweighed .serialized done)
+    edges-go-on _ _ _ _ _ _ _ done (unweighed .serialized done)
 
 pub judge-edges-spec : {M : Type 1} → statement M
 judge-edges-spec =

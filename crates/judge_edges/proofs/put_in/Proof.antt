@@ -26,7 +26,7 @@ returns c =
       u .1 .sorts,
       λ w.
           let count = t .count-waits .ensures .1 _ (w .waits) in
-          serial-refused _ _ _ _ _ _ (sym (c .before .before .before .waits-clash .ensures w count) ∙ c .before .before .if1 .taken) (ap verdict-of (u .0)) refl (u .1 .none),
+          serial-refused _ _ _ _ _ _ _ (sym (c .before .before .before .waits-clash .ensures w count) ∙ c .before .before .if1 .taken) (ap verdict-of (u .0)) refl (u .1 .none),
     )
 
 waits-counted-requires : tie.Need-waits-counted-requires
@@ -39,7 +39,7 @@ returns-2 c =
       f .sorts,
       λ w.
           let count = t .count-waits .ensures .1 _ (w .waits) in
-          serial-found _ _ _ _ _ _ (sym (c .before .before .waits-clash .ensures w count) ∙ c .before .if1 .left) (f .judges _ _ count) (w .waits) (f .counts ∙ count),
+          serial-found _ _ _ _ _ _ _ (sym (c .before .before .waits-clash .ensures w count) ∙ c .before .if1 .left) (f .judges _ _ count) (w .waits) (f .counts ∙ count),
     )
 
 pub put-in-spec : {M : Type 1} → statement M

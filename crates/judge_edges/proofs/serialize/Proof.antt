@@ -25,7 +25,7 @@ returns c =
     let r = c .before .before in
     let p = start r .pre in
     let w = c .waits-counted .ensures in
-    (w .sorts, λ h. unweighed-posed _ _ _ _ _ _ (h .sheet .shape) (r .reach .ensures .0 (h .anchors)) (p .0 .some) (p .0 .few) (h .sheet .entered) (h .anchors) (h .passes) (r .reach .ensures .1 (not-true _ (c .before .if1 .taken))) (p .1 .no-maps) (w .counts) (λ e. w .judges _ _ (sym (w .counts) ∙ e)))
+    (w .sorts, λ h. unweighed-posed _ _ _ _ _ _ _ (h .sheet .shape) (r .reach .ensures .0 (h .anchors)) (p .0 .some) (p .0 .few) (h .sheet .entered) (h .anchors) (h .passes) (r .reach .ensures .1 (not-true _ (c .before .if1 .taken))) (p .1 .no-maps) (w .counts) (λ e. w .judges _ _ (sym (w .counts) ∙ e)))
 
 is-inconsistent-requires : tie.Need-is-inconsistent-requires
 is-inconsistent-requires c κs = search needs
@@ -42,7 +42,7 @@ returns-2 c =
       λ h.
           let R = r .reach .ensures .0 (h .anchors) in
           let own = sym (i .is-inconsistent .ensures .1 _ (reached-reaches (h .sheet .shape) R)) ∙ c .before .if2 .taken in
-          unweighed-11 _ _ _ _ _ _ (h .sheet .shape) R own (ap verdict-of (u .0)) (start r .pre .1 .no-maps) (u .1 .none),
+          unweighed-11 _ _ _ _ _ _ _ (h .sheet .shape) R own (ap verdict-of (u .0)) (start r .pre .1 .no-maps) (u .1 .none),
     )
 
 wait-maps-requires : tie.Need-wait-maps-requires
@@ -63,8 +63,8 @@ returns-3 c =
           let consistent = sym (i .is-inconsistent .ensures .1 _ reaches) ∙ m .before .before .before .if2 .left in
           let maps = m .wait-maps .ensures .1 _ (record { shape = h .sheet .shape; reaches = reaches; anchors = h .anchors }) in
           let some = start r .pre .0 .some in
-          unweighed-rest _ _ _ _ _ _ (h .sheet .shape) R consistent (λ first.
-          c .put-in .ensures .1 (record { well = passed-well _ _ some (h .sheet .shape) (h .sheet .entered) first consistent; acyclic = order-acyclic _ _ (h .passes) some (h .sheet .shape); gains = h .sheet .gains; waits = maps })),
+          unweighed-rest _ _ _ _ _ _ _ (h .sheet .shape) R consistent (λ first.
+          c .put-in .ensures .1 (record { well = passed-well _ _ some (h .sheet .shape) (h .sheet .entered) first consistent; acyclic = order-acyclic _ _ (h .passes) some (h .sheet .shape); gains = h .sheet .gains; leasts = h .sheet .leasts; waits = maps })),
     )
 
 pub serialize-spec : {M : Type 1} → statement M

@@ -10,7 +10,7 @@ use Rattle.judge_edges.proofs.waits_clash.Tie as tie
 
 returns : tie.Need-returns
 unfolding needs-waits
-returns c w count = sym (unneeded-serializable (w .well) (w .acyclic) (ap (ltb 0) (sym count ∙ c .if1 .taken)))
+returns c w count = sym (unneeded-serializable _ (w .well) (w .acyclic) (ap (ltb 0) (sym count ∙ c .if1 .taken)))
 
 can-serialize-requires : tie.Need-can-serialize-requires
 can-serialize-requires c κs = search needs

@@ -22,11 +22,11 @@ arrange-requires : tie.Need-arrange-requires
 arrange-requires c κs = search needs
 
 returns : tie.Need-returns
-returns c shape waits =
+returns c least shape waits =
     let s = c .before .before .before in
     let b = s .before .before in
     let rows = s .waited-rows in
-    sym (arranged-circle (waited-predecessors (b .pre) shape (rows .result) (rows .ensures .0) (λ v u. rows .ensures .1 v u ∙ ap (λ (m : List ℕ). ltb v (b .args .n) && (any (precedes v u) (graph (b .args .es .now)) || row-bit m v u)) waits)) (serialized-shape shape) (c .arrange .ensures))
+    sym (arranged-circle (waited-predecessors least (b .pre) shape (rows .result) (rows .ensures .0) (λ v u. rows .ensures .1 v u ∙ ap (λ (m : List ℕ). ltb v (b .args .n) && (any (precedes v u) (graph (b .args .es .now)) || row-bit m v u)) waits)) (serialized-shape shape least) (c .arrange .ensures))
 
 pub closes-circle-spec : {M : Type 1} → statement M
 closes-circle-spec =

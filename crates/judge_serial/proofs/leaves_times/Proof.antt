@@ -8,13 +8,14 @@ use borrow.Author.Tests.{eqb-false, eqb-true, not-true, not-false}
 use Rattle.definitions.specs.Basics.{all}
 use Rattle.definitions.specs.Links.{Edge, members}
 use Rattle.definitions.specs.Waits.{serialized, wait-maps}
+use Rattle.data_edges.specs.Serial.{leasts-in}
 use Rattle.data_edges.specs.Words.{graph}
 use Rattle.data_edges.proofs.Places.{ends-below-64}
 use Rattle.walk_cells.specs.Tables.{entry}
 use Rattle.walk_heaviest.proofs.Spreading.{empty-found}
 use Rattle.laws.proofs.Bools.{both-ways}
 use Rattle.walk_settled.specs.Settled.{handed-on}
-use Rattle.theory.specs.Graphs.{Well}
+use Rattle.theory.specs.Graphs.{SheetLeasts, Well}
 use Rattle.theory.proofs.Feasibility.{stable-nonpositive-iff}
 use Rattle.judge_serial.proofs.Trying.{Offsets, edges-waited, maps-within, settled-feasible, sole-source, untried-infeasible, walks-offsets}
 use borrow.Author.Needs.{needs}
@@ -38,8 +39,11 @@ steps s = start (walked s) .args .n
 abbrev edges : tie.Else1 → List Edge
 edges s = graph (start (walked s) .args .es .now)
 
-offsets : (s : tie.Else1) → Well (steps s) (members (edges s)) → start (walked s) .args .maps .now ≡ wait-maps (steps s) (edges s) → Offsets (steps s) (serialized (steps s) (edges s)) (replicate 64 1) (table s)
-offsets s well waits = walks-offsets (start (walked s) .pre .few) (well .shape) waits (replicate 64 1) (table s) (walked s .walks-if-possible .ensures .cells (not-false _ (s .if1 .left)))
+abbrev least : tie.Else1 → ℕ → ℕ
+least s = leasts-in (start (walked s) .args .leasts .now)
+
+offsets : (s : tie.Else1) → Well (steps s) (members (edges s)) → SheetLeasts (least s) (members (edges s)) → start (walked s) .args .maps .now ≡ wait-maps (steps s) (edges s) → Offsets (steps s) (serialized (steps s) (least s) (edges s)) (replicate 64 1) (table s)
+offsets s well leasts waits = walks-offsets (least s) (start (walked s) .pre .few) (well .shape) waits (replicate 64 1) (table s) (λ within. walked s .walks-if-possible .ensures .cells (not-false _ (s .if1 .left)) within leasts)
 
 slice-aggregate-walks-if-possible : tie.Need-slice-aggregate-walks-if-possible
 slice-aggregate-walks-if-possible c = search needs
@@ -51,10 +55,10 @@ walks-if-possible-requires c κs =
     record { given = p; inside = search needs; bare = empty-found 64; ends = λ k b. omega (arith, ends-below-64 (s .args .es .now) k b) }
 
 returns : tie.Need-returns
-returns c = λ well gains waits no-circle.
+returns c = λ well gains leasts waits no-circle.
     let w = c .before .before in
     let few = start w .pre .few in
-    let told = w .walks-if-possible .ensures .told (well .shape) (well .rooted) gains (λ v b. sole-source v (omega arith)) in
+    let told = w .walks-if-possible .ensures .told (well .shape) (well .rooted) gains leasts (λ v b. sole-source v (omega arith)) in
     absurd (both-ways (told ∙ stable-nonpositive-iff (well .some) (well .shape) (well .rooted) .1 (well .never)) (not-true _ (c .if1 .taken)))
 
 index-1-is-none : tie.Need-index-1-is-none
@@ -67,32 +71,32 @@ is-none-requires : tie.Need-is-none-requires
 is-none-requires c κs = search needs
 
 returns-2 : tie.Need-returns-2
-returns-2 c = λ well gains waits no-circle.
+returns-2 c = λ well gains leasts waits no-circle.
     let e = c .before .before .before in
     let none = eqb-true (entry (table e) 0 0) 0 (sym (c .before .is-none .ensures) ∙ c .if2 .taken) in
-    untried-infeasible (start (walked e) .pre .few) well gains no-circle (table e) (offsets e well waits) (λ T. omega (arith, T .source, none))
+    untried-infeasible (least e) (start (walked e) .pre .few) well gains (leasts .leasts) no-circle (table e) (offsets e well leasts waits) (λ T. omega (arith, T .source, none))
 
 uncut-requires : tie.Need-uncut-requires
 uncut-requires c κs = search needs
 
 returns-3 : tie.Need-returns-3
-returns-3 c = λ well gains waits no-circle.
+returns-3 c = λ well gains leasts waits no-circle.
     let e = c .before .before .before .before .before .before in
-    untried-infeasible (start (walked e) .pre .few) well gains no-circle (table e) (offsets e well waits) (λ T. both-ways (T .uncut) (sym (c .before .uncut .ensures) ∙ not-true _ (c .if3 .taken)))
+    untried-infeasible (least e) (start (walked e) .pre .few) well gains (leasts .leasts) no-circle (table e) (offsets e well leasts waits) (λ T. both-ways (T .uncut) (sym (c .before .uncut .ensures) ∙ not-true _ (c .if3 .taken)))
 
 settled-requires : tie.Need-settled-requires
 settled-requires c κs = search needs
 
 returns-4 : tie.Need-returns-4
-returns-4 c = λ well gains waits no-circle.
+returns-4 c = λ well gains leasts waits no-circle.
     let u = c .before .before .before in
     let n = u .before .before .before in
     let e = n .before .before in
     let few = start (walked e) .pre .few in
     let some = eqb-false (entry (table e) 0 0) 0 (sym (n .is-none .ensures) ∙ u .before .before .if2 .left) in
-    c .settled .ensures (maps-within few (well .shape) waits)
-    ∙ ap (λ (l : List Edge). all (handed-on (table e)) l) (edges-waited few (well .shape) waits)
-    ∙ settled-feasible few well gains no-circle (table e) (offsets e well waits) (omega (arith, some)) (sym (u .uncut .ensures) ∙ not-false _ (c .before .before .if3 .left))
+    c .settled .ensures (maps-within (least e) few (well .shape) waits)
+    ∙ ap (λ (l : List Edge). all (handed-on (table e)) l) (edges-waited (least e) few (well .shape) waits)
+    ∙ settled-feasible (least e) few well gains (leasts .leasts) no-circle (table e) (offsets e well leasts waits) (omega (arith, some)) (sym (u .uncut .ensures) ∙ not-false _ (c .before .before .if3 .left))
 
 pub leaves-times-spec : {M : Type 1} → statement M
 leaves-times-spec =

@@ -23,15 +23,15 @@ slice-aggregate-read : tie.Need-slice-aggregate-read
 slice-aggregate-read c = search needs
 
 read-requires : tie.Need-read-requires
-read-requires c κs = room-brief _ _ (sym (c .before .before .is-brief .ensures) ∙ c .before .if1 .taken)
+read-requires c κs = record { room = room-brief _ _ (sym (c .before .before .before .is-brief .ensures) ∙ c .before .before .if1 .taken); blank = search needs }
 
 slice-aggregate-answer-read : tie.Need-slice-aggregate-answer-read
 slice-aggregate-answer-read c = search needs
 
 answer-read-requires : tie.Need-answer-read-requires
 answer-read-requires c κs =
-    let r = c .before .before .before .before in
-    (r .read .ensures, start (r .before .before .before) .pre)
+    let r = c .before .before .before .before .before in
+    (r .read .ensures, start (r .before .before .before .before) .pre)
 
 same-length : tie.Need-same-length
 same-length c = search needs
@@ -46,15 +46,15 @@ slice-aggregate-read-2 : tie.Need-slice-aggregate-read-2
 slice-aggregate-read-2 c = search needs
 
 read-requires-2 : tie.Need-read-requires-2
-read-requires-2 c κs = room-brief _ _ (sym (c .before .before .is-brief2 .ensures) ∙ c .before .if2 .taken)
+read-requires-2 c κs = record { room = room-brief _ _ (sym (c .before .before .before .is-brief2 .ensures) ∙ c .before .before .if2 .taken); blank = search needs }
 
 slice-aggregate-answer-read-2 : tie.Need-slice-aggregate-answer-read-2
 slice-aggregate-answer-read-2 c = search needs
 
 answer-read-requires-2 : tie.Need-answer-read-requires-2
 answer-read-requires-2 c κs =
-    let r = c .before .before .before .before in
-    (r .read2 .ensures, start (first (r .before .before .before)) .pre)
+    let r = c .before .before .before .before .before in
+    (r .read2 .ensures, start (first (r .before .before .before .before)) .pre)
 
 same-length-2 : tie.Need-same-length-2
 same-length-2 c = search needs
@@ -69,15 +69,15 @@ slice-aggregate-read-3 : tie.Need-slice-aggregate-read-3
 slice-aggregate-read-3 c = search needs
 
 read-requires-3 : tie.Need-read-requires-3
-read-requires-3 c κs = room-brief _ _ (sym (c .before .before .is-brief3 .ensures) ∙ c .before .if3 .taken)
+read-requires-3 c κs = record { room = room-brief _ _ (sym (c .before .before .before .is-brief3 .ensures) ∙ c .before .before .if3 .taken); blank = search needs }
 
 slice-aggregate-answer-read-3 : tie.Need-slice-aggregate-answer-read-3
 slice-aggregate-answer-read-3 c = search needs
 
 answer-read-requires-3 : tie.Need-answer-read-requires-3
 answer-read-requires-3 c κs =
-    let r = c .before .before .before .before in
-    (r .read3 .ensures, start (first (second (r .before .before .before))) .pre)
+    let r = c .before .before .before .before .before in
+    (r .read3 .ensures, start (first (second (r .before .before .before .before))) .pre)
 
 same-length-3 : tie.Need-same-length-3
 same-length-3 c = search needs
@@ -89,15 +89,15 @@ slice-aggregate-read-4 : tie.Need-slice-aggregate-read-4
 slice-aggregate-read-4 c = search needs
 
 read-requires-4 : tie.Need-read-requires-4
-read-requires-4 c κs = room-any (now (start (first (second (c .before .before))) .args .s))
+read-requires-4 c κs = record { room = room-any (now (start (first (second (c .before .before .before))) .args .s)); blank = search needs }
 
 slice-aggregate-answer-read-4 : tie.Need-slice-aggregate-answer-read-4
 slice-aggregate-answer-read-4 c = search needs
 
 answer-read-requires-4 : tie.Need-answer-read-requires-4
 answer-read-requires-4 c κs =
-    let r = c .before .before .before .before in
-    (r .read4 .ensures, start (first (second (r .before .before .before))) .pre)
+    let r = c .before .before .before .before .before in
+    (r .read4 .ensures, start (first (second (r .before .before .before .before))) .pre)
 
 same-length-4 : tie.Need-same-length-4
 same-length-4 c = search needs

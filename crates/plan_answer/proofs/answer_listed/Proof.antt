@@ -34,7 +34,7 @@ returns : tie.Need-returns
 returns c os o =
     let told = c .before .before .before in
     let st = start (told .before .before) in
-    judged-responds _ _ (st .args .allow) os (now (st .args .list)) (now (st .args .out)) (told .enum-told .given .1) (c .judge-edges .ensures (st .pre .0 .sheet .formed))
+    judged-responds _ _ _ (st .args .allow) os (now (st .args .list)) (now (st .args .out)) (told .enum-told .given .1) (c .judge-edges .ensures (st .pre .0 .sheet .formed))
 
 slice-aggregate-answer-on : tie.Need-slice-aggregate-answer-on
 slice-aggregate-answer-on c = search needs

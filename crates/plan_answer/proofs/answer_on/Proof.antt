@@ -47,8 +47,8 @@ returns c os o =
     let checks = k .checked .ensures .checks os o in
     let no = sym (c .before .accepted .ensures) ∙ not-true _ (c .if1 .taken) in
     record {
-      verdict = outcome-of (args .question) _ _ (args .allow) os (now (args .list)) (now (args .out)) (listed .judges) checks;
-      numbers = refused-stays (args .question) _ _ (args .allow) os (now (args .list)) (now (args .out)) (listed .judges) checks no;
+      verdict = outcome-of (args .question) _ _ _ (args .allow) os (now (args .list)) (now (args .out)) (listed .judges) checks;
+      numbers = refused-stays (args .question) _ _ _ (args .allow) os (now (args .list)) (now (args .out)) (listed .judges) checks no;
       waits = record { found = listed .found; blank = listed .blank };
     }
 
@@ -82,10 +82,10 @@ returns-2 c os o =
     let held = tabulated k .tabulate .ensures .held (k .checked .ensures .accepted (accepts e)) in
     let checks = k .checked .ensures .checks os o in
     let right = list-right _ _ _ os _ _ checks (accepts e) in
-    let fits = fitting held (sheet .formed .gains) (sheet .few) (args .question) os (now (args .list)) _ (o .long) right (k .checked .ensures .fits (accepts e)) in
+    let fits = fitting held (sheet .formed .gains) (sheet .formed .leasts) (sheet .few) (args .question) os (now (args .list)) _ (o .long) (o .least) right (k .checked .ensures .fits (accepts e)) in
     record {
-      verdict = outcome-of (args .question) _ _ (args .allow) os (now (args .list)) (now (args .out)) (listed .judges) checks;
-      numbers = given-written (args .question) _ _ (args .allow) os (now (args .list)) (now (args .out)) (listed .judges) checks (accepts e) (w .write .ensures _ held fits);
+      verdict = outcome-of (args .question) _ _ _ (args .allow) os (now (args .list)) (now (args .out)) (listed .judges) checks;
+      numbers = given-written (args .question) _ _ _ (args .allow) os (now (args .list)) (now (args .out)) (listed .judges) checks (accepts e) (w .write .ensures _ (sheet .formed .leasts) held fits);
       waits = record { found = listed .found; blank = listed .blank };
     }
 

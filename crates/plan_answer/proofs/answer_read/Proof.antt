@@ -14,8 +14,8 @@ abbrev start : tie.After-enum-told → tie.Start
 start s = s .before .before .before .before .before .before
 
 -- What was read: the sheet, held in the report and the words. Bytes are below 256.
-read-whole : (s : tie.After-enum-told) → Whole (now (start s .args .s)) (now (start s .args .words)) (start s .args .report)
-read-whole s = whole (now (start s .args .s)) _ _ (λ i. s .before .before .before .before .before .shared-slice-known .given i .fits) (start s .pre .0) (s .enum-told .given .1)
+read-whole : (s : tie.After-enum-told) → Whole (now (start s .args .s)) (now (start s .args .words)) (now (start s .args .leasts)) (start s .args .report)
+read-whole s = whole (now (start s .args .s)) _ _ _ (λ i. s .before .before .before .before .before .shared-slice-known .given i .fits) (start s .pre .0) (s .enum-told .given .1)
 
 enum-known-reading : tie.Need-enum-known-reading
 enum-known-reading c = search needs
@@ -23,7 +23,7 @@ enum-known-reading c = search needs
 returns : tie.Need-returns
 returns c =
     let st = c .before .before .before .before .before .before .before in
-    refused-answers (now (st .args .s)) (report-refused _ _ _ _ (st .pre .0) (c .before .reading .given .1)) (st .args .question) (st .args .allow) (now (st .args .list)) (now (st .args .out)) refl (st .pre .1) refl
+    refused-answers (now (st .args .s)) (report-refused _ _ _ _ _ (st .pre .0) (c .before .reading .given .1)) (st .args .question) (st .args .allow) (now (st .args .list)) (now (st .args .out)) refl (st .pre .1) refl
 
 enum-told : tie.Need-enum-told
 enum-told c = search needs

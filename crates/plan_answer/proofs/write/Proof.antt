@@ -1,7 +1,7 @@
 -- `plan_answer::write` meets its contract: nothing is written for a judgement; a plan and start times are read off tables that hold the walks and anchor sets of the edges with the waits in.
 use borrow.Author.Needs.{needs}
 use mathlib.Core.Path.{refl}
-use Rattle.theory.proofs.Plans.{plan-posed, plan-well}
+use Rattle.theory.proofs.Plans.{plan-lasting, plan-posed, plan-well}
 use Rattle.plan_answer.proofs.Overriding.{holds-orderly}
 use Rattle.plan_answer.proofs.Writing.{nothing-stands, plan-room, plan-stands, starts-room, starts-stand}
 use Rattle.plan_answer.proofs.write.Statement.{statement}
@@ -32,24 +32,24 @@ fill-starts-requires c κs =
     record { few = p .few; inside = p .rows; long = room .0; room = room .1 }
 
 returns : tie.Need-returns
-returns c g t fits = nothing-stands _ g _ _ (c .enum-told .given .1) refl
+returns c g l t fits = nothing-stands _ _ g _ _ (c .enum-told .given .1) refl
 
 same-length : tie.Need-same-length
 same-length c = search needs
 
 returns-2 : tie.Need-returns-2
-returns-2 c g t fits =
+returns-2 c g l t fits =
     let filled = c .before .before in
-    plan-stands _ g _ _ (filled .before .before .enum-told2 .given .1)
-    (filled .fill-plan .ensures .plan _ (t .holds) (holds-orderly (plan-well (t .well) (t .serial)) (plan-posed (t .well) (t .serial)) (t .holds)))
+    plan-stands _ _ g _ _ (filled .before .before .enum-told2 .given .1)
+    (filled .fill-plan .ensures .plan _ _ (plan-lasting _ (t .well) (t .serial) (l .leasts) (l .source)) (λ a b. refl) (t .holds) (holds-orderly (plan-well _ (t .well) (t .serial)) (plan-posed _ (t .well) (t .serial)) (t .holds)))
 
 same-length-2 : tie.Need-same-length-2
 same-length-2 c = search needs
 
 returns-3 : tie.Need-returns-3
-returns-3 c g t fits =
+returns-3 c g l t fits =
     let filled = c .before .before in
-    starts-stand _ g _ _ (filled .before .before .enum-told3 .given .1) fits (λ narrow. filled .fill-starts .ensures .times _ (t .holds) narrow)
+    starts-stand _ _ g _ _ (filled .before .before .enum-told3 .given .1) fits (λ narrow. filled .fill-starts .ensures .times _ _ (λ a b. refl) (t .holds) narrow)
 
 pub write-spec : {M : Type 1} → statement M
 write-spec =

@@ -23,7 +23,7 @@ returns-2 : tie.Need-returns-2
 returns-2 c os o = rw (c .enum-told2 .given .1)
 
 returns-3 : tie.Need-returns-3
-returns-3 c os o = rw (c .before .enum-told3 .given .1) (c .delays-bad .ensures .wrong os (o .long) (o .opens))
+returns-3 c os o = rw (c .before .enum-told3 .given .1) (c .delays-bad .ensures .wrong os (o .long) (o .opens) (λ i b. o .least i))
 
 pub wrong-list-spec : {M : Type 1} → statement M
 wrong-list-spec =

@@ -12,13 +12,13 @@ use Rattle.plan_starts.proofs.latest.Statement.{statement}
 use Rattle.plan_starts.proofs.latest.Tie as tie
 
 abbrev Inv-loop : tie.InvT-loop
-Inv-loop d members n list old v most₀ left₀ most left = latest-of d list old v n most left ≡ largest (test-bit members) (term d list old v) n
+Inv-loop d leasts members n list old v most₀ left₀ most left = latest-of d leasts list old v n most left ≡ largest (test-bit members) (term d leasts list old v) n
 
 abbrev μ-loop : tie.MeasureT-loop
-μ-loop d members n list old v most₀ left₀ most left = left
+μ-loop d leasts members n list old v most₀ left₀ most left = left
 
 loop-holds : tie.Need-loop-holds Inv-loop μ-loop
-loop-holds c = none-taken _ _ _ _ _ _
+loop-holds c = none-taken _ _ _ _ _ _ _
 
 lowest-requires : tie.Need-lowest-requires Inv-loop μ-loop
 lowest-requires c κs = omega arith
@@ -26,7 +26,7 @@ lowest-requires c κs = omega arith
 returns : tie.Need-returns Inv-loop μ-loop
 returns c =
     let least = c .before in
-    sym (all-taken _ _ _ _ _ _ (least .before .before .loop .left) (λ k b. least .lowest .ensures .least k (omega arith))) ∙ least .before .before .loop .inv
+    sym (all-taken _ _ _ _ _ _ _ (least .before .before .loop .left) (λ k b. least .lowest .ensures .least k (omega arith))) ∙ least .before .before .loop .inv
 
 term-of-requires : tie.Need-term-of-requires Inv-loop μ-loop
 term-of-requires c κs = record { row = omega arith; column = c .before .lowest .ensures .below; entered = omega arith }
@@ -43,13 +43,13 @@ loop-less c = removed-lt _ _ _ (c .before .before .before .before .lowest .ensur
 loop-again : tie.Need-loop-again Inv-loop μ-loop
 loop-again c =
     let least = c .before .before .before .before in
-    one-taken _ _ _ _ _ _ _ _ _ _ _ (omega arith) (least .lowest .ensures .member) (c .before .before .term-of .ensures) (c .before .larger .ensures) (c .without-lowest .ensures _ (least .lowest .ensures))
+    one-taken _ _ _ _ _ _ _ _ _ _ _ _ (omega arith) (least .lowest .ensures .member) (c .before .before .term-of .ensures) (c .before .larger .ensures) (c .without-lowest .ensures _ (least .lowest .ensures))
     ∙ least .before .before .loop .inv
 
 returns-2 : tie.Need-returns-2 Inv-loop μ-loop
 returns-2 c =
     let none : (k : ℕ) → test-bit (c .before .loop .left) k ≡ false = λ k. ap (λ (x : ℕ). test-bit x k) (omega arith) ∙ test-zero k in
-    sym (all-taken _ _ _ _ _ _ (c .before .loop .left) (λ k b. none k)) ∙ c .before .loop .inv
+    sym (all-taken _ _ _ _ _ _ _ (c .before .loop .left) (λ k b. none k)) ∙ c .before .loop .inv
 
 pub latest-spec : {M : Type 1} → statement M
 latest-spec =

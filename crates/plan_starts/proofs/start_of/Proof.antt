@@ -6,7 +6,7 @@ use Rattle.plan_starts.proofs.start_of.Statement.{statement}
 use Rattle.plan_starts.proofs.start_of.Tie as tie
 
 returns : tie.Need-returns
-returns c = sym (start-at-source _ _ _ _ _ _ (c .if1 .taken))
+returns c = sym (start-at-source _ _ _ _ _ _ _ (c .if1 .taken))
 
 mul-latest : tie.Need-mul-latest
 mul-latest c = search needs
@@ -23,7 +23,7 @@ narrow-requires c κs = search needs
 returns-2 : tie.Need-returns-2
 returns-2 c =
     let later = c .before .before .before in
-    c .narrow .ensures ∙ sym (start-at-later _ _ _ _ _ _ _ (later .if1 .left) (c .before .latest .ensures))
+    c .narrow .ensures ∙ sym (start-at-later _ _ _ _ _ _ _ _ (later .if1 .left) (c .before .latest .ensures))
 
 pub start-of-spec : {M : Type 1} → statement M
 start-of-spec =

@@ -10,10 +10,10 @@ use Rattle.plan_starts.proofs.turn.Statement.{statement}
 use Rattle.plan_starts.proofs.turn.Tie as tie
 
 abbrev Inv-loop : tie.InvT-loop
-Inv-loop d sets n list old row₀ v₀ row v = (v ≤ n) × (length row ≡ 64) × (row ≡ laid (start-at d sets n list old) v row₀)
+Inv-loop d leasts sets n list old row₀ v₀ row v = (v ≤ n) × (length row ≡ 64) × (row ≡ laid (start-at d leasts sets n list old) v row₀)
 
 abbrev μ-loop : tie.MeasureT-loop
-μ-loop d sets n list old row₀ v₀ row v = n - v
+μ-loop d leasts sets n list old row₀ v₀ row v = n - v
 
 loop-holds : tie.Need-loop-holds Inv-loop μ-loop
 loop-holds c = (omega arith, search needs, laid-none _ _)

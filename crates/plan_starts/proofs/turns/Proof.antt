@@ -9,13 +9,13 @@ use Rattle.plan_starts.proofs.turns.Statement.{statement}
 use Rattle.plan_starts.proofs.turns.Tie as tie
 
 abbrev Inv-loop : tie.InvT-loop
-Inv-loop d sets n list row₀ k₀ row k = (k ≤ n) × (row ≡ row-after d sets n list k)
+Inv-loop d leasts sets n list row₀ k₀ row k = (k ≤ n) × (row ≡ row-after d leasts sets n list k)
 
 abbrev μ-loop : tie.MeasureT-loop
-μ-loop d sets n list row₀ k₀ row k = n - k
+μ-loop d leasts sets n list row₀ k₀ row k = n - k
 
 loop-holds : tie.Need-loop-holds Inv-loop μ-loop
-loop-holds c = (omega arith, row-after-none _ _ _ _)
+loop-holds c = (omega arith, row-after-none _ _ _ _ _)
 
 turn-requires : tie.Need-turn-requires Inv-loop μ-loop
 turn-requires c κs = search needs
@@ -26,7 +26,7 @@ same-requires c κs = search needs
 returns : tie.Need-returns Inv-loop μ-loop
 returns c =
     let s = c .before .before .before .before .before .before .before in
-    row-after-stop _ _ _ _ _ _ _ (omega arith) (s .loop .inv .1) (c .before .before .before .before .turn .ensures) (sym (c .before .same .ensures) ∙ c .if1 .taken)
+    row-after-stop _ _ _ _ _ _ _ _ (omega arith) (s .loop .inv .1) (c .before .before .before .before .turn .ensures) (sym (c .before .same .ensures) ∙ c .if1 .taken)
 
 add-k : tie.Need-add-k Inv-loop μ-loop
 add-k c = search needs
@@ -37,7 +37,7 @@ loop-less c = search needs
 loop-again : tie.Need-loop-again Inv-loop μ-loop
 loop-again c =
     let s = c .before .before .before .before .before .before .before in
-    (omega arith, row-after-more _ _ _ _ _ _ _ (s .loop .inv .1) (c .before .before .before .before .turn .ensures))
+    (omega arith, row-after-more _ _ _ _ _ _ _ _ (s .loop .inv .1) (c .before .before .before .before .turn .ensures))
 
 returns-2 : tie.Need-returns-2 Inv-loop μ-loop
 returns-2 c =

@@ -14,10 +14,10 @@ use Rattle.plan_table.proofs.fill_plan.Statement.{statement}
 use Rattle.plan_table.proofs.fill_plan.Tie as tie
 
 abbrev Inv-loop : tie.InvT-loop
-Inv-loop d sets n table₀ v₀ table v = (v ≤ n) × (length table ≡ length table₀) × (((u : ℕ) → u < n → Orderly d sets u) → table ≡ first-rows d sets n v ++ drop (v * n) table₀)
+Inv-loop d leasts sets n table₀ v₀ table v = (v ≤ n) × (length table ≡ length table₀) × (((u : ℕ) → u < n → Orderly d sets u) → table ≡ first-rows d leasts sets n v ++ drop (v * n) table₀)
 
 abbrev μ-loop : tie.MeasureT-loop
-μ-loop d sets n table₀ v₀ table v = n - v
+μ-loop d leasts sets n table₀ v₀ table v = n - v
 
 -- Places: the start, and where the table is cleared, from the loop.
 abbrev start : tie.At-loop Inv-loop μ-loop → tie.Start Inv-loop μ-loop
@@ -47,7 +47,7 @@ clear-requires : tie.Need-clear-requires Inv-loop μ-loop
 clear-requires c κs = c .before .before .pre .room
 
 loop-holds : tie.Need-loop-holds Inv-loop μ-loop
-loop-holds c = (omega arith, refl, λ T. first-rows-none _ _ _ _)
+loop-holds c = (omega arith, refl, λ T. first-rows-none _ _ _ _ _)
 
 mul-at : tie.Need-mul-at Inv-loop μ-loop
 mul-at c = omega (arith, in-table c)
@@ -81,7 +81,7 @@ loop-again c =
     let l = c .before .before .before .before in
     let s = l .before in
     let filled = c .before .before .fill-row .ensures in
-    (omega arith, search needs, λ T. first-rows-more _ _ _ _ _ _ _ (s .loop .inv .2 T) (filled (T _ (omega arith)) (row-clear _ _ _ _ _ _ _ (omega arith) (in-table l .room) (clearing s .clear .ensures) (s .loop .inv .2 T))))
+    (omega arith, search needs, λ T. first-rows-more _ _ _ _ _ _ _ _ (s .loop .inv .2 T) (filled (T _ (omega arith)) (row-clear _ _ _ _ _ _ _ _ (omega arith) (in-table l .room) (clearing s .clear .ensures) (s .loop .inv .2 T))))
 
 same-length : tie.Need-same-length Inv-loop μ-loop
 same-length c = same (c .before)

@@ -3,7 +3,7 @@ use mathlib.Core.Path.{_≡_, ap, _∙_}
 use mathlib.Core.Bool.{false}
 use Prim.Native.Nat.{ℕ}
 use Rattle.definitions.specs.Basics.{test-bit}
-use Rattle.plan_deciding.specs.Working.{weight}
+use Rattle.plan_deciding.specs.Working.{offset-in}
 use Rattle.laws.proofs.Maps.{removed-lt, test-zero}
 use Rattle.plan_table.proofs.Laws.{Putting, none-put, one-put, all-put}
 use borrow.Author.Needs.{needs}
@@ -12,10 +12,10 @@ use Rattle.plan_table.proofs.put_offsets.Statement.{statement}
 use Rattle.plan_table.proofs.put_offsets.Tie as tie
 
 abbrev Inv-loop : tie.InvT-loop
-Inv-loop d map n v row₀ left₀ row left = Putting n (weight d v) map left row₀ row
+Inv-loop d leasts map n v row₀ left₀ row left = Putting n (offset-in d leasts v) map left row₀ row
 
 abbrev μ-loop : tie.MeasureT-loop
-μ-loop d map n v row₀ left₀ row left = left
+μ-loop d leasts map n v row₀ left₀ row left = left
 
 loop-holds : tie.Need-loop-holds Inv-loop μ-loop
 loop-holds c = none-put _ _ _ _ (omega arith)

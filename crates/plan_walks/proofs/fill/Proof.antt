@@ -46,7 +46,7 @@ returns-2 c =
     let st = start (looked sourced) in
     let sheet = st .pre .sheet in
     let told = walked .walks-if-possible .ensures in (
-      λ rooted long. told .told (sheet .formed .shape) rooted (sheet .formed .gains) (source-in (st .args .sets .now) (sourced .add-source .last .0) (sourced .add-source .ensures long)),
+      λ rooted long. told .told (sheet .formed .shape) rooted (sheet .formed .gains) (sheet .formed .leasts) (source-in (st .args .sets .now) (sourced .add-source .last .0) (sourced .add-source .ensures long)),
       λ possible k p. record {
         well = p .well;
         serial = p .serial;

@@ -28,11 +28,11 @@ word-requires : tie.Need-word-requires
 word-requires c κs = search needs
 
 returns : tie.Need-returns
-returns c d e =
+returns c d least e =
     let digits = c .before .before .before .before .digits-of .ensures in
     c .word .ensures
     ∙ same-edge (c .before .before .before .wide .ensures) (c .before .before .wide2 .ensures) refl (omega (arith, digits, c .before .ticks-of .ensures .0)) refl refl (ap (λ (x : ℕ). marked x counted-place) digits)
-    ∙ finish-same d _ _ _ _ e
+    ∙ finish-same d least _ _ _ _ e
 
 pub finish-word-spec : {M : Type 1} → statement M
 finish-word-spec =

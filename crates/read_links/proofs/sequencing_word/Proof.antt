@@ -33,9 +33,9 @@ add-result-3 : tie.Need-add-result-3
 add-result-3 c = search needs
 
 returns : tie.Need-returns
-returns c d e =
+returns c d least e =
     let digits = c .before in
-    sequencing-unpacked d _ _ _ _ _ (digits .before .before .before .pre)
+    sequencing-unpacked d least _ _ _ _ _ (digits .before .before .before .pre)
     (omega (arith, c .ticks-of .ensures)) e (omega (arith, c .ticks-of .ensures, digits .digits-of .ensures, digits .before .wide2 .ensures, digits .before .before .wide .ensures))
 
 pub sequencing-word-spec : {M : Type 1} → statement M

@@ -11,7 +11,7 @@ abbrev start : tie.After-read-head → tie.Start
 start s = s .before .before .before
 
 abbrev headed : tie.After-read-operations → tie.After-read-head
-headed s = s .before .before
+headed s = s .before .before .before
 
 abbrev stepped : tie.After-read-tail-arg → tie.After-read-operations
 stepped s = s .before .before
@@ -30,8 +30,8 @@ read-tail-requires c κs =
     let heads = h .read-head .ensures in
     let row = s .read-operations in
     record {
-      inside = row-inside (now (start h .args .s)) (head .at) (head .n) (row .last .1 .1 .1 .0) (row .result .unbounded) (row .result .place) (row .ensures);
-      fits = record { steps = heads .steps; room = omega (arith, heads .room, start h .pre) };
+      inside = row-inside (now (start h .args .s)) (head .at) (head .n) (row .last .1 .1 .1 .0) (row .last .1 .1 .1 .1 .0) (row .result .unbounded) (row .result .place) (row .ensures);
+      fits = record { steps = heads .steps; room = omega (arith, heads .room, start h .pre .room) };
     }
 
 same-length : tie.Need-same-length
@@ -43,7 +43,7 @@ returns c =
     let s = stepped (t .before) in
     let h = headed s in
     let heads = h .read-head .ensures in
-    report-read _ (now (start h .args .s)) _ _ (h .read-head .result) _ (t .read-tail .result) heads (record { steps = heads .steps; room = search needs }) _ (s .read-operations .ensures) (t .read-tail .ensures)
+    report-read _ (now (start h .args .s)) _ _ _ (h .read-head .result) _ (t .read-tail .result) heads (record { steps = heads .steps; room = search needs }) _ (s .read-operations .ensures) (t .read-tail .ensures)
 
 pub read-spec : {M : Type 1} → statement M
 read-spec =

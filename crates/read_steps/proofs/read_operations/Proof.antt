@@ -1,52 +1,51 @@
--- `read_steps::read_operations` meets its contract. The loop's invariant is `Stepping`: i of the n records are read, those read in front of those left give the answer of the whole, what each of them adds is written, and the
--- map has those that are open. What falls is the number of records left.
-use mathlib.Core.Path.{_≡_, sym, subst, _∙_}
+-- `read_steps::read_operations` meets its contract. The loop's invariant is `Stepping`: i of the n records are read, those read in front of those left give the answer of the whole, what each of them adds is written,
+-- and its least, and the map has those that are open. What falls is the number of records left.
+use mathlib.Core.Path.{_≡_, subst, _∙_}
 use Prim.Native.Nat.{_-_, _≤_}
 use native.Mathlib.Omega.{arith}
+use lib.Dec.{eqb}
 use lib.ListN.{length, drop, length-set}
 use denote.Ref.{now}
 use borrow.Author.Needs.{needs}
 use Rattle.definitions.specs.Bytes.{operation}
 use Rattle.definitions.specs.Limits.{most-steps}
-use Rattle.read_steps.specs.Answers.{OperationReads}
-use Rattle.read_steps.specs.declared.OperationRead.{OperationRead}
+use Rattle.read_steps.specs.Answers.{StepReads}
+use Rattle.read_steps.specs.declared.StepRead.{StepRead}
+use Rattle.read_steps.proofs.Leasts.{blank-long, leasts-long}
 use Rattle.read_steps.proofs.Stepping.{Stepping, stepping-none, stepping-more, stepping-refused, stepping-all}
 use Rattle.read_steps.proofs.read_operations.Statement.{statement}
 use Rattle.read_steps.proofs.read_operations.Tie as tie
 
 abbrev Inv-loop : tie.InvT-loop
-Inv-loop s at n digits₀ unbounded₀ first₀ next₀ i₀ digits unbounded first next i = (next ≤ length s) × (length digits ≡ most-steps) × Stepping n (drop at s) i first (drop next s) digits unbounded
+Inv-loop s at n digits₀ leasts₀ unbounded₀ next₀ i₀ digits leasts unbounded next i = (next ≤ length s) × (length digits ≡ most-steps) × (length leasts ≡ most-steps) × Stepping n (drop at s) i (drop next s) digits leasts unbounded
 
 abbrev μ-loop : tie.MeasureT-loop
-μ-loop s at n digits₀ unbounded₀ first₀ next₀ i₀ digits unbounded first next i = n - i
+μ-loop s at n digits₀ leasts₀ unbounded₀ next₀ i₀ digits leasts unbounded next i = n - i
 
 -- Places: the turn's beginning and its record read. And what reading it means, by its answer.
 abbrev Turn : Type 0
 Turn = tie.At-loop Inv-loop μ-loop
 
 abbrev Read : Type 0
-Read = tie.After-read-operation Inv-loop μ-loop
+Read = tie.After-read-step Inv-loop μ-loop
 
 abbrev start : Turn → tie.Start Inv-loop μ-loop
 start l = l .before .before
 
 abbrev turn : Read → Turn
-turn s = s .before .before
+turn s = s .before .before .before
 
-abbrev Answered : Read → OperationRead → Type 0
-Answered s r = let l = turn s in OperationReads (now (start l .args .s)) (l .loop .next) (operation (l .loop .first)) r
+abbrev Answered : Read → StepRead → Type 0
+Answered s r = let l = turn s in StepReads (operation (eqb (l .loop .i) 0)) (now (start l .args .s)) (l .loop .next) (l .loop .i) (l .loop .leasts) (s .read-step .last .1 .1 .1 .0) r
 
 loop-holds : tie.Need-loop-holds Inv-loop μ-loop
-loop-holds c = (c .before .pre .begins, c .before .pre .long, stepping-none _ _ _)
+loop-holds c = (c .before .pre .begins, c .before .pre .long, blank-long (c .before .pre .blank), stepping-none _ _ _ _ (c .before .pre .blank))
 
-read-operation-requires : tie.Need-read-operation-requires Inv-loop μ-loop
-read-operation-requires c κs = search needs
+read-step-requires : tie.Need-read-step-requires Inv-loop μ-loop
+read-step-requires c κs = search needs
 
-enum-known-o : tie.Need-enum-known-o Inv-loop μ-loop
-enum-known-o c = search needs
-
-leaving-of-requires : tie.Need-leaving-of-requires Inv-loop μ-loop
-leaving-of-requires c κs = search needs
+enum-known-d : tie.Need-enum-known-d Inv-loop μ-loop
+enum-known-d c = search needs
 
 mul-digits : tie.Need-mul-digits Inv-loop μ-loop
 mul-digits c = search needs
@@ -65,14 +64,14 @@ loop-less c = search needs
 
 loop-again : tie.Need-loop-again Inv-loop μ-loop
 loop-again c =
-    let leave = c .before .leaving-of in
-    let taken = c .before .before .before in
+    let taken = c .before .before in
     let s = taken .before .before in
     let l = turn s .loop in
-    let item = subst (Answered s) (taken .o .given .1) (s .read-operation .ensures) in (
-      item .inside,
-      length-set (l .digits) (l .i) (leave .result) ∙ l .inv .1,
-      stepping-more _ _ (l .i) (l .first) _ (l .digits) (l .unbounded) (l .inv .2) (omega arith) (omega (arith, l .inv .1)) _ _ _ _ (sym (item .same)) (leave .ensures) (c .insert-if .ensures),
+    let step = subst (Answered s) (taken .d .given .1) (s .read-step .ensures) in (
+      step .inside,
+      length-set (l .digits) (l .i) _ ∙ l .inv .1,
+      leasts-long (l .i) _ (l .leasts) _ (step .put) ∙ l .inv .2,
+      stepping-more _ _ (l .i) _ (l .digits) (l .leasts) (l .unbounded) (l .inv .3) _ _ _ _ _ (step .same) (step .adds) (omega arith) (omega (arith, l .inv .1)) (omega (arith, l .inv .2)) (step .put) (c .insert-if .ensures),
     )
 
 enum-known-k : tie.Need-enum-known-k Inv-loop μ-loop
@@ -82,13 +81,13 @@ returns : tie.Need-returns Inv-loop μ-loop
 returns c =
     let s = c .before .before .before in
     let l = turn s .loop in
-    let item = subst (Answered s) (c .before .k .given .1) (s .read-operation .ensures) in
-    stepping-refused _ _ (l .i) (l .first) _ (l .digits) (l .unbounded) (l .inv .2) (omega arith) _ (sym (item .same))
+    let refusal = subst (Answered s) (c .before .k .given .1) (s .read-step .ensures) in
+    stepping-refused _ _ (l .i) _ (l .digits) (l .leasts) (l .unbounded) (l .inv .3) (omega arith) _ refusal
 
 returns-2 : tie.Need-returns-2 Inv-loop μ-loop
 returns-2 c =
     let l = c .before .loop in
-    stepping-all _ _ _ (l .i) (l .first) (l .next) (l .digits) (l .unbounded) (l .inv .2) (c .loop-test .left) (l .inv .0)
+    stepping-all _ _ _ (l .i) (l .next) (l .digits) (l .leasts) (l .unbounded) (l .inv .3) (c .loop-test .left) (l .inv .0)
 
 pub read-operations-spec : {M : Type 1} → statement M
 read-operations-spec =
@@ -97,9 +96,8 @@ read-operations-spec =
     Inv-loop
     μ-loop
     loop-holds
-    read-operation-requires
-    enum-known-o
-    leaving-of-requires
+    read-step-requires
+    enum-known-d
     mul-digits
     element-write-digits
     insert-if-requires

@@ -3,6 +3,7 @@ use borrow.Author.Needs.{needs}
 use mathlib.Core.Path.{refl, sym, _∙_}
 use borrow.Author.Tests.{not-true, not-false}
 use Rattle.laws.proofs.Bools.{both-ways}
+use Rattle.data_edges.specs.Serial.{leasts-in}
 use Rattle.walk_sweep.proofs.Sweeping.{sweepable-then}
 use Rattle.walk_heaviest.proofs.Settled.{settling-opened}
 use Rattle.walk_heaviest.proofs.settle.Statement.{statement}
@@ -46,7 +47,7 @@ returns-2 c =
     let s = start f in
     let a = s .args in
     let first = f .sweep-first .ensures in
-    let settled = c .before .sweep-on .ensures _ (settling-opened (a .es .now) (a .waiting .now) (a .number .now) (a .width) (a .n) (a .d .now) (s .pre .network .linked .square) first) in
+    let settled = c .before .sweep-on .ensures _ (settling-opened (a .es .now) (leasts-in (a .leasts .now)) (a .waiting .now) (a .number .now) (a .width) (a .n) (a .d .now) (s .pre .network .linked .square) first) in
     record {
       square = settled .square;
       settled = λ q. settled;

@@ -3,6 +3,7 @@ use native.Mathlib.Omega.{arith}
 use mathlib.Core.List.{List}
 use Prim.Native.Nat.{ℕ, _-_, _≤_}
 use lib.ListN.{length}
+use Rattle.data_edges.specs.Serial.{leasts-in}
 use Rattle.walk_cells.specs.Tables.{Square}
 use Rattle.walk_cells.proofs.Tables.{square-then}
 use Rattle.walk_sweep.proofs.Sweeping.{sweepable-then}
@@ -13,10 +14,10 @@ use Rattle.walk_heaviest.proofs.sweep_on.Statement.{statement}
 use Rattle.walk_heaviest.proofs.sweep_on.Tie as tie
 
 abbrev Inv-loop : tie.InvT-loop
-Inv-loop d₀ marks es lists waiting order place number width n left₀ k₀ d left k = (k ≤ n) × Square (length d₀) d × ((d′ : List (List ℕ)) → SettlingBy es waiting number width n 1 d′ d₀ marks → SettlingBy es waiting number width n k d′ d left)
+Inv-loop d₀ marks es lists leasts waiting order place number width n left₀ k₀ d left k = (k ≤ n) × Square (length d₀) d × ((d′ : List (List ℕ)) → SettlingBy es (leasts-in leasts) waiting number width n 1 d′ d₀ marks → SettlingBy es (leasts-in leasts) waiting number width n k d′ d left)
 
 abbrev μ-loop : tie.MeasureT-loop
-μ-loop d₀ marks es lists waiting order place number width n left₀ k₀ d left k = n - k
+μ-loop d₀ marks es lists leasts waiting order place number width n left₀ k₀ d left k = n - k
 
 abbrev start : tie.At-loop Inv-loop μ-loop → tie.Start Inv-loop μ-loop
 start s = s .before .before .before
@@ -31,7 +32,7 @@ returns : tie.Need-returns Inv-loop μ-loop
 returns c =
     let s = c .before .before in
     let a = start s .args in
-    λ d′ S. settling-rest (a .es .now) (a .waiting .now) (a .number .now) (a .width) (a .n) d′ (s .loop .inv .0) (c .if1 .taken) (s .loop .inv .2 d′ S)
+    λ d′ S. settling-rest (a .es .now) (leasts-in (a .leasts .now)) (a .waiting .now) (a .number .now) (a .width) (a .n) d′ (s .loop .inv .0) (c .if1 .taken) (s .loop .inv .2 d′ S)
 
 sweep-requires : tie.Need-sweep-requires Inv-loop μ-loop
 sweep-requires c κs = let s = c .before .before .before in sweepable-then (start s .pre) (s .loop .inv .1)
@@ -46,7 +47,7 @@ loop-again : tie.Need-loop-again Inv-loop μ-loop
 loop-again c =
     let s = c .before .before .before .before .before in
     let a = start s .args in
-    (omega arith, square-then (s .loop .inv .1) (c .before .sweep .ensures .square), λ d′ S. settling-more (a .es .now) (a .waiting .now) (a .number .now) (a .width) (a .n) d′ (s .loop .inv .2 d′ S) (c .before .sweep .ensures))
+    (omega arith, square-then (s .loop .inv .1) (c .before .sweep .ensures .square), λ d′ S. settling-more (a .es .now) (leasts-in (a .leasts .now)) (a .waiting .now) (a .number .now) (a .width) (a .n) d′ (s .loop .inv .2 d′ S) (c .before .sweep .ensures))
 
 same-length-2 : tie.Need-same-length-2 Inv-loop μ-loop
 same-length-2 c = c .before .loop .inv .1 .rows
@@ -55,7 +56,7 @@ returns-2 : tie.Need-returns-2 Inv-loop μ-loop
 returns-2 c =
     let s = c .before in
     let a = start s .args in
-    λ d′ S. settling-end (a .es .now) (a .waiting .now) (a .number .now) (a .width) (a .n) d′ (s .loop .inv .0) (omega arith) (s .loop .inv .2 d′ S)
+    λ d′ S. settling-end (a .es .now) (leasts-in (a .leasts .now)) (a .waiting .now) (a .number .now) (a .width) (a .n) d′ (s .loop .inv .0) (omega arith) (s .loop .inv .2 d′ S)
 
 pub sweep-on-spec : {M : Type 1} → statement M
 sweep-on-spec =

@@ -7,10 +7,11 @@ use native.Mathlib.Omega.{arith}
 use borrow.Author.Tests.{not-true, not-false}
 use Rattle.definitions.specs.Limits.{most-gain}
 use Rattle.definitions.specs.Links.{members}
+use Rattle.data_edges.specs.Serial.{leasts-in}
 use Rattle.data_edges.specs.Words.{graph}
 use Rattle.walk_feasible.specs.Search.{rests}
 use Rattle.data_relations.specs.Rows.{row-bit}
-use Rattle.theory.specs.Graphs.{Gains, Rooted, Shape}
+use Rattle.theory.specs.Graphs.{Gains, Rooted, Shape, SheetLeasts}
 use Rattle.laws.proofs.Bools.{both-ways}
 use Rattle.walk_cells.proofs.Tables.{square-own, square-then}
 use Rattle.walk_heaviest.proofs.FirstSweep.{rest-stable}
@@ -33,15 +34,15 @@ origin w = start (turned (seeded w))
 
 -- What the sweeps tell of 10, by the source's column.
 told : (w : tie.After-settle) → Shape (origin w .args .n) (members (graph (origin w .args .es .now))) → Rooted (origin w .args .n) (members (graph (origin w .args .es .now)))
-    → Gains (members (graph (origin w .args .es .now))) most-gain → ((v : ℕ) → v < origin w .args .n → row-bit (origin w .args .sets .now) v 0 ≡ true)
+    → Gains (members (graph (origin w .args .es .now))) most-gain → SheetLeasts (leasts-in (origin w .args .leasts .now)) (members (graph (origin w .args .es .now))) → ((v : ℕ) → v < origin w .args .n → row-bit (origin w .args .sets .now) v 0 ≡ true)
     → w .settle .result ≡ rests (origin w .args .n) (origin w .args .es .now)
-told w shape rooted gains sources =
+told w shape rooted gains leasts sources =
     let sown = seeded w in
     let t = turned sown in
     let s = start t in
     let a = s .args in
     w .settle .ensures .told shape rooted
-    (λ d₁ m opened. rest-stable (a .es .now) (a .maps .now) (t .transpose .last .1 .1 .0) (a .sets .now) (a .n) (s .pre .given .some) (s .pre .given .few) (t .transpose .ensures) shape gains sources (sown .seed .ensures) opened rooted)
+    (λ d₁ m opened. rest-stable (a .es .now) (leasts-in (a .leasts .now)) (a .maps .now) (t .transpose .last .1 .1 .0) (a .sets .now) (a .n) (s .pre .given .some) (s .pre .given .few) (t .transpose .ensures) shape gains leasts sources (sown .seed .ensures) opened rooted)
 
 transpose-requires : tie.Need-transpose-requires
 transpose-requires c κs = search needs
@@ -80,7 +81,7 @@ returns c =
     record {
       square = square-then (seeded w .seed .ensures .square) (w .settle .ensures .square);
       cells = λ q. absurd (both-ways q refl);
-      told = λ shape rooted gains sources. sym (not-true _ (c .if1 .taken)) ∙ told w shape rooted gains sources;
+      told = λ shape rooted gains leasts sources. sym (not-true _ (c .if1 .taken)) ∙ told w shape rooted gains leasts sources;
     }
 
 spread-rows-requires : tie.Need-spread-rows-requires
@@ -106,10 +107,10 @@ returns-2 c =
     let spread = c .before .spread-rows .ensures in
     record {
       square = square-then (sown .seed .ensures .square) (square-then (w .settle .ensures .square) (spread .square));
-      cells = λ q within well posed gains x inside support v b member.
-          walks-found (a .es .now) (a .maps .now) (t .transpose .last .1 .1 .0) (a .sets .now) (a .n) (s .pre .given .few) within (t .transpose .ensures) well posed gains
+      cells = λ q within leasts well posed gains x inside support v b member.
+          walks-found (a .es .now) (leasts-in (a .leasts .now)) (a .maps .now) (t .transpose .last .1 .1 .0) (a .sets .now) (a .n) (s .pre .given .few) within (t .transpose .ensures) well posed gains leasts
           (sown .seed .ensures) (w .settle .ensures .settled possible) x inside support v b member spread;
-      told = λ shape rooted gains sources. sym possible ∙ told w shape rooted gains sources;
+      told = λ shape rooted gains leasts sources. sym possible ∙ told w shape rooted gains leasts sources;
     }
 
 pub walks-if-possible-spec : {M : Type 1} → statement M

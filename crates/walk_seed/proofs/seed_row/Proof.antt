@@ -5,23 +5,23 @@ use mathlib.Core.Bool.{true}
 use Prim.Native.Nat.{ℕ}
 use Rattle.definitions.specs.Basics.{test-bit}
 use Rattle.laws.proofs.Maps.{removed-lt}
-use Rattle.walk_cells.specs.Cells.{weightless}
+use Rattle.data_edges.specs.Serial.{leasts-in}
 use Rattle.walk_cells.proofs.Tables.{square-own}
 use Rattle.walk_seed.specs.Seeds.{Seeded}
 use Rattle.walk_seed.proofs.Numbering.{still-left}
-use Rattle.walk_seed.proofs.Seeding.{Sown, sown-end, sown-more, sown-start, stored-cell}
+use Rattle.walk_seed.proofs.Seeding.{Passed, passed-end, passed-more, passed-start, stored-cell}
 use borrow.Author.Needs.{needs}
 use Rattle.walk_seed.proofs.seed_row.Statement.{statement}
 use Rattle.walk_seed.proofs.seed_row.Tie as tie
 
 abbrev Inv-loop : tie.InvT-loop
-Inv-loop d₀ number map v left₀ d left = ((j : ℕ) → test-bit left j ≡ true → test-bit map j ≡ true) × Seeded number (Sown v map left) d₀ d
+Inv-loop d₀ number leasts map v left₀ d left = ((j : ℕ) → test-bit left j ≡ true → test-bit map j ≡ true) × Seeded (leasts-in leasts) number (Passed v map left) d₀ d
 
 abbrev μ-loop : tie.MeasureT-loop
-μ-loop d₀ number map v left₀ d left = left
+μ-loop d₀ number leasts map v left₀ d left = left
 
 loop-holds : tie.Need-loop-holds Inv-loop μ-loop
-loop-holds c = (λ j h. h, sown-start _ _ _ _ (c .pre .1))
+loop-holds c = (λ j h. h, passed-start _ _ _ _ _ (c .pre .1))
 
 lowest-requires : tie.Need-lowest-requires Inv-loop μ-loop
 lowest-requires c κs = omega arith
@@ -31,6 +31,15 @@ element-copy-out-place c = search needs
 
 place-requires : tie.Need-place-requires Inv-loop μ-loop
 place-requires c κs = search needs
+
+mul-least-cell : tie.Need-mul-least-cell Inv-loop μ-loop
+mul-least-cell c = search needs
+
+element-copy-out-least-cell : tie.Need-element-copy-out-least-cell Inv-loop μ-loop
+element-copy-out-least-cell c = search needs
+
+least-cell-requires : tie.Need-least-cell-requires Inv-loop μ-loop
+least-cell-requires c κs = search needs
 
 mul-d : tie.Need-mul-d Inv-loop μ-loop
 mul-d c = search needs
@@ -48,26 +57,27 @@ without-lowest-requires : tie.Need-without-lowest-requires Inv-loop μ-loop
 without-lowest-requires c κs = omega arith
 
 loop-less : tie.Need-loop-less Inv-loop μ-loop
-loop-less c = let low = c .before .before .before .lowest .ensures in removed-lt _ _ _ (low .member) (c .without-lowest .ensures _ low)
+loop-less c = let low = c .before .before .before .before .before .lowest .ensures in removed-lt _ _ _ (low .member) (c .without-lowest .ensures _ low)
 
 loop-again : tie.Need-loop-again Inv-loop μ-loop
 loop-again c =
-    let a = c .before .before .before .lowest in
-    let k = c .before .place in
-    let s = c .before .before .before .before .before in
+    let a = c .before .before .before .before .before .lowest in
+    let k = c .before .before .before .place in
+    let least = c .before .least-cell in
+    let s = c .before .before .before .before .before .before .before in
     let args = s .before .args in
     let S = s .loop .inv .1 .square in
     let leaves = c .without-lowest .ensures _ (a .ensures) in
-    let stored = stored-cell (args .v) (k .result) weightless (s .loop .d) (square-own S) (omega (arith, s .before .pre .0, S .rows)) (k .ensures .1) in (
+    let stored = stored-cell (args .v) (k .result) (least .result) (s .loop .d) (square-own S) (omega (arith, s .before .pre .0, S .rows)) (k .ensures .1) in (
       λ j h. s .loop .inv .0 j (still-left (s .loop .left) (c .without-lowest .result) (a .result) leaves j h .0),
-      sown-more (args .number .now) (args .v) (args .map) (s .loop .left) (c .without-lowest .result) (a .result) (k .result) (a .ensures .below) (s .loop .inv .0 _ (a .ensures .member)) (a .ensures .member) leaves (k .ensures .0) (s .loop .inv .1) stored,
+      passed-more (leasts-in (args .leasts .now)) (args .number .now) (args .v) (args .map) (s .loop .left) (c .without-lowest .result) (a .result) (k .result) (least .result) (a .ensures .below) (s .loop .inv .0 _ (a .ensures .member)) (a .ensures .member) leaves (k .ensures .0) (least .ensures) (s .loop .inv .1) stored,
     )
 
 same-length : tie.Need-same-length Inv-loop μ-loop
 same-length c = c .before .loop .inv .1 .square .rows
 
 returns : tie.Need-returns Inv-loop μ-loop
-returns c = sown-end _ _ _ _ (omega arith) (c .before .loop .inv .1)
+returns c = passed-end _ _ _ _ _ (omega arith) (c .before .loop .inv .1)
 
 pub seed-row-spec : {M : Type 1} → statement M
 seed-row-spec =
@@ -79,6 +89,9 @@ seed-row-spec =
     lowest-requires
     element-copy-out-place
     place-requires
+    mul-least-cell
+    element-copy-out-least-cell
+    least-cell-requires
     mul-d
     mul-d-2
     index-1-d

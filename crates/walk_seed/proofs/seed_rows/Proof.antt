@@ -2,6 +2,7 @@
 use borrow.Author.Needs.{needs}
 use Rattle.walk_cells.proofs.Tables.{square-own}
 use native.Mathlib.Omega.{arith}
+use Rattle.data_edges.specs.Serial.{leasts-in}
 use Rattle.walk_seed.specs.Seeds.{Seeded}
 use Rattle.walk_seed.proofs.Seeding.{Below, below-more, below-start}
 use Prim.Native.Nat.{ℕ, _-_, _≤_}
@@ -10,13 +11,13 @@ use Rattle.walk_seed.proofs.seed_rows.Statement.{statement}
 use Rattle.walk_seed.proofs.seed_rows.Tie as tie
 
 abbrev Inv-loop : tie.InvT-loop
-Inv-loop d₀ number sets n v₀ d v = (v ≤ n) × Seeded number (Below sets v) d₀ d
+Inv-loop d₀ number leasts sets n v₀ d v = (v ≤ n) × Seeded (leasts-in leasts) number (Below sets v) d₀ d
 
 abbrev μ-loop : tie.MeasureT-loop
-μ-loop d₀ number sets n v₀ d v = n - v
+μ-loop d₀ number leasts sets n v₀ d v = n - v
 
 loop-holds : tie.Need-loop-holds Inv-loop μ-loop
-loop-holds c = (omega arith, below-start (c .args .number .now) (c .args .sets .now) (c .args .d .now) (c .pre .square))
+loop-holds c = (omega arith, below-start (leasts-in (c .args .leasts .now)) (c .args .number .now) (c .args .sets .now) (c .args .d .now) (c .pre .square))
 
 mul-seed-row : tie.Need-mul-seed-row Inv-loop μ-loop
 mul-seed-row c = search needs
@@ -34,7 +35,7 @@ loop-less : tie.Need-loop-less Inv-loop μ-loop
 loop-less c = search needs
 
 loop-again : tie.Need-loop-again Inv-loop μ-loop
-loop-again c = let s = c .before .before .before .before .before in (omega arith, below-more (s .before .args .number .now) (s .before .args .sets .now) (s .loop .v) (s .loop .inv .1) (c .before .seed-row .ensures))
+loop-again c = let s = c .before .before .before .before .before in (omega arith, below-more (leasts-in (s .before .args .leasts .now)) (s .before .args .number .now) (s .before .args .sets .now) (s .loop .v) (s .loop .inv .1) (c .before .seed-row .ensures))
 
 same-length : tie.Need-same-length Inv-loop μ-loop
 same-length c = c .before .loop .inv .1 .square .rows
@@ -44,7 +45,7 @@ returns c =
     let s = c .before in
     let args = s .before .args in
     let e : s .loop .v ≡ args .n = omega arith in
-    subst (λ (x : ℕ). Seeded (args .number .now) (Below (args .sets .now) x) (args .d .now) (s .loop .d)) e (s .loop .inv .1)
+    subst (λ (x : ℕ). Seeded (leasts-in (args .leasts .now)) (args .number .now) (Below (args .sets .now) x) (args .d .now) (s .loop .d)) e (s .loop .inv .1)
 
 pub seed-rows-spec : {M : Type 1} → statement M
 seed-rows-spec =

@@ -7,6 +7,7 @@ use mathlib.Core.List.{List}
 use Prim.Native.Nat.{ℕ}
 use borrow.Author.Tests.{not-true, not-false}
 use Rattle.definitions.specs.Waits.{wait-edge}
+use Rattle.data_edges.specs.Serial.{leasts-in}
 use Rattle.laws.proofs.Maps.{removed-lt}
 use Rattle.walk_settled.specs.Settled.{handed-on, waits-handed-on}
 use Rattle.walk_settled.proofs.Handing.{members-fail, members-less, members-none}
@@ -16,17 +17,17 @@ use Rattle.walk_settled.proofs.settled_row.Reads as reads
 use Rattle.walk_settled.proofs.settled_row.Lts as lts
 use Rattle.data_bits.proofs.lowest.Reads as lowest-reads
 use Rattle.data_bits.proofs.without_lowest.Reads as without-lowest-reads
-use Rattle.walk_settled.proofs.handed.Reads as handed-reads
+use Rattle.walk_settled.proofs.handed_wait.Reads as handed-wait-reads
 
 -- The wait of i for a has handed on.
-abbrev waited : List (List ℕ) → ℕ → ℕ → Bool
-waited d i a = handed-on d (wait-edge (record { anchor = a; target = i }))
+abbrev waited : List (List ℕ) → List ℕ → ℕ → ℕ → Bool
+waited d leasts i a = handed-on d (wait-edge (leasts-in leasts) (record { anchor = a; target = i }))
 
 abbrev Inv-loop : tie.InvT-loop
-Inv-loop d map i left₀ left = waits-handed-on d map i ≡ waits-handed-on d left i
+Inv-loop d leasts map i left₀ left = waits-handed-on d (leasts-in leasts) map i ≡ waits-handed-on d (leasts-in leasts) left i
 
 abbrev μ-loop : tie.MeasureT-loop
-μ-loop d map i left₀ left = left
+μ-loop d leasts map i left₀ left = left
 
 loop-holds : tie.Need-loop-holds Inv-loop μ-loop
 loop-holds c = refl
@@ -34,30 +35,37 @@ loop-holds c = refl
 lowest-requires : tie.Need-lowest-requires Inv-loop μ-loop
 lowest-requires c κs = omega arith
 
-handed-requires : tie.Need-handed-requires Inv-loop μ-loop
-handed-requires c κs = search needs
+mul-handed-wait : tie.Need-mul-handed-wait Inv-loop μ-loop
+mul-handed-wait c = search needs
+
+element-copy-out-handed-wait : tie.Need-element-copy-out-handed-wait Inv-loop μ-loop
+element-copy-out-handed-wait c = search needs
+
+handed-wait-requires : tie.Need-handed-wait-requires Inv-loop μ-loop
+handed-wait-requires c κs = search needs
 
 returns : tie.Need-returns Inv-loop μ-loop
 returns c =
-    let s = c .before .before .before .before in
-    let low = c .before .before .lowest in
-    sym (s .loop .inv ∙ members-fail (waited (s .before .args .d .now) (s .before .args .i)) (s .loop .left) (low .result) (low .ensures .below) (low .ensures .member) (sym (c .before .handed .ensures) ∙ not-true _ (c .if1 .taken)))
+    let s = c .before .before .before .before .before in
+    let low = c .before .before .before .lowest in
+    sym (s .loop .inv ∙ members-fail (waited (s .before .args .d .now) (s .before .args .leasts .now) (s .before .args .i)) (s .loop .left) (low .result) (low .ensures .below) (low .ensures .member) (sym (c .before .handed-wait .ensures) ∙ not-true _ (c .if1 .taken)))
 
 without-lowest-requires : tie.Need-without-lowest-requires Inv-loop μ-loop
 without-lowest-requires c κs = omega arith
 
 loop-less : tie.Need-loop-less Inv-loop μ-loop
-loop-less c = removed-lt _ _ _ (c .before .before .before .lowest .ensures .member) (c .without-lowest .ensures _ (c .before .before .before .lowest .ensures))
+loop-less c = let low = c .before .before .before .before .lowest .ensures in removed-lt _ _ _ (low .member) (c .without-lowest .ensures _ low)
 
 loop-again : tie.Need-loop-again Inv-loop μ-loop
 loop-again c =
-    let s = c .before .before .before .before .before in
+    let s = c .before .before .before .before .before .before in
+    let low = c .before .before .before .before .lowest in
     s .loop .inv
-    ∙ members-less (waited (s .before .args .d .now) (s .before .args .i)) (s .loop .left) (c .without-lowest .result) (c .before .before .before .lowest .result)
-    (sym (c .before .before .handed .ensures) ∙ not-false _ (c .before .if1 .left)) (c .without-lowest .ensures _ (c .before .before .before .lowest .ensures))
+    ∙ members-less (waited (s .before .args .d .now) (s .before .args .leasts .now) (s .before .args .i)) (s .loop .left) (c .without-lowest .result) (low .result)
+    (sym (c .before .before .handed-wait .ensures) ∙ not-false _ (c .before .if1 .left)) (c .without-lowest .ensures _ (low .ensures))
 
 returns-2 : tie.Need-returns-2 Inv-loop μ-loop
-returns-2 c = let s = c .before in sym (s .loop .inv ∙ members-none (waited (s .before .args .d .now) (s .before .args .i)) (s .loop .left) (omega arith))
+returns-2 c = let s = c .before in sym (s .loop .inv ∙ members-none (waited (s .before .args .d .now) (s .before .args .leasts .now) (s .before .args .i)) (s .loop .left) (omega arith))
 
 pub settled-row-spec : {M : Type 1} → statement M
 settled-row-spec =
@@ -67,7 +75,9 @@ settled-row-spec =
     μ-loop
     loop-holds
     lowest-requires
-    handed-requires
+    mul-handed-wait
+    element-copy-out-handed-wait
+    handed-wait-requires
     returns
     without-lowest-requires
     loop-less

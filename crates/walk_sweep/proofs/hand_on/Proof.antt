@@ -3,6 +3,7 @@ use mathlib.Core.Path.{sym, ap, _∙_}
 use native.Mathlib.Omega.{arith}
 use borrow.Author.Tests.{not-true}
 use Rattle.definitions.specs.Basics.{test-bit}
+use Rattle.data_edges.specs.Serial.{leasts-in}
 use Rattle.walk_cells.proofs.Tables.{square-own}
 use Rattle.walk_sweep.proofs.Sweeping.{swept-none, visited}
 use borrow.Author.Needs.{needs}
@@ -57,9 +58,15 @@ mul-push-waits c = search needs
 element-copy-out-push-waits : tie.Need-element-copy-out-push-waits
 element-copy-out-push-waits c = search needs
 
+mul-push-waits-2 : tie.Need-mul-push-waits-2
+mul-push-waits-2 c = search needs
+
+element-copy-out-push-waits-2 : tie.Need-element-copy-out-push-waits-2
+element-copy-out-push-waits-2 c = search needs
+
 push-waits-requires : tie.Need-push-waits-requires
 push-waits-requires c κs =
-    let p = c .before .before .before .before in
+    let p = c .before .before .before .before .before in
     let t = taken p in
     let s = start t in
     let S = p .push-row .ensures .square in
@@ -70,10 +77,10 @@ same-length c = search needs
 
 returns-2 : tie.Need-returns-2
 returns-2 c =
-    let p = c .before .before .before .before .before .before in
+    let p = c .before .before .before .before .before .before .before in
     let t = taken p in
     let took = t .take .ensures in
-    (visited _ (start t .args .waiting .now) _ _ _ _ _ _ _ _ _ _ _ _ _ (extent t .extent .ensures) took (removed t .remove .ensures) (p .push-row .ensures) (c .before .push-waits .ensures _ _), took .long)
+    (visited _ (leasts-in (start t .args .leasts .now)) (start t .args .waiting .now) _ _ _ _ _ _ _ _ _ _ _ _ _ (extent t .extent .ensures) took (removed t .remove .ensures) (p .push-row .ensures) (c .before .push-waits .ensures _ _), took .long)
 
 pub hand-on-spec : {M : Type 1} → statement M
 hand-on-spec =
@@ -89,6 +96,8 @@ hand-on-spec =
     push-row-requires
     mul-push-waits
     element-copy-out-push-waits
+    mul-push-waits-2
+    element-copy-out-push-waits-2
     push-waits-requires
     same-length
     returns-2)

@@ -17,10 +17,10 @@ use Rattle.walk_sweep.proofs.push_waits.Statement.{statement}
 use Rattle.walk_sweep.proofs.push_waits.Tie as tie
 
 abbrev Inv-loop : tie.InvT-loop
-Inv-loop d₀ row marks waiting width left₀ todo₀ d left todo = ((j : ℕ) → test-bit todo j ≡ true → test-bit waiting j ≡ true) × ((u : ℕ) (number : List ℕ) → HandedAll (λ a. Told u waiting todo) number u (lent row width) d₀ d marks left)
+Inv-loop d₀ row marks waiting least width left₀ todo₀ d left todo = ((j : ℕ) → test-bit todo j ≡ true → test-bit waiting j ≡ true) × ((u : ℕ) (number : List ℕ) → HandedAll (λ a. Told least u waiting todo) number u (lent row width) d₀ d marks left)
 
 abbrev μ-loop : tie.MeasureT-loop
-μ-loop d₀ row marks waiting width left₀ todo₀ d left todo = todo
+μ-loop d₀ row marks waiting least width left₀ todo₀ d left todo = todo
 
 -- Places, from the end of a turn: its start, and where the step that is told is known.
 abbrev turn : tie.After-without-lowest Inv-loop μ-loop → tie.At-loop Inv-loop μ-loop
@@ -31,28 +31,28 @@ lowest s = s .before .before .before .before
 
 -- The wait of that step for u.
 abbrev wait : tie.After-without-lowest Inv-loop μ-loop → ℕ → Edge
-wait s u = wait-edge (record { anchor = u; target = lowest s .lowest .result })
+wait s u = wait-edge (λ a. turn s .before .args .least) (record { anchor = u; target = lowest s .lowest .result })
 
--- It has handed on, as an edge that gains and loses nothing.
+-- It has handed on, as an edge that gains the least and loses nothing.
 abbrev Hands : tie.After-without-lowest Inv-loop μ-loop → ℕ → List ℕ → Type 0
 Hands s u number =
     let t = turn s in
-    let raised = s .before .before .raise-row in
+    let raised = s .before .before .raise-by in
     HandedAll (λ a. UsableFrom (Only (wait s u)) a) number u (lent (t .before .args .row .now) (t .before .args .width)) (t .loop .d) (raised .last .0) (t .loop .left) (raised .result)
 
 handed : (s : tie.After-without-lowest Inv-loop μ-loop) (u : ℕ) (number : List ℕ) → Hands s u number
 handed s u number =
     let a = turn s .before .args in
-    handed-row (wait s u) number (a .row .now) (a .width) (turn s .before .pre .clear) _ _ _ _ _ _ _ (omega arith) (omega arith) refl refl (s .before .before .raise-row .ensures) (timely-columns (wait s u) number _ refl)
+    handed-row (wait s u) number (a .row .now) (a .width) (turn s .before .pre .clear) _ _ _ _ _ _ _ (omega arith) (omega arith) refl (omega arith) (s .before .before .raise-by .ensures) (timely-columns (wait s u) number _ refl)
 
 loop-holds : tie.Need-loop-holds Inv-loop μ-loop
-loop-holds c = (λ j h. h, λ u number. told-start _ _ _ _ _ _ (c .pre .square))
+loop-holds c = (λ j h. h, λ u number. told-start _ _ _ _ _ _ _ (c .pre .square))
 
 lowest-requires : tie.Need-lowest-requires Inv-loop μ-loop
 lowest-requires c κs = omega arith
 
-raise-row-requires : tie.Need-raise-row-requires Inv-loop μ-loop
-raise-row-requires c κs =
+raise-by-requires : tie.Need-raise-by-requires Inv-loop μ-loop
+raise-by-requires c κs =
     let at-loop = c .before .before .before in
     let p = at-loop .before .pre in
     let low = c .before .lowest in
@@ -70,13 +70,13 @@ loop-again c =
     let s = turn c in
     let low = lowest c .lowest .ensures in
     let less = c .without-lowest .ensures _ low in
-    (left-within _ _ _ _ (s .loop .inv .0) less, λ u number. told-turn _ _ _ _ _ _ _ _ _ _ _ _ _ (s .loop .inv .0) (low .member) less (s .loop .inv .1 u number) (handed c u number))
+    (left-within _ _ _ _ (s .loop .inv .0) less, λ u number. told-turn _ _ _ _ _ _ _ _ _ _ _ _ _ _ (s .loop .inv .0) (low .member) less (s .loop .inv .1 u number) (handed c u number))
 
 same-length : tie.Need-same-length Inv-loop μ-loop
 same-length c = c .before .loop .inv .1 0 [] .square .rows
 
 returns : tie.Need-returns Inv-loop μ-loop
-returns c = λ u number. told-end _ _ _ _ _ _ _ _ _ (omega arith) (c .before .loop .inv .1 u number)
+returns c = λ u number. told-end _ _ _ _ _ _ _ _ _ _ (omega arith) (c .before .loop .inv .1 u number)
 
 pub push-waits-spec : {M : Type 1} → statement M
 push-waits-spec =
@@ -86,7 +86,7 @@ push-waits-spec =
     μ-loop
     loop-holds
     lowest-requires
-    raise-row-requires
+    raise-by-requires
     without-lowest-requires
     loop-less
     loop-again

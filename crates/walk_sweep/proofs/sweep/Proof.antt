@@ -3,6 +3,7 @@ use mathlib.Core.Path.{_≡_, refl}
 use Prim.Native.Nat.{_-_, _≤_, _<_}
 use native.Mathlib.Omega.{arith}
 use lib.ListN.{length}
+use Rattle.data_edges.specs.Serial.{leasts-in}
 use Rattle.walk_sweep.specs.Graphs.{SweptBy, visits}
 use Rattle.walk_sweep.proofs.Sweeping.{network-then, swept-all, swept-down, swept-none, swept-part}
 use borrow.Author.Needs.{needs}
@@ -10,11 +11,11 @@ use Rattle.walk_sweep.proofs.sweep.Statement.{statement}
 use Rattle.walk_sweep.proofs.sweep.Tie as tie
 
 abbrev Inv-loop : tie.InvT-loop
-Inv-loop d₀ marks es lists waiting order place number width n row₀ left₀ hint₀ k₀ d row left hint k =
-    (k ≤ visits n) × SweptBy es waiting number width (λ v. (k ≤ v) × (v < n)) (visits n - k) d₀ d marks left × (length row ≡ 64)
+Inv-loop d₀ marks es lists leasts waiting order place number width n row₀ left₀ hint₀ k₀ d row left hint k =
+    (k ≤ visits n) × SweptBy es (leasts-in leasts) waiting number width (λ v. (k ≤ v) × (v < n)) (visits n - k) d₀ d marks left × (length row ≡ 64)
 
 abbrev μ-loop : tie.MeasureT-loop
-μ-loop d₀ marks es lists waiting order place number width n row₀ left₀ hint₀ k₀ d row left hint k = k
+μ-loop d₀ marks es lists leasts waiting order place number width n row₀ left₀ hint₀ k₀ d row left hint k = k
 
 -- Places: the start, from the loop; the loop, from where a step has handed on; and that, from the end of a turn.
 abbrev start : tie.At-loop Inv-loop μ-loop → tie.Start Inv-loop μ-loop

@@ -1,0 +1,210 @@
+"""Sheets with least durations, worked out by hand from document 01 and requests L6 and L11, and a run: python3 worked.py LIBRARY
+
+LIBRARY is made of second.cpp and runner.cpp. The first difference ends the run with status 1."""
+import ctypes as c
+import sys
+
+library = c.CDLL(sys.argv[1])
+AFTER, AT_LEAST, AT_MOST, GAP, FINISH = 1, 2, 4, 8, 16
+LENT, UNDECIDED = 12345, 4294967295
+
+
+def two(x: int) -> bytes:
+    """A number of two bytes."""
+    return bytes((x % 256, x // 256))
+
+
+def open_step(least: int | None = None) -> bytes:
+    """An open step."""
+    return b"\1" if least is None else b"\5" + two(least)
+
+
+def fixed(ticks: int) -> bytes:
+    """A fixed step."""
+    return b"\2" + two(ticks)
+
+
+def sheet(steps: list[bytes], links: list[tuple]) -> bytes:
+    """The bytes of a sheet; step 0 is put in front. A link is its map, i, j and its numbers."""
+    records = [bytes(link[:3]) + b"".join(map(two, link[3:])) for link in sorted(links, key=lambda link: link[1:3])]
+    return bytes([len(steps) + 1]) + two(len(records)) + b"\1" + b"".join(steps) + b"".join(records)
+
+
+def plan(data: bytes):
+    """Waits and the rows of a plan, or the refusal."""
+    table, maps, count = (c.c_uint32 * 4096)(), (c.c_uint64 * 64)(), c.c_uint32()
+    verdict = library.second_plan(data, c.c_size_t(len(data)), c.c_bool(True), table, c.c_size_t(4096))
+    assert library.second_waits(data, c.c_size_t(len(data)), maps, c.byref(count)) == verdict
+    assert library.second_judge(data, c.c_size_t(len(data)), c.c_bool(True)) == verdict
+    if verdict >= 256:
+        return verdict - 256
+    n = data[0]
+    assert verdict == (count.value > 0)
+    rows = [{a: table[v * n + a] for a in range(n) if table[v * n + a] != UNDECIDED} for v in range(n)]
+    return [(a, i) for a in range(64) for i in range(64) if maps[i] >> a & 1], rows
+
+
+def starts(data: bytes, entries: list[int], room: int = 64):
+    """Start times, or the refusal."""
+    out, n = (c.c_uint32 * 64)(*[LENT] * 64), data[0]
+    lent = (c.c_uint32 * max(1, len(entries)))(*entries)
+    verdict = library.second_starts(data, c.c_size_t(len(data)), c.c_bool(True), lent, c.c_size_t(len(entries)), out, c.c_size_t(room))
+    assert list(out)[0 if verdict >= 256 else n:] == [LENT] * (64 if verdict >= 256 else 64 - n)
+    return verdict - 256 if verdict >= 256 else list(out)[:n]
+
+
+def steps(data: bytes, room: int = 64):
+    """N, the open steps and the leasts, or the refusal."""
+    n, opened, leasts = c.c_size_t(LENT), c.c_uint64(LENT), (c.c_uint16 * 64)(*[LENT] * 64)
+    verdict = library.second_steps(data, c.c_size_t(len(data)), c.byref(n), c.byref(opened), leasts, c.c_size_t(room))
+    if verdict >= 256:
+        assert (n.value, opened.value, list(leasts)) == (LENT, LENT, [LENT] * 64)
+        return verdict - 256
+    assert list(leasts)[n.value:] == [LENT] * (64 - n.value)
+    return n.value, opened.value, list(leasts)[:n.value]
+
+
+def same(what: str, given, wanted) -> None:
+    """Ends the run where the two differ."""
+    if given != wanted:
+        sys.exit(f"{what}: given {given}, wanted {wanted}")
+
+
+def stand(least: int | None) -> bytes:
+    """The stand sheet, its hand with a least."""
+    return sheet([fixed(3), open_step(least), fixed(2), fixed(1)],
+                 [(AFTER, 0, 1), (AFTER, 0, 2), (AFTER, 1, 4), (AFTER, 2, 3), (AFTER | AT_MOST, 3, 4, 2)])
+
+
+def bytes_read() -> None:
+    """The map of a step."""
+    for wanted, text in ((4, "01 00 00 05 08 00"), (4, "01 00 00 05"), (4, "02 00 00 01 04 08 00"), (4, "02 00 00 01 06 08 00"), (4, "02 00 00 01 07 08 00"),
+                         (4, "02 00 00 01 03"), (4, "02 00 00 01 0d 08 00"), (1, "02 00 00 01"), (1, "02 00 00 01 05"), (1, "02 00 00 01 05 08"),
+                         (7, "02 00 00 01 05 08 00 00"), (26, "02 01 00 01 05 08 00 10 00 01 00 00"), (5, "02 01 00 01 05 08 00 01 01 01")):
+        same(text, (plan(bytes.fromhex(text)), steps(bytes.fromhex(text), 0)), (wanted, wanted))
+    for least in (0, 8, 65535):
+        same(f"one hand of {least}", plan(sheet([open_step(least)], [])), ([], [{0: 0}, {0: 0}]))
+    same("steps", steps(stand(8)), (5, 0b00101, [0, 0, 8, 0, 0]))
+    same("steps, 5 lent", steps(stand(65535), 5), (5, 0b00101, [0, 0, 65535, 0, 0]))
+    same("steps, 4 lent", steps(stand(8), 4), 14)
+    same("steps of the start", steps(bytes.fromhex("01 00 00 01")), (1, 1, [0]))
+    same("steps of an impossible sheet", steps(sheet([open_step(3)], [(AFTER, 1, 0)])), (2, 3, [0, 3]))
+
+
+def plans() -> None:
+    """Walks, offsets, deciding sets, refusals."""
+    hand = {0: 0}
+    same("stand, 0", plan(stand(0)), plan(stand(None)))
+    same("stand, none", plan(stand(None)), ([], [hand, hand, hand, {0: 1, 2: 0}, {0: 3, 2: 2}]))
+    for least in (1, 8):                                # the lamps no longer matter: 0 + 1 + 0 reaches 1
+        same("stand", plan(stand(least)), ([], [hand, hand, hand, {2: 0}, {2: 2}]))
+    for least, wanted in ((8, {0: 10, 1: 0}), (9, {0: 10, 1: 0}), (10, {1: 0})):
+        same("at least 10 out of the hand", plan(sheet([open_step(least), fixed(0)], [(AFTER | AT_LEAST, 1, 2, 10)])), ([], [hand, hand, wanted]))
+    # From 1 the offset of 3 has the least of 2 in it and not that of 1; 2 decides alone. A gap beside the first link counts.
+    same("two hands in a row", plan(sheet([open_step(8), open_step(4), fixed(0)], [(AFTER, 1, 2), (AFTER, 2, 3)])), ([], [hand, hand, {1: 0}, {2: 0}]))
+    for least, wanted in ((4, {1: 11, 2: 0}), (5, {2: 0})):
+        same("two hands in a row, and a gap", plan(sheet([open_step(8), open_step(least), fixed(0)],
+             [(AFTER | GAP, 1, 2, 6), (AFTER, 2, 3), (AFTER | GAP, 1, 3, 11)])), ([], [hand, hand, {1: 6}, wanted]))
+    same("two hands, a wait", plan(sheet([open_step(3), open_step(5), fixed(0), fixed(0)], [(AFTER, 1, 3), (AFTER, 2, 4), (AT_MOST, 3, 4, 5)])),
+         ([(2, 3)], [hand, hand, hand, {1: 0, 2: 0}, {2: 0}]))
+    for limit, wanted in ((7, 10), (8, 11)):
+        same("from the start", plan(sheet([open_step(8), fixed(0)], [(AFTER, 1, 2), (AT_MOST, 0, 2, limit)])), wanted)
+        same("from the hand's start", plan(sheet([open_step(8), fixed(0)], [(AFTER | AT_MOST, 1, 2, limit)])), wanted)
+    same("impossible without its least too", plan(sheet([open_step(), fixed(0)], [(AFTER | AT_MOST, 1, 2, 7)])), 11)
+
+
+def limits_from_the_finish() -> None:
+    """L11's return, and 28."""
+    hand = {0: 0}
+    for least, at_least, wanted in ((8, 13, ([], [hand, hand, {0: 13, 1: 0}])), (8, 14, 10), (None, 13, 10), (None, 5, ([], [hand, hand, {0: 5, 1: 0}]))):
+        same("a hand that is never too short", plan(sheet([open_step(least), fixed(0)], [(AFTER | AT_LEAST | FINISH, 1, 2, at_least, 5)])), wanted)
+    # Hand 1 waits for hand 2: 3 comes 20 after the end of 2 and 5 after that of 1, which lasts 8. 7 + 8 + 0 does not reach 20.
+    same("a wait of a hand", plan(sheet([open_step(8), open_step(), fixed(0)], [(AFTER | FINISH, 1, 3, 5), (AFTER | GAP, 2, 3, 20)])),
+         ([(2, 1)], [hand, {2: 7}, hand, {1: 0, 2: 20}]))
+    # 2 waits for hand 1, 3 comes 10 later, and must come so soon after the end of hand 1.
+    for least in (None, 8):
+        for limit, wanted in ((9, 28), (5, 28), (10, ([(1, 2)], [hand, hand, {1: 0}, {1: 10}]))):
+            same("a wait that is too long", plan(sheet([open_step(least), fixed(10), fixed(0)],
+                 [(AFTER | FINISH, 1, 3, limit), (AFTER | AT_MOST, 2, 3, 20)])), wanted)
+    # 5 comes just 5 after the end of hand 1, which hand 2 waits for, and 5 after hand 2 starts: hand 2 starts at that end. So does 3, and 4 comes when 3 is
+    # done, at most 3 after the end of hand 2.
+    for least, ticks, wanted in ((None, 3, {1: 3, 2: 0}), (None, 4, 28), (8, 11, {1: 11, 2: 0}), (8, 12, 28), (9, 12, {1: 12, 2: 0}), (20, 12, {2: 0})):
+        same("a least that makes room", plan(sheet([open_step(2), open_step(least), fixed(ticks), fixed(0), fixed(0)],
+             [(AFTER | FINISH, 1, 5, 5), (AFTER | FINISH, 2, 4, 3), (AT_LEAST, 2, 5, 5), (AFTER, 3, 4), (AT_MOST, 3, 5, 100)])),
+             wanted if wanted == 28 else ([(1, 2), (1, 3)], [hand, hand, {1: 0}, {1: 0}, wanted, {1: 5}]))
+
+
+def lists() -> None:
+    """Start times, and 13."""
+    for entry, wanted in ((10, [0, 0, 0, 10, 12]), (8, [0, 0, 0, 8, 10]), (7, 13), (0, 13), (16777215, [0, 0, 0, 16777215, 16777217]), (16777216, 13)):
+        same(f"stand, hand {entry}", starts(stand(8), [0, 0, entry, 0, 0]), wanted)
+    same("stand, short list with a fault", starts(stand(8), [0, 0, 7], 0), 13)
+    same("stand, short list", starts(stand(8), [0, 0, 8]), 14)
+    same("stand, list that ends before the hand", starts(stand(8), [0, 0]), 14)
+    same("stand, no room", starts(stand(8), [0, 0, 8, 0, 0], 4), 14)
+    waiting = sheet([open_step(8), open_step(), fixed(0)], [(AFTER | FINISH, 1, 3, 5), (AFTER | GAP, 2, 3, 20)])
+    same("a wait of a hand", starts(waiting, [0, 8, 0, 0]), [0, 7, 0, 20])
+    same("a wait of a hand, longer", starts(waiting, [0, 14, 3, 0]), [0, 10, 0, 24])
+
+
+class Run:
+    """A run's state; each call gives the map of what it started, or the refusal, below 0."""
+
+    def __init__(self, table: list[int]):
+        self.words, self.tick_now = (c.c_uint64 * 4)(), c.c_uint32()
+        self.start, self.finish_ticks, self.least = (c.c_uint32 * 64)(), (c.c_uint32 * 64)(), (c.c_uint16 * 64)(*[9] * 64)
+        self.table, self.length = (c.c_uint32 * max(1, len(table)))(*table), c.c_size_t(len(table))
+
+    def all(self) -> tuple:
+        return list(self.words), self.tick_now.value, list(self.start), list(self.finish_ticks), list(self.least)
+
+    def call(self, function, *rest) -> int:
+        started, before = c.c_uint64(LENT), self.all()
+        verdict = function(self.words, c.byref(self.tick_now), self.start, self.finish_ticks, self.least, c.byref(started), *rest, self.table, self.length)
+        assert verdict == 0 or (verdict > 256 and (self.all(), started.value) == (before, LENT))
+        return 256 - verdict if verdict else started.value
+
+    def begin(self, n: int, opened: int, leasts: list[int]) -> int:
+        return self.call(library.second_begin, c.c_size_t(n), c.c_uint64(opened), (c.c_uint16 * max(1, len(leasts)))(*leasts), c.c_size_t(len(leasts)))
+
+    def tick(self) -> int:
+        return self.call(library.second_tick)
+
+    def finish(self, s: int) -> int:
+        return self.call(library.second_finish, c.c_size_t(s))
+
+
+def runs() -> None:
+    """The runner."""
+    data, table = stand(8), (c.c_uint32 * 25)()
+    library.second_plan(data, c.c_size_t(len(data)), c.c_bool(True), table, c.c_size_t(25))
+    run = Run(list(table))
+    same("begin, leasts too short", run.begin(*steps(data)[:2], [0, 0, 8, 0]), -14)
+    same("begin, 65 steps", run.begin(65, 5, []), -2)
+    same("begin, table too short", Run(list(table)[:24]).begin(*steps(data)), -14)
+    same("begin", run.begin(*steps(data)), 7)
+    same("leasts", list(run.least), [0, 0, 8] + [0] * 61)
+    same("begin again", run.begin(65, 5, []), -16)
+    same("finish at once", run.finish(2), -20)
+    same("finish of a step that has not started", run.finish(3), -17)
+    for _ in range(7):
+        same("tick", run.tick(), 0)
+        same("finish too early", run.finish(2), -20)
+    same("tick 8", run.tick(), 0)
+    same("finish", run.finish(2), 8)
+    same("finish again", run.finish(2), -17)
+    same("ticks", [run.tick() for _ in range(3)], [0, 16, 0])
+    given = Run([0, UNDECIDED, 0, UNDECIDED])           # kept as given, for steps that are not open too
+    same("begin with leasts of anything", given.begin(2, 0, [3, 65535, 7]), 3)
+    same("kept", list(given.least), [3, 65535] + [0] * 62)
+    same("not open", given.finish(1), -17)
+    for start, least, tick, wanted in ((4294967295, 1, 4294967295, -20), (4294967295, 1, 0, -20), (4294967295, 0, 4294967295, 0), (4294967290, 6, 3, -20),
+                                       (4294901760, 65535, 4294967295, 0), (4294901761, 65535, 4294967295, -20), (5, 0, 4, -20), (5, 3, 7, -20), (5, 3, 8, 0)):
+        run = Run([UNDECIDED] * 4)
+        run.words[:], run.tick_now.value, run.start[1], run.least[1] = [2, 2, 3, 1], tick, start, least
+        same(f"finish of {start}, {least}, {tick}", run.finish(1), wanted)
+
+
+for part in (bytes_read, plans, limits_from_the_finish, lists, runs):
+    part()
+print("worked sheets: as worked out")
