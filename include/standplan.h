@@ -28,9 +28,9 @@
 extern "C" {
 #endif
 
-#define STANDPLAN_VERSION "2.0.0"
+#define STANDPLAN_VERSION "2.1.0"
 #define STANDPLAN_VERSION_MAJOR 2
-#define STANDPLAN_VERSION_MINOR 0
+#define STANDPLAN_VERSION_MINOR 1
 #define STANDPLAN_VERSION_PATCH 0
 
 /* The most that there can be: steps and link records of a sheet, bytes of a sheet, numbers of a plan, ticks in a list of durations. */

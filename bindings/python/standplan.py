@@ -27,7 +27,7 @@ from functools import cache
 from pathlib import Path
 from typing import NamedTuple
 
-__version__ = "2.0.0"
+__version__ = "2.1.0"
 __all__ = ["SOUND", "SOUND_WITH_WAITS", "UNDECIDED", "MAX_STEPS", "MAX_RECORDS", "MAX_SHEET", "MAX_TABLE", "MAX_DURATION", "STACK", "SENTENCES",
            "Refused", "NoLibrary", "Plan", "Steps", "Run", "judge", "waits", "plan", "starts", "steps"]
 

@@ -1,10 +1,10 @@
 -- How the code holds edges: one word of 64 bits for each, with the fields in its digits. The code has the same names as constants.
 use mathlib.Core.Bool.{Bool}
 use mathlib.Core.List.{List, map}
-use Prim.Native.Nat.{ℕ, _+_, _*_, _/_, _%_, _<_}
+use Prim.Native.Nat.{ℕ, _+_, _*_, _/_, _%_, _<_, _≤_}
 use lib.Dec.{eqb}
 use lib.ListN.{length, getD}
-use Rattle.definitions.specs.Limits.{most-steps}
+use Rattle.definitions.specs.Limits.{most-gain, most-steps}
 use Rattle.definitions.specs.Links.{Edge}
 
 abbrev pub edge : ℕ → ℕ → ℕ → ℕ → Bool → Bool → Bool → Edge
@@ -72,3 +72,7 @@ packed f t c b g l late = f + t * to-place + c * counted-place + b * back-place 
 -- Every word of a list ends below a number of rows.
 abbrev pub EndsBelow : List ℕ → ℕ → Type 0
 EndsBelow es rows = (k : ℕ) → k < length es → unpack (getD es k 0) .to < rows
+
+-- No word of a list gains more than an edge of a sheet may.
+abbrev pub Light : List ℕ → Type 0
+Light es = (k : ℕ) → k < length es → unpack (getD es k 0) .gain ≤ most-gain

@@ -11,7 +11,7 @@ use lib.ListN.{length, getD, set, replicate, getD-replicate, length-set}
 use lib.Seq.{getD-set-same, getD-set-other}
 use borrow.Author.Tests.{eq-eqb, ne-eqb}
 use Rattle.definitions.specs.Limits.{most-edges}
-use Rattle.data_edges.specs.Words.{unpack}
+use Rattle.data_edges.specs.Words.{Light, unpack}
 use Rattle.data_edges.proofs.Digits.{from-small}
 use Rattle.laws.proofs.Bools.{same-or-not, cond-true, cond-false}
 use Rattle.data_lists.specs.Lists.{Empty, last-from, Lists, put-first}
@@ -75,5 +75,5 @@ module _ (es lists : List ℕ) (k from : ℕ) (small : k < length es) (start : f
   linked-more =
       record { long = omega (arith, L .long, first-length lists from k); heads = λ u b. head-more u b (same-or-not u from); nexts = λ i b. next-more i b (same-or-not i k) }
 
-pub linked-all : (es lists : List ℕ) (k : ℕ) → length es ≤ most-edges → k ≡ length es → Linked es lists k → Lists es lists
-linked-all es lists k few e L = record { few = few; heads = λ u b. L .heads u b ∙ ap (last-from es u) e; nexts = λ i b. L .nexts i (omega arith); long = L .long }
+pub linked-all : (es lists : List ℕ) (k : ℕ) → length es ≤ most-edges → Light es → k ≡ length es → Linked es lists k → Lists es lists
+linked-all es lists k few light e L = record { few = few; light = light; heads = λ u b. L .heads u b ∙ ap (last-from es u) e; nexts = λ i b. L .nexts i (omega arith); long = L .long }

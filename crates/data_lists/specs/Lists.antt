@@ -7,16 +7,17 @@ use Prim.Native.Nat.{ℕ, zero, suc, _+_, _<_, _≤_}
 use lib.Dec.{eqb}
 use lib.ListN.{length, getD, set}
 use Rattle.definitions.specs.Limits.{most-edges, most-steps}
-use Rattle.data_edges.specs.Words.{unpack}
+use Rattle.data_edges.specs.Words.{Light, unpack}
 
 -- One more than the index of the last of the first k words whose edge leaves u; 0 where there is none.
 unfoldable pub last-from : List ℕ → ℕ → ℕ → ℕ
 last-from es u zero = 0
 last-from es u (suc k) = cond (eqb (unpack (getD es k 0) .from) u) (suc k) (last-from es u k)
 
--- The lists of all words, as many as a sheet may have at most, so that a place fits its number. Places past the last word are free: nothing is said of them.
+-- The lists of all words, as many as a sheet may have at most, so that a place fits its number, and none that gains more than an edge of a sheet may. Places past the last word are free: nothing is said of them.
 pub record Lists (es lists : List ℕ) : Type 0 where
   pub few : length es ≤ most-edges
+  pub light : Light es
   pub heads : (u : ℕ) → u < 64 → getD lists u 0 ≡ last-from es u (length es)
   pub nexts : (i : ℕ) → i < length es → getD lists (64 + i) 0 ≡ last-from es (unpack (getD es i 0) .from) i
   pub long : 64 + length es ≤ length lists
@@ -30,6 +31,13 @@ pub record WithLists (n : ℕ) (es lists : List ℕ) : Type 0 where
 -- No step's list has an edge yet.
 abbrev pub Empty : List ℕ → Type 0
 Empty lists = (u : ℕ) → u < 64 → getD lists u 0 ≡ 0
+
+-- The words of a sheet, and room for their lists, in which no edge stands yet.
+pub record Unlisted (es lists : List ℕ) : Type 0 where
+  pub few : length es ≤ most-edges
+  pub light : Light es
+  pub long : 64 + length es ≤ length lists
+  pub empty : Empty lists
 
 -- Edge k put before the list of the step that it leaves.
 unfoldable pub put-first : List ℕ → ℕ → ℕ → List ℕ

@@ -1,11 +1,11 @@
 // Adjacency lists: the edges that leave a step, one after the other (see specs/Lists.antt).
 use data_edges::edge_from;
 ghost use mathlib.Core.Path.{_≡_};
-ghost use Prim.Native.Nat.{_+_, _<_, _≤_};
+ghost use Prim.Native.Nat.{_+_, _<_};
 ghost use Rattle.definitions.specs.Limits.{most-edges};
 ghost use lib.ListN.{length};
 ghost use Rattle.data_edges.specs.Words.{unpack};
-ghost use Rattle.data_lists.specs.Lists.{Empty, Lists, put-first};
+ghost use Rattle.data_lists.specs.Lists.{Lists, Unlisted, put-first};
 
 // Edge k, whose word is w, before those of its start that are listed.
 fn link(lists: &mut [u16], w: u64, k: usize)
@@ -19,7 +19,7 @@ fn link(lists: &mut [u16], w: u64, k: usize)
 
 // The lists of all edges, into numbers that hold none yet.
 pub fn list(es: &[u64], lists: &mut [u16])
-    requires { ⌜ (length (now es) ≤ most-edges) × (64 + length (now es) ≤ length (now lists)) × Empty (now lists) ⌝ }
+    requires { ⌜ Unlisted (now es) (now lists) ⌝ }
     ensures { λ r. ⌜ Lists (now (es .entry)) (now (lists .exit)) ⌝ }
 {
     let mut k = 0;

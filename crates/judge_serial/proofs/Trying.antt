@@ -5,39 +5,35 @@ use mathlib.Core.Logic.{_↔_, _⊎_, inl, inr}
 use mathlib.Core.List.{List, _++_}
 use Prim.Native.Nat.{ℕ, _<_, _≤_}
 use native.Mathlib.Omega.{arith}
-use lib.Dec.{ltb}
 use lib.ListN.{replicate, getD-replicate}
-use borrow.Author.Tests.{le-leb, leb-true, lt-ltb, ltb-true, not-true}
+use borrow.Author.Tests.{le-leb, leb-true, lt-ltb, not-true}
 use Rattle.definitions.specs.Answers.{closes-circle, infeasible, unserializable}
 use Rattle.definitions.specs.Anchors.{WellPosed, is-source}
-use Rattle.definitions.specs.Basics.{all, all-below, any, tabulate, test-bit}
+use Rattle.definitions.specs.Basics.{all, any, tabulate, test-bit}
 use Rattle.definitions.specs.Limits.{most-gain}
 use Rattle.definitions.specs.Links.{Edge, members}
 use Rattle.definitions.specs.Plan.{offset-row}
-use Rattle.definitions.specs.Rounds.{cell, extend}
+use Rattle.definitions.specs.Rounds.{cell, entry, extend}
 use Rattle.definitions.specs.Waits.{serialized, wait-maps}
 use Rattle.demands.proofs.Sheets.{feasible-iff, not-8, serializable-iff, serialized-rooted}
 use Rattle.data_edges.specs.Serial.{Within, wait-edges}
 use Rattle.data_edges.proofs.Serializing.{serialized-maps}
 use Rattle.walk_heaviest.specs.Settling.{Supported}
 use Rattle.laws.proofs.Bools.{bool-cases, both-ways, not-passing, or-left}
-use Rattle.laws.proofs.Tests.{all-below-by, all-below-each, all-by, all-each, any-none, tabulate-at}
+use Rattle.laws.proofs.Tests.{all-by, all-each, any-none, tabulate-at}
 use Rattle.data_relations.specs.Rows.{row-bit}
-use Rattle.walk_cells.specs.Cells.{largest}
-use Rattle.walk_cells.specs.Tables.{entry}
-use Rattle.walk_settled.specs.Settled.{cut-hand, handed-on, source-column}
+use Rattle.walk_settled.specs.Settled.{hand, handed-on, source-column}
 use Rattle.theory.specs.Graphs.{ForwardAcyclic, Gains, Leasts, NonPositive, Rooted, Serializable, Shape, Well}
 use Rattle.theory.proofs.Feasibility.{stable-nonpositive}
 use Rattle.theory.proofs.Offsets.{offset-row-iff}
 use Rattle.theory.proofs.Plans.{plan-posed, plan-timely, plan-well}
 use Rattle.theory.proofs.Serialization.{waited-gains}
-use Rattle.theory.proofs.Sweeping.{offsets-small, source-settles}
+use Rattle.theory.proofs.Sweeping.{source-settles}
 use Rattle.theory.proofs.WaitLists.{serialized-shape, serialized-waited, wait-anchor-below, wait-maps-iff}
 
--- The column has its empty walk, nothing in it is cut, and every edge has handed on.
-pub record Tried (n : ℕ) (es : List Edge) (d : List (List ℕ)) : Type 0 where
+-- The column has its empty walk, and every edge has handed on. Here a table is what the cells of the working table say.
+pub record Tried (es : List Edge) (d : List (List ℕ)) : Type 0 where
   pub source : 1 ≤ entry d 0 0
-  pub uncut : all-below (λ v. ltb (entry d v 0) largest) n ≡ true
   pub settled : all (handed-on d) es ≡ true
 
 -- What the table holds of edges that can be scheduled and are well-posed: the offsets for each anchor whose members in sets are the steps that have them.
@@ -61,7 +57,7 @@ unfolding test-bit
 sole-source v b = ap (λ (m : ℕ). test-bit m 0) (getD-replicate 64 v 1 0 b)
 
 -- A tried column shows that no closed walk is above 0.
-tried-nonpositive : {n : ℕ} {es : List Edge} {d : List (List ℕ)} → 0 < n → Shape n (members es) → Rooted n (members es) → Tried n es d → NonPositive (members es)
+tried-nonpositive : {n : ℕ} {es : List Edge} {d : List (List ℕ)} → 0 < n → Shape n (members es) → Rooted n (members es) → Tried es d → NonPositive (members es)
 tried-nonpositive {n} {es} {d} some shape rooted T =
     stable-nonpositive some shape rooted (tabulate (source-column d) n) stable (omega (arith, T .source, tabulate-at (source-column d) n 0 0 some))
   where
@@ -72,28 +68,23 @@ tried-nonpositive {n} {es} {d} some shape rooted T =
     stable e m =
         omega (
           arith,
-          leb-true (cut-hand (source-column d) e) (source-column d (e .to)) (all-each (handed-on d) es (T .settled) e m),
-          ltb-true (entry d (e .to) 0) largest (all-below-each (λ v. ltb (entry d v 0) largest) n (T .uncut) (e .to) (shape .to-below e m)),
+          leb-true (hand (source-column d) e) (source-column d (e .to)) (all-each (handed-on d) es (T .settled) e m),
           at (e .to) (shape .to-below e m),
           ap (λ (x : ℕ). extend x (e .gain) (e .loss)) (at (e .from) (shape .from-below e m)),
         )
 
 -- And where none is, the column is so: the source has an offset at every step.
-nonpositive-tried : {n : ℕ} {es : List Edge} {d : List (List ℕ)} → n ≤ 64 → Well n (members es) → WellPosed (members es) → Gains (members es) most-gain → Offsets n es (replicate 64 1) d → Tried n es d
+nonpositive-tried : {n : ℕ} {es : List Edge} {d : List (List ℕ)} → n ≤ 64 → Well n (members es) → WellPosed (members es) → Gains (members es) most-gain → Offsets n es (replicate 64 1) d → Tried es d
 nonpositive-tried {n} {es} {d} few well posed gains cells =
-    record { source = omega (arith, at 0 (well .some), offset-row-iff well posed 0 0 (well .some) .1 (is-source refl)); uncut = all-below-by (λ v. ltb (entry d v 0) largest) n uncut; settled = all-by (handed-on d) es settled }
+    record { source = omega (arith, at 0 (well .some), offset-row-iff well posed 0 0 (well .some) .1 (is-source refl)); settled = all-by (handed-on d) es settled }
   where
     at : (v : ℕ) → v < n → entry d v 0 ≡ cell (offset-row n es 0) v
     at v b = cells well posed gains 0 (well .some) (λ w c. sole-source w (omega arith) ∙ sym (lt-ltb 0 (cell (offset-row n es 0) w) (offset-row-iff well posed 0 w c .1 (is-source refl)))) v b (sole-source v (omega arith))
 
-    -- Offsets are small.
-    uncut : (v : ℕ) → v < n → ltb (entry d v 0) largest ≡ true
-    uncut v b = lt-ltb (entry d v 0) largest (omega (arith, offsets-small well posed 0 (well .some) gains few v b, at v b))
-
-    -- And settled over every edge.
+    -- Offsets are settled over every edge.
     settled : (e : Edge) → members es e → handed-on d e ≡ true
     settled e m =
-        le-leb (cut-hand (source-column d) e) (source-column d (e .to))
+        le-leb (hand (source-column d) e) (source-column d (e .to))
         (omega (
           arith,
           source-settles well posed e m,
@@ -107,20 +98,20 @@ module _ (least : ℕ → ℕ) {n : ℕ} {g : List Edge} (few : n ≤ 64) (well 
 
   -- Start times are left with the waits in exactly if the column is tried.
   module _ (gains : Gains (members g) most-gain) (leasts : Leasts least (members g)) (no-circle : closes-circle n (serialized n least g) ≡ false) (d : List (List ℕ)) (cells : Offsets n (serialized n least g) (replicate 64 1) d) where
-    tried : infeasible n (serialized n least g) ≡ false → Tried n (serialized n least g) d
+    tried : infeasible n (serialized n least g) ≡ false → Tried (serialized n least g) d
     tried h =
         let serial : Serializable (members (serialized n least g)) = record { acyclic = not-8 (well .some) (serialized-shape (well .shape) least) no-circle; never = feasible .0 h } in
         nonpositive-tried few (plan-well least well serial) (plan-posed least well serial) (waited-gains (serialized-waited (well .shape)) leasts gains) cells
 
-    pub untried-infeasible : ¬ Tried n (serialized n least g) d → false ≡ not (infeasible n (serialized n least g))
+    pub untried-infeasible : ¬ Tried (serialized n least g) d → false ≡ not (infeasible n (serialized n least g))
     untried-infeasible h = sym (not-passing (not (infeasible n (serialized n least g))) (λ t. h (tried (not-true (infeasible n (serialized n least g)) t))))
 
-    pub settled-feasible : 1 ≤ entry d 0 0 → all-below (λ v. ltb (entry d v 0) largest) n ≡ true → all (handed-on d) (serialized n least g) ≡ not (infeasible n (serialized n least g))
-    settled-feasible source uncut = go (bool-cases (all (handed-on d) (serialized n least g)))
+    pub settled-feasible : 1 ≤ entry d 0 0 → all (handed-on d) (serialized n least g) ≡ not (infeasible n (serialized n least g))
+    settled-feasible source = go (bool-cases (all (handed-on d) (serialized n least g)))
       where
         go : (all (handed-on d) (serialized n least g) ≡ true) ⊎ (all (handed-on d) (serialized n least g) ≡ false) → all (handed-on d) (serialized n least g) ≡ not (infeasible n (serialized n least g))
         go (inl t) =
-            t ∙ sym (ap not (feasible .1 (tried-nonpositive {d = d} (well .some) (serialized-shape (well .shape) least) (serialized-rooted least (well .some) (well .shape) (well .rooted)) (record { source = source; uncut = uncut; settled = t }))))
+            t ∙ sym (ap not (feasible .1 (tried-nonpositive {d = d} (well .some) (serialized-shape (well .shape) least) (serialized-rooted least (well .some) (well .shape) (well .rooted)) (record { source = source; settled = t }))))
         go (inr f) = f ∙ untried-infeasible (λ T. both-ways (T .settled) f)
 
   -- 28, from its two parts; and where no edge is late it is not given.

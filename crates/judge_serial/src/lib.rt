@@ -5,7 +5,7 @@ ghost use Prim.Native.Nat.{ℕ, _<_, _≤_};
 ghost use lib.Dec.{ltb};
 ghost use lib.ListN.{length};
 ghost use Rattle.definitions.specs.Answers.{closes-circle, infeasible, unserializable};
-ghost use Rattle.definitions.specs.Basics.{all-below, any};
+ghost use Rattle.definitions.specs.Basics.{any};
 ghost use Rattle.definitions.specs.Limits.{most-gain};
 ghost use Rattle.definitions.specs.Links.{members};
 ghost use Rattle.definitions.specs.Waits.{serialized, wait-maps};
@@ -14,8 +14,6 @@ ghost use Rattle.data_edges.specs.Serial.{leasts-in};
 ghost use Rattle.data_edges.specs.Words.{graph};
 ghost use Rattle.order_steps.specs.Orders.{precedes};
 ghost use Rattle.data_relations.specs.Rows.{row-bit};
-ghost use Rattle.walk_cells.specs.Cells.{largest};
-ghost use Rattle.walk_cells.specs.Tables.{entry};
 ghost use Rattle.theory.specs.Graphs.{Gains, Shape, SheetLeasts, Well};
 ghost use Rattle.judge_serial.specs.Waiting.{Waiting};
 
@@ -60,21 +58,6 @@ fn closes_circle(es: &[u64], maps: &[u64; 64], n: usize) -> bool
     !order_steps::arrange(&rows, n, &mut order)
 }
 
-// Whether no cell of the source's column has reached the largest number of a cell.
-fn uncut(d: &[[u32; 64]; 64], n: usize) -> bool
-    requires { ⌜ n ≤ 64 ⌝ }
-    ensures { λ r. ⌜ r ≡ all-below (λ v. ltb (entry (now (d .entry)) v 0) largest) n ⌝ }
-{
-    let mut v = 0;
-    while v < n {
-        if !walk_cells::is_uncut(d[v][0]) {
-            return false;
-        }
-        v += 1;
-    }
-    true
-}
-
 // Whether start times keep edges and waits while each step lasts its least: whether the source's column of the working table is settled. The source is the only anchor.
 // Of edges to which 10 applies nothing is promised.
 fn leaves_times(
@@ -88,15 +71,12 @@ fn leaves_times(
     requires { ⌜ WithLists n (now es) (now lists) ⌝ }
     ensures { λ r. ⌜ (Well n (members (graph (now (es .entry)))) → Gains (members (graph (now (es .entry)))) most-gain → SheetLeasts (leasts-in (now (leasts .entry))) (members (graph (now (es .entry)))) → now (maps .entry) ≡ wait-maps n (graph (now (es .entry))) → closes-circle n (serialized n (leasts-in (now (leasts .entry))) (graph (now (es .entry)))) ≡ false → r ≡ not (infeasible n (serialized n (leasts-in (now (leasts .entry))) (graph (now (es .entry)))))) ⌝ }
 {
-    let mut d = [[walk_cells::EMPTY; 64]; 64];
+    let mut d = [[walk_cells::NONE; 64]; 64];
     let sets = [1u64; 64];
     if !walk_heaviest::walks_if_possible(&mut d, es, lists, leasts, maps, &sets, order, n) {
         return false;
     }
     if walk_cells::is_none(d[0][0]) {
-        return false;
-    }
-    if !uncut(&d, n) {
         return false;
     }
     walk_settled::settled(&d, es, leasts, maps, n)

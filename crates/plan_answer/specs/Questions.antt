@@ -4,6 +4,7 @@ use mathlib.Core.Bool.{Bool, true, false, _||_}
 use mathlib.Core.List.{List, []}
 use Prim.Native.Nat.{ℕ, _+_, _*_, _<_, _≤_}
 use lib.Dec.{ltb}
+use lib.IntN.{ℤ}
 use lib.ListN.{length, replicate}
 use Rattle.data_edges.specs.Serial.{leasts-in}
 use Rattle.data_lists.specs.Lists.{Empty}
@@ -21,6 +22,7 @@ use Rattle.plan_deciding.specs.Working.{member}
 use Rattle.plan_starts.specs.Times.{cut}
 use Rattle.data_numbers.specs.Codes.{is-given}
 use Rattle.read_steps.specs.Leaving.{unbounded-at}
+use Rattle.walk_cells.specs.Tables.{Rows}
 use Rattle.plan_walks.specs.Tables.{SheetEdges}
 use Rattle.plan_answer.specs.declared.Question.{Question}
 use Rattle.plan_answer.specs.declared.Question.the-variants.{Judgement, Plan, Starts}
@@ -96,9 +98,8 @@ pub record Checked (o : Outcome ℕ) (question : Question) (n unbounded : ℕ) (
   pub fits : is-given p ≡ true → short question n (length list) room ≡ false
 
 -- Tables with a row for each step and each member, and room for the answer.
-pub record Writable (question : Question) (n : ℕ) (d : List (List ℕ)) (sets list out : List ℕ) : Type 0 where
-  pub few : n ≤ most-steps
-  pub rows : n ≤ length d
+pub record Writable (question : Question) (n : ℕ) (d : List (List ℤ)) (sets list out : List ℕ) : Type 0 where
+  pub rows : Rows n d
   pub inside : (v a : ℕ) → v < n → member sets v a ≡ true → a < length d
   pub room : short question n (length list) (length out) ≡ false
 

@@ -121,7 +121,7 @@ fn checked(
 
 // The numbers that are asked for, to the front of those that are lent.
 fn write(
-    d: &[[u32; 64]],
+    d: &[[i32; 64]],
     leasts: &[u16; 64],
     sets: &[u64; 64],
     n: usize,
@@ -147,7 +147,7 @@ fn write(
 
 // The answer, by a table without walks that has a row for each step.
 fn answer_on(
-    d: &mut [[u32; 64]],
+    d: &mut [[i32; 64]],
     es: &[u64],
     lists: &[u16],
     leasts: &[u16; 64],
@@ -199,7 +199,7 @@ fn answer_listed(
         return judge_edges::judge_edges(es, lists, leasts, n, allow, maps);
     }
     if n <= FEW_STEPS {
-        let mut d = [[walk_cells::EMPTY; 64]; FEW_STEPS];
+        let mut d = [[walk_cells::NONE; 64]; FEW_STEPS];
         return answer_on(
             &mut d,
             es,
@@ -215,7 +215,7 @@ fn answer_listed(
         );
     }
     if n <= SOME_STEPS {
-        let mut d = [[walk_cells::EMPTY; 64]; SOME_STEPS];
+        let mut d = [[walk_cells::NONE; 64]; SOME_STEPS];
         return answer_on(
             &mut d,
             es,
@@ -230,7 +230,7 @@ fn answer_listed(
             maps,
         );
     }
-    let mut d = [[walk_cells::EMPTY; 64]; 64];
+    let mut d = [[walk_cells::NONE; 64]; 64];
     answer_on(
         &mut d,
         es,

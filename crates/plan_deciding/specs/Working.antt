@@ -1,9 +1,10 @@
--- The tables that plans and start times are made from: what they stand for, and the deciding sets read off them.
+-- The tables that plans and start times are made from: what they stand for, and the deciding sets read off them. Here a table is what the cells of the working table say: 0 where no walk comes, w + 1 for the weight w.
 use mathlib.Core.Path.{_≡_}
 use mathlib.Core.Bool.{Bool, true, not, _&&_}
 use mathlib.Core.List.{List}
 use Prim.Native.Nat.{ℕ, _+_, _-_, _<_, _≤_}
 use lib.Dec.{eqb, leb, ltb}
+use lib.IntN.{ℤ}
 use lib.ListN.{getD, length}
 use Rattle.definitions.specs.Anchors.{in-anchor-set}
 use Rattle.definitions.specs.Basics.{any-below, test-bit}
@@ -11,6 +12,7 @@ use Rattle.definitions.specs.Links.{Edge}
 use Rattle.definitions.specs.Plan.{offset-row}
 use Rattle.definitions.specs.Rounds.{cell, entry}
 use Rattle.data_edges.specs.Serial.{leasts-in}
+use Rattle.walk_cells.specs.Tables.{Square}
 
 -- d and sets hold the heaviest walks and the anchor sets of the edges es: bit a of map v says whether a is in the anchor set of v, and where it is, cell a of row v of d is that of v in the row of a.
 pub record Holds (n : ℕ) (es : List Edge) (d : List (List ℕ)) (sets : List ℕ) : Type 0 where
@@ -43,16 +45,20 @@ covering d sets v a b = not (eqb b a) && member sets b a && reaching d v a b
 unfoldable pub deciding : List (List ℕ) → List ℕ → ℕ → ℕ → Bool
 deciding d sets v a = member sets v a && not (any-below (λ b. member sets v b && covering d sets v a b) 64)
 
--- The table has rows for v and for b, and a column for b: the way to v over b can be weighed.
-pub record Ways (v b : ℕ) (d : List (List ℕ)) : Type 0 where
-  pub own : v < length d
-  pub column : b < 64
-  pub over : b < length d
+-- The table has a row for step v, and its rows are full.
+pub record Row (v : ℕ) (d : List (List ℤ)) : Type 0 where
+  pub below : v < 64
+  pub inside : v < length d
+  pub square : Square (length d) d
+
+-- It has rows for v and for b: the way to v over b can be weighed.
+pub record Ways (v b : ℕ) (d : List (List ℤ)) : Type 0 where
+  pub own : Row v d
+  pub over : Row b d
 
 -- It has rows for v and for each member of its set.
-pub record Rowed (v : ℕ) (sets : List ℕ) (d : List (List ℕ)) : Type 0 where
-  pub below : v < 64
-  pub own : v < length d
+pub record Rowed (v : ℕ) (sets : List ℕ) (d : List (List ℤ)) : Type 0 where
+  pub own : Row v d
   pub members : (b : ℕ) → member sets v b ≡ true → b < length d
 
 -- The cells of the members of a map are not empty.

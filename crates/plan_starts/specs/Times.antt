@@ -2,13 +2,15 @@
 use mathlib.Core.Path.{_≡_}
 use mathlib.Core.List.{List, _++_}
 use Prim.Native.Nat.{ℕ, zero, suc, _+_, _<_, _≤_, min}
+use lib.IntN.{ℤ}
 use lib.ListN.{length, getD, drop, replicate}
 use Rattle.definitions.specs.Basics.{largest, tabulate}
 use Rattle.definitions.specs.Limits.{most-steps}
 use Rattle.definitions.specs.Links.{Edge}
 use Rattle.definitions.specs.Plan.{delays, start-times}
 use Rattle.definitions.specs.Rounds.{cell}
-use Rattle.plan_deciding.specs.Working.{Holds, HoldsLeasts, offset-in, member}
+use Rattle.walk_cells.specs.Tables.{Rows}
+use Rattle.plan_deciding.specs.Working.{Holds, HoldsLeasts, Row, offset-in, member}
 
 -- The largest number of 32 bits: document 01's numbers have so many.
 abbrev pub cut : ℕ
@@ -40,20 +42,14 @@ pub record Listed (n : ℕ) (list : List ℕ) : Type 0 where
   pub few : n ≤ most-steps
   pub long : n ≤ length list
 
--- A step that the table has a row for.
-pub record Row (v : ℕ) (d : List (List ℕ)) : Type 0 where
-  pub below : v < 64
-  pub inside : v < length d
-
 -- A step that the table has a row for, and an anchor that has an entry in the list.
-pub record Member (v a : ℕ) (d : List (List ℕ)) (list : List ℕ) : Type 0 where
-  pub row : v < length d
+pub record Member (v a : ℕ) (d : List (List ℤ)) (list : List ℕ) : Type 0 where
+  pub row : Row v d
   pub column : a < 64
   pub entered : a < length list
 
 -- A table and a list for the steps below n, and room for their starts.
-pub record Startable (n : ℕ) (d : List (List ℕ)) (list out : List ℕ) : Type 0 where
-  pub few : n ≤ most-steps
-  pub inside : n ≤ length d
+pub record Startable (n : ℕ) (d : List (List ℤ)) (list out : List ℕ) : Type 0 where
+  pub rows : Rows n d
   pub long : n ≤ length list
   pub room : n ≤ length out

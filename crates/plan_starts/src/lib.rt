@@ -1,13 +1,14 @@
 // Start times (relative start times) for a list of delays, from the working tables: see crate plan_deciding for what d and sets hold. leasts: the least duration of each step.
 // Every function is safe for any tables with a row for each step; on those of an edge list its answer is the definition's.
 ghost use mathlib.Core.Path.{_≡_};
-ghost use Prim.Native.Nat.{ℕ, _+_, _<_, _≤_, min, max};
+ghost use Prim.Native.Nat.{ℕ, _+_, _≤_, min, max};
 ghost use lib.Dec.{eqb};
-ghost use lib.ListN.{length};
 ghost use Rattle.definitions.specs.Basics.{all-below, largest, test-bit};
 ghost use Rattle.definitions.specs.Limits.{most-steps};
 ghost use Rattle.definitions.specs.Rounds.{cell};
-ghost use Rattle.plan_starts.specs.Times.{Listed, Member, Row, Startable, Started, cut, term, start-at, next-row, row-after};
+ghost use Rattle.walk_cells.specs.Tables.{Rows, said};
+ghost use Rattle.plan_deciding.specs.Working.{Row};
+ghost use Rattle.plan_starts.specs.Times.{Listed, Member, Startable, Started, cut, term, start-at, next-row, row-after};
 
 fn larger(a: u64, b: u64) -> u64
     ensures { λ r. ⌜ r ≡ max a b ⌝ }
@@ -35,7 +36,7 @@ fn narrow(x: u64) -> u32
 
 // What the member a adds to the choice for v.
 fn term_of(
-    d: &[[u32; 64]],
+    d: &[[i32; 64]],
     leasts: &[u16; 64],
     list: &[u32],
     old: &[u32; 64],
@@ -43,14 +44,14 @@ fn term_of(
     a: usize,
 ) -> u64
     requires { ⌜ Member v a (now d) (now list) ⌝ }
-    ensures { λ r. ⌜ r ≡ term (now (d .entry)) (now (leasts .entry)) (now (list .entry)) (now (old .entry)) v a ⌝ }
+    ensures { λ r. ⌜ r ≡ term (said (now (d .entry))) (now (leasts .entry)) (now (list .entry)) (now (old .entry)) v a ⌝ }
 {
     sum(old[a], list[a], plan_deciding::offset_at(d, leasts, v, a))
 }
 
 // The largest term of the members below n, in their order.
 fn latest(
-    d: &[[u32; 64]],
+    d: &[[i32; 64]],
     leasts: &[u16; 64],
     members: u64,
     n: usize,
@@ -58,8 +59,8 @@ fn latest(
     old: &[u32; 64],
     v: usize,
 ) -> u64
-    requires { ⌜ (v < length (now d)) × Listed n (now list) ⌝ }
-    ensures { λ r. ⌜ r ≡ largest (test-bit members) (term (now (d .entry)) (now (leasts .entry)) (now (list .entry)) (now (old .entry)) v) n ⌝ }
+    requires { ⌜ Row v (now d) × Listed n (now list) ⌝ }
+    ensures { λ r. ⌜ r ≡ largest (test-bit members) (term (said (now (d .entry))) (now (leasts .entry)) (now (list .entry)) (now (old .entry)) v) n ⌝ }
 {
     let mut most = 0;
     let mut left = members;
@@ -77,7 +78,7 @@ fn latest(
 
 // The start of v by the starts of a row.
 fn start_of(
-    d: &[[u32; 64]],
+    d: &[[i32; 64]],
     leasts: &[u16; 64],
     sets: &[u64; 64],
     n: usize,
@@ -86,7 +87,7 @@ fn start_of(
     v: usize,
 ) -> u32
     requires { ⌜ Row v (now d) × Listed n (now list) ⌝ }
-    ensures { λ r. ⌜ r ≡ start-at (now (d .entry)) (now (leasts .entry)) (now (sets .entry)) n (now (list .entry)) (now (old .entry)) v ⌝ }
+    ensures { λ r. ⌜ r ≡ start-at (said (now (d .entry))) (now (leasts .entry)) (now (sets .entry)) n (now (list .entry)) (now (old .entry)) v ⌝ }
 {
     if v == 0 {
         return 0;
@@ -97,15 +98,15 @@ fn start_of(
 
 // One turn of the rule.
 fn turn(
-    d: &[[u32; 64]],
+    d: &[[i32; 64]],
     leasts: &[u16; 64],
     sets: &[u64; 64],
     n: usize,
     list: &[u32],
     old: &[u32; 64],
 ) -> [u32; 64]
-    requires { ⌜ (n ≤ length (now d)) × Listed n (now list) ⌝ }
-    ensures { λ r. ⌜ r ≡ next-row (now (d .entry)) (now (leasts .entry)) (now (sets .entry)) n (now (list .entry)) (now (old .entry)) ⌝ }
+    requires { ⌜ Rows n (now d) × Listed n (now list) ⌝ }
+    ensures { λ r. ⌜ r ≡ next-row (said (now (d .entry))) (now (leasts .entry)) (now (sets .entry)) n (now (list .entry)) (now (old .entry)) ⌝ }
 {
     let mut row = [0u32; 64];
     let mut v = 0;
@@ -133,9 +134,9 @@ fn same(a: &[u32; 64], b: &[u32; 64], n: usize) -> bool
 }
 
 // Turns until one changes nothing, n of them at most.
-fn turns(d: &[[u32; 64]], leasts: &[u16; 64], sets: &[u64; 64], n: usize, list: &[u32]) -> [u32; 64]
-    requires { ⌜ (n ≤ length (now d)) × Listed n (now list) ⌝ }
-    ensures { λ r. ⌜ r ≡ row-after (now (d .entry)) (now (leasts .entry)) (now (sets .entry)) n (now (list .entry)) n ⌝ }
+fn turns(d: &[[i32; 64]], leasts: &[u16; 64], sets: &[u64; 64], n: usize, list: &[u32]) -> [u32; 64]
+    requires { ⌜ Rows n (now d) × Listed n (now list) ⌝ }
+    ensures { λ r. ⌜ r ≡ row-after (said (now (d .entry))) (now (leasts .entry)) (now (sets .entry)) n (now (list .entry)) n ⌝ }
 {
     let mut row = [0u32; 64];
     let mut k = 0;
@@ -152,7 +153,7 @@ fn turns(d: &[[u32; 64]], leasts: &[u16; 64], sets: &[u64; 64], n: usize, list: 
 
 // Start times for a list of delays, at the front of the lent numbers.
 pub fn fill_starts(
-    d: &[[u32; 64]],
+    d: &[[i32; 64]],
     leasts: &[u16; 64],
     sets: &[u64; 64],
     n: usize,
@@ -160,7 +161,7 @@ pub fn fill_starts(
     out: &mut [u32],
 )
     requires { ⌜ Startable n (now d) (now list) (now out) ⌝ }
-    ensures { λ r. ⌜ Started n (now (d .entry)) (now (leasts .entry)) (now (sets .entry)) (now (list .entry)) (now (out .entry)) (now (out .exit)) ⌝ }
+    ensures { λ r. ⌜ Started n (said (now (d .entry))) (now (leasts .entry)) (now (sets .entry)) (now (list .entry)) (now (out .entry)) (now (out .exit)) ⌝ }
 {
     let row = turns(d, leasts, sets, n, list);
     let mut v = 0;

@@ -3,12 +3,13 @@ use mathlib.Core.Path.{_≡_}
 use mathlib.Core.Bool.{Bool, true, cond}
 use mathlib.Core.List.{List, [], _++_}
 use Prim.Native.Nat.{ℕ, zero, suc, _*_, _<_, _≤_}
+use lib.IntN.{ℤ}
 use lib.ListN.{length, getD, drop}
 use Rattle.definitions.specs.Basics.{tabulate}
-use Rattle.definitions.specs.Limits.{most-steps}
 use Rattle.definitions.specs.Links.{Edge, members}
 use Rattle.definitions.specs.Plan.{plan-table, undecided}
 use Rattle.theory.specs.Graphs.{Lasting}
+use Rattle.walk_cells.specs.Tables.{Rows}
 use Rattle.plan_deciding.specs.Working.{Holds, HoldsLeasts, Orderly, deciding, member, offset-in}
 
 -- A row of members that do not decide.
@@ -35,8 +36,7 @@ pub record Planned (n : ℕ) (d : List (List ℕ)) (leasts sets lent after : Lis
   pub plan : (least : ℕ → ℕ) (es : List Edge) → Lasting n least (members es) → HoldsLeasts n least leasts → Holds n es d sets → ((v : ℕ) → v < n → Orderly d sets v) → after ≡ plan-table n least es ++ drop (n * n) lent
 
 -- Tables with a row for each step below n and each member, and room for the plan's table.
-pub record Plannable (n : ℕ) (sets : List ℕ) (d : List (List ℕ)) (table : List ℕ) : Type 0 where
-  pub few : n ≤ most-steps
-  pub inside : n ≤ length d
+pub record Plannable (n : ℕ) (sets : List ℕ) (d : List (List ℤ)) (table : List ℕ) : Type 0 where
+  pub rows : Rows n d
   pub members : (v a : ℕ) → v < n → member sets v a ≡ true → a < length d
   pub room : n * n ≤ length table

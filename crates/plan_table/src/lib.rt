@@ -7,7 +7,8 @@ ghost use Prim.Native.Nat.{ℕ, _<_, _≤_};
 ghost use lib.ListN.{length, drop, getD};
 ghost use Rattle.definitions.specs.Basics.{tabulate, test-bit};
 ghost use Rattle.definitions.specs.Plan.{undecided};
-ghost use Rattle.plan_deciding.specs.Working.{Orderly, Rowed, offset-in};
+ghost use Rattle.walk_cells.specs.Tables.{said};
+ghost use Rattle.plan_deciding.specs.Working.{Orderly, Row, Rowed, offset-in};
 ghost use Rattle.plan_table.specs.Rows.{Plannable, Planned, Put, cleared, entry-at};
 
 // The first numbers, as many as are to be cleared, become the entries of members that do not decide.
@@ -23,9 +24,9 @@ fn clear(count: usize, row: &mut [u32])
 }
 
 // The offsets of v for the members of a map below n, each at its place in the row.
-fn put_offsets(d: &[[u32; 64]], leasts: &[u16; 64], map: u64, n: usize, v: usize, row: &mut [u32])
-    requires { ⌜ (v < length (now d)) × (n ≤ length (now row)) ⌝ }
-    ensures { λ r. ⌜ Put n (test-bit map) (offset-in (now (d .entry)) (now (leasts .entry)) v) (now (row .entry)) (now (row .exit)) ⌝ }
+fn put_offsets(d: &[[i32; 64]], leasts: &[u16; 64], map: u64, n: usize, v: usize, row: &mut [u32])
+    requires { ⌜ Row v (now d) × (n ≤ length (now row)) ⌝ }
+    ensures { λ r. ⌜ Put n (test-bit map) (offset-in (said (now (d .entry))) (now (leasts .entry)) v) (now (row .entry)) (now (row .exit)) ⌝ }
 {
     let mut left = map;
     while left != 0 {
@@ -41,7 +42,7 @@ fn put_offsets(d: &[[u32; 64]], leasts: &[u16; 64], map: u64, n: usize, v: usize
 
 // Row v of the plan, where it is cleared.
 fn fill_row(
-    d: &[[u32; 64]],
+    d: &[[i32; 64]],
     leasts: &[u16; 64],
     sets: &[u64; 64],
     n: usize,
@@ -49,16 +50,16 @@ fn fill_row(
     row: &mut [u32],
 )
     requires { ⌜ Rowed v (now sets) (now d) × (n ≤ length (now row)) ⌝ }
-    ensures { λ r. ⌜ (Orderly (now (d .entry)) (now (sets .entry)) v → ((a : ℕ) → a < n → getD (now (row .entry)) a 0 ≡ undecided) → now (row .exit) ≡ tabulate (entry-at (now (d .entry)) (now (leasts .entry)) (now (sets .entry)) v) n ++ drop n (now (row .entry))) ⌝ }
+    ensures { λ r. ⌜ (Orderly (said (now (d .entry))) (now (sets .entry)) v → ((a : ℕ) → a < n → getD (now (row .entry)) a 0 ≡ undecided) → now (row .exit) ≡ tabulate (entry-at (said (now (d .entry))) (now (leasts .entry)) (now (sets .entry)) v) n ++ drop n (now (row .entry))) ⌝ }
 {
     let deciding = plan_deciding::deciding_set(d, sets, v);
     put_offsets(d, leasts, deciding, n, v, row);
 }
 
 // The plan's table, at the front of the lent numbers: all of it is cleared, and then filled a row at a time, each in the part of the table where it belongs.
-pub fn fill_plan(d: &[[u32; 64]], leasts: &[u16; 64], sets: &[u64; 64], n: usize, table: &mut [u32])
+pub fn fill_plan(d: &[[i32; 64]], leasts: &[u16; 64], sets: &[u64; 64], n: usize, table: &mut [u32])
     requires { ⌜ Plannable n (now sets) (now d) (now table) ⌝ }
-    ensures { λ r. ⌜ Planned n (now (d .entry)) (now (leasts .entry)) (now (sets .entry)) (now (table .entry)) (now (table .exit)) ⌝ }
+    ensures { λ r. ⌜ Planned n (said (now (d .entry))) (now (leasts .entry)) (now (sets .entry)) (now (table .entry)) (now (table .exit)) ⌝ }
 {
     clear(n * n, table);
     let mut v = 0;

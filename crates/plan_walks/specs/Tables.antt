@@ -3,6 +3,7 @@ use mathlib.Core.Path.{_≡_}
 use mathlib.Core.Bool.{Bool, true}
 use mathlib.Core.List.{List}
 use Prim.Native.Nat.{ℕ, _≤_}
+use lib.IntN.{ℤ}
 use lib.ListN.{length, replicate}
 use Rattle.data_lists.specs.Lists.{Lists}
 use Rattle.judge_edges.specs.Analysis.{Listed}
@@ -16,6 +17,7 @@ use Rattle.definitions.specs.Waits.{serialized, wait-maps}
 use Rattle.data_edges.specs.Words.{graph}
 use Rattle.plan_deciding.specs.Working.{Holds}
 use Rattle.data_numbers.specs.Codes.{is-given}
+use Rattle.walk_cells.specs.Tables.{Rows, said}
 use Rattle.walk_seed.specs.Seeds.{Empty}
 use Rattle.theory.specs.Graphs.{Gains, Serializable, SheetGraph, SheetLeasts, Well}
 use Rattle.judge_waits.specs.Reaching.{Reaches}
@@ -28,7 +30,7 @@ pub record SheetEdges (n : ℕ) (least : ℕ → ℕ) (es : List ℕ) : Type 0 w
   pub formed : SheetGraph n least (members (graph es))
 
 -- The edges of a sheet with their adjacency lists, and a working table without walks that has a row for each step.
-pub record Tabulable (n : ℕ) (least : ℕ → ℕ) (es lists : List ℕ) (d : List (List ℕ)) : Type 0 where
+pub record Tabulable (n : ℕ) (least : ℕ → ℕ) (es lists : List ℕ) (d : List (List ℤ)) : Type 0 where
   pub sheet : SheetEdges n least es
   pub adjacent : Lists es lists
   pub rows : n ≤ length d
@@ -58,13 +60,13 @@ pub record Plannable (n : ℕ) (least : ℕ → ℕ) (g : List Edge) (reach maps
   pub waits : maps ≡ wait-maps n g
 
 -- The edges of an accepted sheet, with a table and sets that hold their heaviest walks and anchor sets, the waits put in.
-pub record Tabulated (n : ℕ) (least : ℕ → ℕ) (g : List Edge) (d : List (List ℕ)) (sets : List ℕ) : Type 0 where
+pub record Tabulated (n : ℕ) (least : ℕ → ℕ) (g : List Edge) (d : List (List ℤ)) (sets : List ℕ) : Type 0 where
   pub well : Well n (members g)
   pub serial : Serializable (members (serialized n least g))
-  pub rows : n ≤ length d
-  pub holds : Holds n (serialized n least g) d sets
+  pub rows : Rows n d
+  pub holds : Holds n (serialized n least g) (said d) sets
 
 -- What is found of edges: the verdict with the waits, and on acceptance the table and the sets.
-pub record Tabulates (n : ℕ) (least : ℕ → ℕ) (g : List Edge) (allow : Bool) (r : Found) (maps : List ℕ) (d : List (List ℕ)) (sets : List ℕ) : Type 0 where
+pub record Tabulates (n : ℕ) (least : ℕ → ℕ) (g : List Edge) (allow : Bool) (r : Found) (maps : List ℕ) (d : List (List ℤ)) (sets : List ℕ) : Type 0 where
   pub listed : Listed n g (judge-edges n least g) allow (r .verdict) maps (r .count)
   pub held : is-given (verdict-of (r .verdict)) ≡ true → Tabulated n least g d sets

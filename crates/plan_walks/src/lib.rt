@@ -37,7 +37,7 @@ fn add_source(rows: &mut [u64; 64], n: usize)
 
 // Whether edges that pass 8 also pass 10, beside the verdict of an analysis with 10 left out. Where that accepts, the table and the sets are filled, and the search for walks tells 10; else 10 is searched for alone.
 fn fill(
-    d: &mut [[u32; 64]],
+    d: &mut [[i32; 64]],
     es: &[u64],
     lists: &[u16],
     leasts: &[u16; 64],
@@ -61,7 +61,7 @@ fn fill(
 // The verdict on the edges of a sheet of n steps, with the waits into maps that come blank: none where the sheet would be refused with waits allowed.
 // On acceptance the table, which comes without walks, holds the heaviest walks, and the sets, which come blank, are the anchor sets, both with the waits in.
 pub fn tabulate(
-    d: &mut [[u32; 64]],
+    d: &mut [[i32; 64]],
     es: &[u64],
     lists: &[u16],
     leasts: &[u16; 64],

@@ -1,51 +1,64 @@
--- What cells say, and how that changes as they move and rise: the laws by which other crates know cells.
-use mathlib.Core.Path.{_≡_, refl, ap, _∙_}
+-- What cells say, and how that changes as they rise: the laws by which other crates know cells.
+use mathlib.Core.Path.{_≡_, refl, ap}
 use mathlib.Core.Logic.{_⊎_, inl, inr}
-use Prim.Native.Nat.{ℕ, _+_, _-_, _≤_, _<_, max}
+use Prim.Native.Nat.{ℕ, suc, _+_, _-_, _≤_, _<_, max}
 use native.Mathlib.Omega.{arith}
 use native.Mathlib.Decide.{decLe}
-use Rattle.walk_cells.specs.Cells.{Clear, Risen, delta-of, empty, half, move-limit, moved, roof, value, weightless, wrap}
+use lib.IntN.{ℤ, pos, negsuc}
+use Rattle.walk_cells.specs.Cells.{Clear, Delta, Larger, Risen, Small, ground, height, move-limit, none, value}
+use Rattle.walk_cells.proofs.Heights.{value-height}
 
-pub value-empty : value empty ≡ 0
+pub value-none : value none ≡ 0
 unfolding value
-value-empty = refl
+value-none = refl
 
-pub value-weightless : value weightless ≡ 1
+pub value-pos : (w : ℕ) → value (pos w) ≡ suc w
 unfolding value
-value-weightless = refl
+value-pos w = refl
+
+-- A cell that says a weight is that weight.
+pub value-walk : (c : ℤ) (w : ℕ) → value c ≡ suc w → c ≡ pos w
+unfolding value
+value-walk (pos n) w h = ap pos (omega arith)
+value-walk (negsuc n) w h = absurd (omega arith)
+
+-- A weight below the limit is what cells move by along an edge that gains it and loses nothing.
+pub gain-delta : (w : ℕ) → Delta w 0 (pos w)
+unfolding height
+gain-delta w = record { sum = omega arith }
+
+pub gain-small : (w : ℕ) → w < move-limit → Small (pos w)
+unfolding height
+gain-small w h = record { gains = omega arith; loses = omega arith }
+
+-- A cell that holds a walk can be handed on as it is.
+pub walk-clear : (c : ℤ) → 1 ≤ value c → Clear c
+unfolding Clear
+walk-clear c h = inr h
+
+-- The larger of two cells says the larger of what they say.
+pub larger-value : {old c new : ℤ} → Larger old c new → value new ≡ max (value old) (value c)
+larger-value {old} {c} {new} L = by (decLe (height c) (height old))
+  where
+    by : Dec (height c ≤ height old) → value new ≡ max (value old) (value c)
+    by (yes h) = rw (L .kept h) (omega (arith, value-height old, value-height c))
+    by (no h) = rw (L .taken (omega arith)) (omega (arith, value-height old, value-height c))
 
 -- A cell to which another one moves along an edge. It stays where that one says nothing; else it says the walk made longer, where that is more.
-module _ (old c new gain loss : ℕ) (g : gain < move-limit) (l : loss < move-limit) (low : value old ≤ roof) (small : value c ≤ roof) (R : Risen old (moved c (delta-of gain loss)) new) where
-  -- The larger of two cells says the larger of what they say.
-  value-max : (x y : ℕ) → value (max x y) ≡ max (value x) (value y)
-  unfolding value
-  value-max x y = omega arith
-
-  larger : moved c (delta-of gain loss) < half → new ≡ max old (moved c (delta-of gain loss))
-  unfolding value
-  larger h = R .sum ∙ whole (max old (moved c (delta-of gain loss))) (R .above .larger low h) (omega arith)
+module _ {old c delta new : ℤ} (R : Risen old c delta new) where
+  -- The larger of two cells has the larger height.
+  highest : height new ≡ max (height old) (height (R .moved))
+  highest = by (decLe (height (R .moved)) (height old))
     where
-      whole : (x : ℕ) → old + R .by ≡ x → x < wrap → moved old (R .by) ≡ x
-      whole x e b = omega arith
+      by : Dec (height (R .moved) ≤ height old) → height new ≡ max (height old) (height (R .moved))
+      by (yes h) = rw (R .larger .kept h) (omega arith)
+      by (no h) = rw (R .larger .taken (omega arith)) (omega arith)
 
-  same : wrap - move-limit ≤ moved c (delta-of gain loss) → new ≡ old
-  unfolding value
-  same h = omega (arith, R .sum, R .above .none low h)
+  module _ {gain loss : ℕ} (g : gain < move-limit) (D : Delta gain loss delta) where
+    pub risen-none : Clear c → value c ≡ 0 → value new ≡ value old
+    unfolding Clear height
+    risen-none (inl e) z = omega (arith, highest, R .sum, D .sum, ap height e, value-height new, value-height old)
+    risen-none (inr b) z = absurd (omega arith)
 
-  pub risen-none : Clear c → value c ≡ 0 → value new ≡ value old
-  unfolding value Clear
-  risen-none (inl e) z = by (decLe loss gain)
-    where
-      by : Dec (loss ≤ gain) → value new ≡ value old
-      by (no h) = ap value (same (omega arith))
-      by (yes h) =
-          let m : moved c (delta-of gain loss) < move-limit = omega arith in
-          ap value (larger (omega arith)) ∙ value-max old (moved c (delta-of gain loss)) ∙ omega arith
-  risen-none (inr b) z = absurd (omega arith)
-
-  pub risen-some : 1 ≤ value c → value new ≡ max (value old) (value c + gain - loss)
-  unfolding value
-  risen-some h =
-      let m : moved c (delta-of gain loss) ≡ c + gain - loss = omega arith in
-      let e : value (moved c (delta-of gain loss)) ≡ value c + gain - loss = omega arith in
-      ap value (larger (omega arith)) ∙ value-max old (moved c (delta-of gain loss)) ∙ ap (max (value old)) e
+    pub risen-some : 1 ≤ value c → value new ≡ max (value old) (value c + gain - loss)
+    risen-some h = omega (arith, highest, R .sum, D .sum, value-height new, value-height old, value-height c)

@@ -1,70 +1,66 @@
 -- How a cell of the working table is held: this crate alone knows it. Others go by what a cell says, its value, and by the laws of proofs/Values.antt.
--- While walks are sought, the cell of the weight w is the floor plus w, a number of 32 bits; a cell below the floor holds no walk.
+-- A cell is a signed number of 32 bits: the weight of a walk, or a number below 0 where there is none.
 use mathlib.Core.Path.{_≡_}
+use mathlib.Core.Bool.{Bool, true, false}
 use mathlib.Core.Logic.{_⊎_}
-use Prim.Native.Nat.{ℕ, suc, _+_, _-_, _%_, _≤_, _<_, max}
+use Prim.Native.Nat.{ℕ, suc, _+_, _-_, _≤_, _<_}
+use lib.IntN.{ℤ, pos, negsuc}
 
--- A cell has 32 bits, and a sum wraps there: a number of the upper half stands for one below 0.
-abbrev pub half : ℕ
-half = 2147483648
+-- What a cell says: 0 for no walk, w + 1 for the weight w.
+unfoldable pub value : ℤ → ℕ
+value (pos w) = suc w
+value (negsuc m) = 0
 
-abbrev pub wrap : ℕ
-wrap = half + half
+-- The cell that every cell of a table begins as, and that one without a walk becomes before it is handed on: no gain leads from there to 0.
+abbrev pub none : ℤ
+none = negsuc 1073741823
 
--- The largest number of a cell.
-abbrev pub largest : ℕ
-largest = wrap - 1
+-- Sums and orders of signed numbers are told by their heights: how far they lie above a number that is below every sum of two of them. The ground is the height of 0.
+abbrev pub ground : ℕ
+ground = 1099511627776
 
--- The cell of the weight 0, in the middle of the lower half.
-abbrev pub floor : ℕ
-floor = 1073741824
+unfoldable pub height : ℤ → ℕ
+height (pos n) = ground + n
+height (negsuc n) = ground - suc n
 
 -- An edge gains less than this, and loses less: the word of an edge has no room for more.
 abbrev pub move-limit : ℕ
 move-limit = 16777216
 
--- The most that a cell may say where nothing wraps: no gain leads from there to the upper half.
-abbrev pub roof : ℕ
-roof = floor - move-limit
+-- The largest weight from which a cell is moved. Such a sum fits a signed number of 32 bits, whatever the edge.
+abbrev pub most-weight : ℕ
+most-weight = 2000000000
 
--- What a cell says: 0 for no walk, w + 1 for the weight w.
-unfoldable pub value : ℕ → ℕ
-value c = suc c - floor
-
--- The cell that every cell of a table begins as: it holds no walk. And the cell of the weight 0.
-abbrev pub empty : ℕ
-empty = 0
-
-abbrev pub weightless : ℕ
-weightless = floor
-
--- A cell that is made ready to be handed on holds a weight, or is empty: no gain leads from there across the floor, and a loss wraps.
-unfoldable pub Clear : ℕ → Type 0
-Clear c = (c ≡ empty) ⊎ (floor ≤ c)
+-- A cell that is made ready to be handed on holds a walk, or is the one that none holds.
+unfoldable pub Clear : ℤ → Type 0
+Clear c = (c ≡ none) ⊎ (1 ≤ value c)
 
 -- Cells move by delta, what an edge gains less what it loses.
-abbrev pub moved : ℕ → ℕ → ℕ
-moved c delta = (c + delta) % wrap
+pub record Delta (gain loss : ℕ) (delta : ℤ) : Type 0 where
+  pub sum : height delta + loss ≡ ground + gain
 
-abbrev pub delta-of : ℕ → ℕ → ℕ
-delta-of gain loss = (wrap + gain - loss) % wrap
+-- By less than the limit either way.
+pub record Small (delta : ℤ) : Type 0 where
+  pub gains : height delta < ground + move-limit
+  pub loses : ground < height delta + move-limit
 
--- What a cell has to rise by to be the larger of itself and c: nothing where c lies a little below the wrap, for a number below 0.
-pub record Above (old c by : ℕ) : Type 0 where
-  pub larger : value old ≤ roof → c < half → old + by ≡ max old c
-  pub none : value old ≤ roof → wrap - move-limit ≤ c → by ≡ 0
+-- A cell that can be moved: made ready, and within the largest weight.
+pub record Movable (c : ℤ) : Type 0 where
+  pub clear : Clear c
+  pub low : value c ≤ suc most-weight
 
--- A cell that rose so.
-pub record Risen (old c new : ℕ) : Type 0 where
-  pub by : ℕ
-  pub above : Above old c by
-  pub sum : new ≡ moved old by
+-- The larger of two numbers, which is one of them.
+pub record Larger (old c new : ℤ) : Type 0 where
+  pub kept : height c ≤ height old → new ≡ old
+  pub taken : height old < height c → new ≡ c
 
--- A bound on cells.
-unfoldable pub Bounds : ℕ → ℕ → Type 0
-Bounds bound c = c ≤ bound
+-- Whether a number is less than another.
+pub record Compared (old c : ℤ) (less : Bool) : Type 0 where
+  pub below : less ≡ true → height old < height c
+  pub not-below : less ≡ false → height c ≤ height old
 
--- A cell becomes part of what is bounded.
-pub record Bounded (bound c bound′ : ℕ) : Type 0 where
-  pub new : Bounds bound′ c
-  pub kept : (x : ℕ) → Bounds bound x → Bounds bound′ x
+-- A cell rises to what another one says, moved by delta, where that is more.
+pub record Risen (old c delta new : ℤ) : Type 0 where
+  pub moved : ℤ
+  pub sum : height moved + ground ≡ height c + height delta
+  pub larger : Larger old moved new

@@ -1,157 +1,127 @@
-// Cells of the working table: the one crate that knows how a cell is held. See specs/Cells.antt.
+// Cells of the working table: the one crate that knows how a cell is held. A cell is the weight of a walk, or a number below 0 where there is none. See specs/Cells.antt.
 ghost use mathlib.Core.Path.{_≡_};
-ghost use mathlib.Core.Bool.{true, false};
-ghost use Prim.Native.Nat.{ℕ, suc, _+_, _-_, _≤_, _<_, min};
+ghost use mathlib.Core.Bool.{true};
+ghost use Prim.Native.Nat.{suc, _+_, _-_, _≤_, _<_};
 ghost use lib.Dec.{eqb, leb, ltb};
+ghost use Rattle.definitions.specs.Limits.{most-ticks};
 ghost use Rattle.definitions.specs.Rounds.{extend};
-ghost use Rattle.walk_cells.specs.Cells.{Above, Bounded, Bounds, Clear, delta-of, largest, move-limit, moved, roof, value, weightless};
+ghost use Rattle.walk_cells.specs.Cells.{Clear, Compared, Delta, Larger, Movable, Small, ground, height, move-limit, value};
 
-// An empty cell, and the cell of a walk of weight 0.
-pub const EMPTY: u32 = 0;
-
-pub const WEIGHTLESS: u32 = 1073741824;
-
-// The largest number of a cell, and what is beyond.
-const LARGEST: u64 = 4294967295;
-
-const WRAP: u64 = LARGEST + 1;
-
-const HALF: u32 = 2147483648;
+// The cell of no walk, far below every weight.
+pub const NONE: i32 = -1073741824;
 
 // ---- while walks are sought
 
 // What cells move by along an edge.
-pub fn delta(gain: u64, loss: u64) -> u32
+pub fn delta(gain: u64, loss: u64) -> i32
     requires { ⌜ (gain < move-limit) × (loss < move-limit) ⌝ }
-    ensures { λ r. ⌜ r ≡ delta-of gain loss ⌝ }
+    ensures { λ r. ⌜ Delta gain loss r × Small r ⌝ }
 {
-    ((WRAP + gain - loss) % WRAP) as u32
+    (gain as i32) - (loss as i32)
 }
 
-// A cell moved. It wraps, so that a loss is a large delta.
-pub fn shift(c: u32, delta: u32) -> u32
-    ensures { λ r. ⌜ (r ≡ moved c delta) × (delta ≡ 0 → r ≡ c) ⌝ }
+// A cell moved.
+pub fn moved(c: i32, delta: i32) -> i32
+    requires { ⌜ Movable c × Small delta ⌝ }
+    ensures { λ r. ⌜ height r + ground ≡ height c + height delta ⌝ }
 {
-    (((c as u64) + (delta as u64)) % WRAP) as u32
+    c + delta
 }
 
-// How far c is above old; 0 where it is not. To look at the top bit of the difference costs the compiler less than to compare.
-pub fn rise(old: u32, c: u32) -> u32
-    ensures { λ r. ⌜ Above old c r ⌝ }
+// The larger of two cells.
+pub fn larger(old: i32, c: i32) -> i32
+    ensures { λ r. ⌜ Larger old c r ⌝ }
 {
-    let t = ((WRAP + (c as u64) - (old as u64)) % WRAP) as u32;
-    if t < HALF { t } else { 0 }
+    if old < c { c } else { old }
 }
 
-// A cell that says the same, where nothing wraps; an empty one where it holds no walk.
-pub fn clean(c: u32) -> u32
-    ensures { λ r. ⌜ Clear r × (value c ≤ roof → value r ≡ value c) ⌝ }
+// 0 where the second of two cells is not above the first. A number, so that the compiler makes vectors of the loop that gathers it.
+pub fn rises(old: i32, c: i32) -> u32
+    ensures { λ r. ⌜ (r ≡ 0 → height c ≤ height old) ⌝ }
 {
-    if c / WEIGHTLESS == 1 { c } else { EMPTY }
+    if old < c { 1 } else { 0 }
+}
+
+// A cell that says the same, made ready to be handed on.
+pub fn clean(c: i32) -> i32
+    ensures { λ r. ⌜ Clear r × (value r ≡ value c) ⌝ }
+{
+    if c < 0 { NONE } else { c }
 }
 
 // Whether a cell holds a walk.
-pub fn is_walk(c: u32) -> bool
+pub fn is_walk(c: i32) -> bool
     ensures { λ r. ⌜ r ≡ ltb 0 (value c) ⌝ }
 {
-    WEIGHTLESS <= c
+    0 <= c
 }
 
-// A bound on cells, made to bound one more. Not the least: no branch.
-pub fn bound_with(bound: u32, c: u32) -> u32
-    ensures { λ r. ⌜ Bounded bound c r ⌝ }
+// Whether no walk as light as this one gets longer than 0 by delta.
+pub fn is_idle(top: i32, delta: i32) -> bool
+    requires { ⌜ Movable top × Small delta ⌝ }
+    ensures { λ r. ⌜ (r ≡ true → height top + height delta ≤ ground + ground) ⌝ }
 {
-    bound | c
+    top + delta <= 0
 }
 
-// A weight that no cell within a bound is above.
-pub fn top_weight(bound: u32) -> u32
-    ensures { λ r. ⌜ ((c : ℕ) → Bounds bound c → value c ≤ suc r) ⌝ }
+// The cell of a walk that weighs a least.
+pub fn of_least(least: u16) -> i32
+    ensures { λ r. ⌜ (value r ≡ suc least) × (least ≤ most-ticks) ⌝ }
 {
-    if bound < WEIGHTLESS {
-        0
-    } else {
-        bound - WEIGHTLESS
-    }
+    least as i32
 }
 
 // The cell of a walk that is one edge; of weight 0 where it loses more than it gains.
-pub fn of_edge(gain: u64, loss: u64) -> u32
+pub fn of_edge(gain: u64, loss: u64) -> i32
     requires { ⌜ gain < move-limit ⌝ }
     ensures { λ r. ⌜ value r ≡ suc (gain - loss) ⌝ }
 {
-    if loss < gain {
-        ((WEIGHTLESS as u64) + gain - loss) as u32
-    } else {
-        WEIGHTLESS
-    }
+    if loss < gain { (gain - loss) as i32 } else { 0 }
 }
 
-// Whether a cell says less than another; where not, it says as much.
-pub fn is_less(old: u32, c: u32) -> bool
-    ensures { λ r. ⌜ (r ≡ true → value old ≤ value c) × (r ≡ false → value c ≤ value old) ⌝ }
+// Whether a cell is less than another.
+pub fn is_less(old: i32, c: i32) -> bool
+    ensures { λ r. ⌜ Compared old c r ⌝ }
 {
     old < c
 }
 
-// ---- once they are found: 0 for no walk, w + 1 for the weight w
-
-// A cell as it is read from then on: what it says.
-pub fn written(c: u32) -> u32
-    ensures { λ r. ⌜ r ≡ value c ⌝ }
-{
-    if c < WEIGHTLESS {
-        0
-    } else {
-        c - WEIGHTLESS + 1
-    }
-}
+// ---- once they are found
 
 // Whether no walk comes.
-pub fn is_none(c: u32) -> bool
-    ensures { λ r. ⌜ r ≡ eqb c 0 ⌝ }
+pub fn is_none(c: i32) -> bool
+    ensures { λ r. ⌜ r ≡ eqb (value c) 0 ⌝ }
 {
-    c == 0
+    c < 0
 }
 
 // The weight, 0 where there is none.
-pub fn weight(c: u32) -> u32
-    ensures { λ r. ⌜ r ≡ c - 1 ⌝ }
+pub fn weight(c: i32) -> u32
+    ensures { λ r. ⌜ r ≡ value c - 1 ⌝ }
 {
-    if c == 0 {
+    if c < 0 {
         return 0;
     }
-    c - 1
+    c as u32
 }
 
-// Whether a walk and another one behind it are as heavy as a third: each number is one more than a weight.
-pub fn sum_reaches(x: u32, y: u32, z: u32) -> bool
-    ensures { λ r. ⌜ (1 ≤ x → 1 ≤ y → 1 ≤ z → r ≡ leb (z - 1) (x - 1 + (y - 1))) ⌝ }
+// Whether a walk and another one behind it are as heavy as a third.
+pub fn sum_reaches(x: i32, y: i32, z: i32) -> bool
+    ensures { λ r. ⌜ (1 ≤ value x → 1 ≤ value y → 1 ≤ value z → r ≡ leb (value z - 1) (value x - 1 + (value y - 1))) ⌝ }
 {
-    (z as u64) < (x as u64) + (y as u64)
+    (z as i64) <= (x as i64) + (y as i64)
 }
 
-// A walk made longer by an edge, cut at the largest number.
-pub fn extended(c: u32, gain: u64, loss: u64) -> u32
-    requires { ⌜ gain < move-limit ⌝ }
-    ensures { λ r. ⌜ r ≡ min (extend c gain loss) largest ⌝ }
+// Whether a walk, made longer by an edge, is no heavier than another.
+pub fn has_handed(c: i32, gain: u64, loss: u64, to: i32) -> bool
+    requires { ⌜ (gain < move-limit) × (loss < move-limit) ⌝ }
+    ensures { λ r. ⌜ r ≡ leb (extend (value c) gain loss) (value to) ⌝ }
 {
-    if c == 0 {
-        return 0;
+    if c < 0 {
+        return true;
     }
-    let s = (c as u64) + gain;
-    if s <= loss {
-        return 1;
+    if to < 0 {
+        return false;
     }
-    if LARGEST < s - loss {
-        return LARGEST as u32;
-    }
-    (s - loss) as u32
-}
-
-// Whether it was not cut.
-pub fn is_uncut(c: u32) -> bool
-    ensures { λ r. ⌜ r ≡ ltb c largest ⌝ }
-{
-    (c as u64) < LARGEST
+    (weight(c) as u64) + gain <= (weight(to) as u64) + loss
 }

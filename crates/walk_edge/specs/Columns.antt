@@ -2,28 +2,29 @@
 use mathlib.Core.Path.{_≡_}
 use mathlib.Core.Bool.{Bool, true, false}
 use mathlib.Core.List.{List}
-use Prim.Native.Nat.{ℕ, _≤_, _<_}
+use Prim.Native.Nat.{ℕ, suc, _+_, _≤_, _<_}
+use lib.IntN.{ℤ}
 use lib.ListN.{length, getD}
 use Rattle.definitions.specs.Basics.{test-bit}
+use Rattle.definitions.specs.Limits.{most-gain}
 use Rattle.definitions.specs.Links.{Edge, Graph}
 use Rattle.definitions.specs.Rounds.{extend}
 use Rattle.definitions.specs.Waits.{wait-edge}
-use Rattle.walk_cells.specs.Cells.{roof, value}
-use Rattle.walk_cells.specs.Tables.{Square, entry}
+use Rattle.walk_cells.specs.Cells.{value}
+use Rattle.walk_cells.specs.Tables.{Held, Square, Target, cell-at}
+use Rattle.walk_lift.specs.Lifts.{Ready}
 use Rattle.theory.specs.Sweeps.{Settles, hand}
 
-abbrev pub column : List (List ℕ) → ℕ → ℕ → ℕ
-column d k v = value (entry d v k)
+abbrev pub column : List (List ℤ) → ℕ → ℕ → ℕ
+column d k v = value (cell-at d v k)
 
--- A column r below another one, t, in which nothing wraps; r holds a walk wherever t does.
+-- A column r below another one, t; r holds a walk wherever t does.
 pub record Under (t r : ℕ → ℕ) : Type 0 where
-  pub small : (v : ℕ) → t v ≤ roof
   pub below : (v : ℕ) → r v ≤ t v
   pub live : (v : ℕ) → 1 ≤ t v → 1 ≤ r v
 
 -- What step u hands on of x along its edges stays below t.
 pub record Bounds (E : Graph) (u x : ℕ) (t : ℕ → ℕ) : Type 0 where
-  pub small : x ≤ roof
   pub ends : (e : Edge) → E e → e .from ≡ u → extend x (e .gain) (e .loss) ≤ t (e .to)
 
 -- Edges of a graph on one column and its marks, some of them one or more times, where step u has x to hand on. No mark is taken away, and a step whose cell changes has one.
@@ -41,10 +42,17 @@ pub record Numbers (width : ℕ) (number : List ℕ) (anchor : ℕ → ℕ) : Ty
   pub inside : (k : ℕ) → k < width → anchor k < 64
   pub back : (v : ℕ) → v < 64 → getD number v 0 < width → anchor (getD number v 0) ≡ v
 
--- The same for every numbered column, in the graph of its anchor: of column k step u hands on x k.
-pub record HandedAll (E : ℕ → Graph) (number : List ℕ) (u : ℕ) (x : ℕ → ℕ) (d d′ : List (List ℕ)) (m m′ : ℕ) : Type 0 where
+-- The same for every numbered column, in the graph of its anchor: of column k step u hands on x k. No cell says more than what is handed on and one gain.
+pub record HandedAll (E : ℕ → Graph) (number : List ℕ) (u : ℕ) (x : ℕ → ℕ) (d d′ : List (List ℤ)) (m m′ : ℕ) : Type 0 where
   pub square : Square (length d) d′
   pub each : (width : ℕ) (anchor : ℕ → ℕ) → Numbers width number anchor → (k : ℕ) → k < width → Handed (E (anchor k)) u (x k) (column d k) (column d′ k) (test-bit m) (test-bit m′)
+  pub held : (w : ℕ) → ((k : ℕ) → x k ≤ suc w) → Held (w + most-gain) d → Held (w + most-gain) d′
+
+-- An edge along which a row that is made ready can be handed on.
+pub record Sendable (e : Edge) (width : ℕ) (top : ℤ) (row : List ℤ) (d : List (List ℤ)) : Type 0 where
+  pub target : Target (e .to) width d
+  pub ready : Ready row width top
+  pub light : e .gain ≤ most-gain
 
 -- The graph of one edge, and that of the waits for u, bit i of a map: each gains the least of u.
 abbrev pub Only : Edge → Graph

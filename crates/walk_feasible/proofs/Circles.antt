@@ -8,14 +8,15 @@ use Rattle.definitions.specs.Links.{Walk, members}
 use Rattle.data_edges.specs.Words.{graph, unpack}
 use Rattle.data_edges.proofs.Places.{graph-at}
 use Rattle.theory.proofs.Walks.{join, walk-edge, walk-from, walk-none, walk-to}
-use Rattle.walk_feasible.specs.Search.{Circle, Enters, ground}
+use Rattle.walk_cells.specs.Cells.{move-limit}
+use Rattle.walk_feasible.specs.Search.{Circle, Enters}
 
 -- The walk from v to x that k steps back from x have made.
 pub record Back (es : List ℕ) (x n k v gains losses : ℕ) : Type 0 where
   pub inside : k ≤ n
   pub below : v < 64
-  pub light : gains ≤ ground * k
-  pub small : losses ≤ ground * k
+  pub light : gains ≤ move-limit * k
+  pub small : losses ≤ move-limit * k
   pub walk : Walk (members (graph es)) v x k gains losses
 
 pub back-start : (es : List ℕ) (x n : ℕ) → x < 64 → Back es x n 0 x 0 0
@@ -29,7 +30,7 @@ module _ (es : List ℕ) (x n k v gains losses i : ℕ) {from gain loss : ℕ} (
       let edge = walk-edge {E = members (graph es)} e (graph-at es (i - 1) (omega (arith, enters .some, enters .inside))) in
       walk-from f (walk-to (join (walk-to edge (enters .ends) refl refl refl) (B .walk)) refl (omega arith) (omega arith) (omega arith))
 
-  pub back-more : k < n → from < 64 → gain < ground → loss < ground → Back es x n (k + 1) from (gains + gain) (losses + loss)
+  pub back-more : k < n → from < 64 → gain < move-limit → loss < move-limit → Back es x n (k + 1) from (gains + gain) (losses + loss)
   back-more c b p q =
       record { inside = omega arith; below = b; light = omega (arith, B .light); small = omega (arith, B .small); walk = walk-to back-walk refl (omega arith) refl refl }
 

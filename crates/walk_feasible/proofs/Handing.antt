@@ -4,11 +4,12 @@ use mathlib.Core.Bool.{Bool, true, false}
 use mathlib.Core.Logic.{_⊎_, inl, inr, _≢_}
 use Prim.Native.Nat.{ℕ, _+_, _*_, _≤_, _<_}
 use native.Mathlib.Omega.{arith}
+use Rattle.definitions.specs.Limits.{most-gain}
 use Rattle.definitions.specs.Links.{Edge, Graph, _⊑_}
 use Rattle.laws.proofs.Bools.{bool-cases, both-ways, same-or-not, mark-back}
 use Rattle.theory.specs.Graphs.{Gains}
 use Rattle.theory.proofs.Walks.{join, walk-edge, walk-from, walk-to}
-use Rattle.walk_feasible.specs.Search.{Attained, Came, Covered, Grows, HandedOut, Pass, ground}
+use Rattle.walk_feasible.specs.Search.{Attained, Came, Covered, Grows, HandedOut, Pass}
 
 -- A mark that is new after both is new after the first, or after the second.
 grows-then : {r s t : ℕ → ℕ} {f g h : ℕ → Bool} → ((v : ℕ) → r v ≤ s v) → ((v : ℕ) → s v ≤ t v) → Grows r s f g → Grows s t g h → Grows r t f h
@@ -40,7 +41,7 @@ handed-both {E} {F} {G} {u} {own} {r} {s} {t} i j split H K =
     came v (inr c) (inl b) = inr (record { edge = c .edge; mem = i (c .edge) (c .mem); leaves = c .leaves; ends = c .ends; weighs = omega (arith, c .weighs, b) })
 
 -- A step hands on, and its own mark goes. Where its cell was not raised meanwhile, all of it is handed on.
-module _ {E : Graph} {u : ℕ} {r s : ℕ → ℕ} {f f′ g : ℕ → Bool} (gains : Gains E ground) (less : (v : ℕ) → f v ≡ false → f′ v ≡ false) (rest : (v : ℕ) → v ≢ u → f′ v ≡ f v) (gone : f′ u ≡ false) (H : HandedOut E u (r u) r s f′ g) where
+module _ {E : Graph} {u : ℕ} {r s : ℕ → ℕ} {f f′ g : ℕ → Bool} (gains : Gains E most-gain) (less : (v : ℕ) → f v ≡ false → f′ v ≡ false) (rest : (v : ℕ) → v ≢ u → f′ v ≡ f v) (gone : f′ u ≡ false) (H : HandedOut E u (r u) r s f′ g) where
   -- The walk to u goes on along the edge that raised a cell.
   went : ((v : ℕ) → Attained E r v) → (v : ℕ) → (s v ≡ r v) ⊎ Came E u (r u) s v → Attained E s v
   went a v (inl h) = let A = a v in record { x = A .x; k = A .k; p = A .p; q = A .q; walk = A .walk; weighs = omega (arith, A .weighs, h) }
@@ -48,7 +49,7 @@ module _ {E : Graph} {u : ℕ} {r s : ℕ → ℕ} {f f′ g : ℕ → Bool} (ga
       let A = a u in
       record { x = A .x; k = _; p = _; q = _; walk = join (A .walk) (walk-from (sym (c .leaves)) (walk-to (walk-edge (c .edge) (c .mem)) (c .ends) refl refl refl)); weighs = omega (arith, A .weighs, c .weighs) }
 
-  bounded : (b : ℕ) → ((v : ℕ) → r v ≤ b) → (v : ℕ) → (s v ≡ r v) ⊎ Came E u (r u) s v → s v ≤ b + ground * 1
+  bounded : (b : ℕ) → ((v : ℕ) → r v ≤ b) → (v : ℕ) → (s v ≡ r v) ⊎ Came E u (r u) s v → s v ≤ b + most-gain * 1
   bounded b low v (inl h) = omega (arith, low v, h)
   bounded b low v (inr c) = omega (arith, low u, c .weighs, gains (c .edge) (c .mem))
 
@@ -79,7 +80,7 @@ pass-both {E} {On} {Then} {All} {c} {d} {b} {r} {s} {t} {f} {g} {h} split few P 
     record {
       up = λ v. omega (arith, P .up v, Q .up v);
       attained = λ a. Q .attained (P .attained a);
-      small = λ x low v. omega (arith, Q .small (x + ground * c) (P .small x low) v);
+      small = λ x low v. omega (arith, Q .small (x + most-gain * c) (P .small x low) v);
       covers = λ x. Q .covers (P .covers x);
       hands = λ x e m o. by x e m (split (e .from) o);
       grows = grows-then (P .up) (Q .up) (P .grows) (Q .grows);

@@ -4,24 +4,25 @@ use mathlib.Core.Bool.{Bool, true, false}
 use mathlib.Core.Logic.{_⊎_}
 use mathlib.Core.List.{List}
 use Prim.Native.Nat.{ℕ, _+_, _-_, _*_, _<_, _≤_}
+use lib.IntN.{ℤ, pos}
 use lib.ListN.{length, getD}
 use Rattle.data_lists.specs.Lists.{Lists}
 use Rattle.definitions.specs.Basics.{test-bit}
-use Rattle.definitions.specs.Limits.{most-steps}
+use Rattle.definitions.specs.Limits.{most-gain, most-steps}
 use Rattle.definitions.specs.Links.{Edge, Graph, Walk}
-use Rattle.definitions.specs.Rounds.{cell, rounds, source-row, stable}
+use Rattle.definitions.specs.Rounds.{rounds, source-row, stable}
 use Rattle.data_edges.specs.Words.{graph, unpack}
+use Rattle.walk_cells.specs.Cells.{Movable, ground, height, most-weight}
 
--- The cells of this row are held in their own way: the weight plus the ground, in words of 64 bits. The ground is the cell of the weight 0, at which every cell begins.
--- An edge gains and loses less than that: its word has no room for more. So no sum is below 0.
-abbrev pub ground : ℕ
-ground = 16777216
+-- A cell of this row is the weight of a walk, in a signed number of 32 bits. Every cell begins at 0, and none falls. The level of step v is the height of its cell: the ground where the weight is 0.
+abbrev pub level : List ℤ → ℕ → ℕ
+level row v = height (getD row v (pos 0))
 
--- The largest number of a word.
-abbrev pub most-word : ℕ
-most-word = 18446744073709551615
+-- The level of the largest weight from which a cell is moved.
+abbrev pub most-level : ℕ
+most-level = ground + most-weight
 
--- The cell of v is what an edge out of u makes of own.
+-- The level of v is what an edge out of u makes of the level own.
 pub record Came (E : Graph) (u own : ℕ) (s : ℕ → ℕ) (v : ℕ) : Type 0 where
   pub edge : Edge
   pub mem : E edge
@@ -33,7 +34,7 @@ pub record Came (E : Graph) (u own : ℕ) (s : ℕ → ℕ) (v : ℕ) : Type 0 w
 abbrev pub Grows : (ℕ → ℕ) → (ℕ → ℕ) → (ℕ → Bool) → (ℕ → Bool) → Type 0
 Grows r s f g = (v : ℕ) → g v ≡ true → f v ≡ false → r v < s v
 
--- Edges out of u, whose cell held own, on a row and its marks; each has handed on. No mark is taken away, and a cell that is raised gets one.
+-- Edges out of u, whose level was own, on a row and its marks; each has handed on. No mark is taken away, and a cell that is raised gets one.
 pub record HandedOut (E : Graph) (u own : ℕ) (r s : ℕ → ℕ) (f g : ℕ → Bool) : Type 0 where
   pub up : (v : ℕ) → r v ≤ s v
   pub hands : (e : Edge) → E e → e .from ≡ u → own + e .gain ≤ s (e .to) + e .loss
@@ -43,10 +44,10 @@ pub record HandedOut (E : Graph) (u own : ℕ) (r s : ℕ → ℕ) (f g : ℕ �
   pub grows : Grows r s f g
 
 -- The same on a row of 64 cells. Of the edges noted on the way only that they are in an array of 64 is said.
-pub record Pushed (E : Graph) (u own : ℕ) (row row′ via′ : List ℕ) (m m′ : ℕ) : Type 0 where
+pub record Pushed (E : Graph) (u own : ℕ) (row row′ : List ℤ) (via′ : List ℕ) (m m′ : ℕ) : Type 0 where
   pub long : length row′ ≡ 64
   pub noted : length via′ ≡ 64
-  pub handed : HandedOut E u own (cell row) (cell row′) (test-bit m) (test-bit m′)
+  pub handed : HandedOut E u own (level row) (level row′) (test-bit m) (test-bit m′)
 
 -- Some walk to v weighs what its cell says, or more.
 pub record Attained (E : Graph) (r : ℕ → ℕ) (v : ℕ) : Type 0 where
@@ -65,36 +66,35 @@ Covered E r f = (e : Edge) → E e → f (e .from) ≡ false → r (e .from) + e
 pub record Pass (E : Graph) (On : ℕ → Type 0) (c : ℕ) (r s : ℕ → ℕ) (f g : ℕ → Bool) : Type 0 where
   pub up : (v : ℕ) → r v ≤ s v
   pub attained : ((v : ℕ) → Attained E r v) → (v : ℕ) → Attained E s v
-  pub small : (b : ℕ) → ((v : ℕ) → r v ≤ b) → (v : ℕ) → s v ≤ b + ground * c
+  pub small : (b : ℕ) → ((v : ℕ) → r v ≤ b) → (v : ℕ) → s v ≤ b + most-gain * c
   pub covers : Covered E r f → Covered E s g
   pub hands : Covered E r f → (e : Edge) → E e → On (e .from) → r (e .from) + e .gain ≤ s (e .to) + e .loss
   pub grows : Grows r s f g
   pub clears : (v : ℕ) → On v → g v ≡ true → r v < s v
 
 -- The same on a row of 64 cells.
-pub record Passed (E : Graph) (On : ℕ → Type 0) (c : ℕ) (row row′ via′ : List ℕ) (m m′ : ℕ) : Type 0 where
+pub record Passed (E : Graph) (On : ℕ → Type 0) (c : ℕ) (row row′ : List ℤ) (via′ : List ℕ) (m m′ : ℕ) : Type 0 where
   pub long : length row′ ≡ 64
   pub noted : length via′ ≡ 64
-  pub pass : Pass E On c (cell row) (cell row′) (test-bit m) (test-bit m′)
+  pub pass : Pass E On c (level row) (level row′) (test-bit m) (test-bit m′)
 
 -- A row on which c more visits reach no number that is too large.
-pub record Room (c : ℕ) (row : List ℕ) : Type 0 where
+pub record Room (c : ℕ) (row : List ℤ) : Type 0 where
   pub long : length row ≡ 64
-  pub least : (v : ℕ) → v < 64 → ground ≤ cell row v
-  pub below : (v : ℕ) → cell row v + ground * c ≤ most-word
+  pub least : (v : ℕ) → ground ≤ level row v
+  pub below : (v : ℕ) → level row v + most-gain * c ≤ most-level
 
 -- Edges with their lists, a row on which c more visits have room, and the edges noted on the way.
-pub record Searchable (c : ℕ) (es lists row via : List ℕ) : Type 0 where
+pub record Searchable (c : ℕ) (es lists : List ℕ) (row : List ℤ) (via : List ℕ) : Type 0 where
   pub listed : Lists es lists
   pub room : Room c row
   pub noted : length via ≡ 64
 
 -- A cell that holds own can move along any edge, to a row of 64 cells.
-pub record Movable (own : ℕ) (row via : List ℕ) : Type 0 where
+pub record Pushable (own : ℤ) (row : List ℤ) (via : List ℕ) : Type 0 where
   pub long : length row ≡ 64
   pub noted : length via ≡ 64
-  pub least : ground ≤ own
-  pub below : own + ground ≤ most-word
+  pub movable : Movable own
 
 -- Rounds over the edges come to rest: 10 does not apply.
 abbrev pub rests : ℕ → List ℕ → Bool

@@ -9,22 +9,20 @@ ghost use Prim.Native.Nat.{_<_, _≤_};
 ghost use Rattle.data_lists.specs.Lists.{WithLists};
 ghost use Rattle.definitions.specs.Limits.{most-steps};
 ghost use Rattle.definitions.specs.Links.{members};
-ghost use Rattle.definitions.specs.Rounds.{cell};
 ghost use Rattle.data_edges.specs.Words.{graph, unpack};
 ghost use Rattle.theory.specs.Graphs.{Rooted, Shape};
-ghost use Rattle.walk_feasible.specs.Search.{Circle, Enters, Movable, Passed, Pushed, Searchable, pass-visits, rests};
-
-// The cell of the weight 0.
-const GROUND: u64 = 16777216;
+ghost use Rattle.walk_cells.specs.Cells.{height};
+ghost use Rattle.walk_feasible.specs.Search.{Circle, Enters, Passed, Pushable, Pushed, Searchable, level, pass-visits, rests};
 
 // One edge, at place k of the lists, from a cell that holds own. Where it raises the cell at its end, a mark stands there and the place is noted. The marks after it.
-fn push_edge(row: &mut [u64; 64], via: &mut [u16; 64], marks: u64, w: u64, k: u16, own: u64) -> u64
-    requires { ⌜ Movable own (now row) (now via) ⌝ }
-    ensures { λ r. ⌜ Pushed (λ e. e ≡ unpack w) (unpack w .from) own (now (row .entry)) (now (row .exit)) (now (via .exit)) marks r ⌝ }
+fn push_edge(row: &mut [i32; 64], via: &mut [u16; 64], marks: u64, w: u64, k: u16, own: i32) -> u64
+    requires { ⌜ Pushable own (now row) (now via) ⌝ }
+    ensures { λ r. ⌜ Pushed (λ e. e ≡ unpack w) (unpack w .from) (height own) (now (row .entry)) (now (row .exit)) (now (via .exit)) marks r ⌝ }
 {
     let to = edge_to(w);
-    let c = own + edge_gain(w) - edge_loss(w);
-    if row[to] < c {
+    let by = walk_cells::delta(edge_gain(w), edge_loss(w));
+    let c = walk_cells::moved(own, by);
+    if walk_cells::is_less(row[to], c) {
         row[to] = c;
         via[to] = k;
         return data_bits::insert(marks, to);
@@ -34,7 +32,7 @@ fn push_edge(row: &mut [u64; 64], via: &mut [u16; 64], marks: u64, w: u64, k: u1
 
 // The edges out of u.
 fn push_step(
-    row: &mut [u64; 64],
+    row: &mut [i32; 64],
     via: &mut [u16; 64],
     marks: u64,
     es: &[u64],
@@ -42,7 +40,7 @@ fn push_step(
     u: usize,
 ) -> u64
     requires { ⌜ (u < 64) × Searchable 1 (now es) (now lists) (now row) (now via) ⌝ }
-    ensures { λ r. ⌜ Pushed (members (graph (now (es .entry)))) u (cell (now (row .entry)) u) (now (row .entry)) (now (row .exit)) (now (via .exit)) marks r ⌝ }
+    ensures { λ r. ⌜ Pushed (members (graph (now (es .entry)))) u (level (now (row .entry)) u) (now (row .entry)) (now (row .exit)) (now (via .exit)) marks r ⌝ }
 {
     let own = row[u];
     let mut m = marks;
@@ -57,7 +55,7 @@ fn push_step(
 
 // Step u hands on, where its cell was raised since it last did.
 fn pass_step(
-    row: &mut [u64; 64],
+    row: &mut [i32; 64],
     via: &mut [u16; 64],
     marks: u64,
     es: &[u64],
@@ -76,7 +74,7 @@ fn pass_step(
 
 // The steps of an order, one after another. What the order is decides only how much is left to do.
 fn pass_order(
-    row: &mut [u64; 64],
+    row: &mut [i32; 64],
     via: &mut [u16; 64],
     marks: u64,
     es: &[u64],
@@ -98,7 +96,7 @@ fn pass_order(
 }
 
 // Every step that has a mark, from the last to the first: returns mostly lead to lower steps. Those that are left are before the last one visited.
-fn pass_down(row: &mut [u64; 64], via: &mut [u16; 64], marks: u64, es: &[u64], lists: &[u16]) -> u64
+fn pass_down(row: &mut [i32; 64], via: &mut [u16; 64], marks: u64, es: &[u64], lists: &[u16]) -> u64
     requires { ⌜ Searchable most-steps (now es) (now lists) (now row) (now via) ⌝ }
     ensures { λ r. ⌜ Passed (members (graph (now (es .entry)))) (λ v. v < 64) most-steps (now (row .entry)) (now (row .exit)) (now (via .exit)) marks r ⌝ }
 {
@@ -115,7 +113,7 @@ fn pass_down(row: &mut [u64; 64], via: &mut [u16; 64], marks: u64, es: &[u64], l
 
 // One pass: the order settles the forward edges, the way back the returns.
 fn pass(
-    row: &mut [u64; 64],
+    row: &mut [i32; 64],
     via: &mut [u16; 64],
     marks: u64,
     es: &[u64],
@@ -195,7 +193,7 @@ pub fn feasible(es: &[u64], lists: &[u16], order: &[u8; 64], n: usize) -> bool
     requires { ⌜ WithLists n (now es) (now lists) ⌝ }
     ensures { λ r. ⌜ (Shape n (members (graph (now (es .entry)))) → Rooted n (members (graph (now (es .entry)))) → r ≡ rests n (now (es .entry))) ⌝ }
 {
-    let mut row = [GROUND; 64];
+    let mut row = [0i32; 64];
     let mut via = [0u16; 64];
     let mut marks = data_sets::below(n);
     let mut k = 0;

@@ -6,6 +6,7 @@ use mathlib.Core.List.{List, List·Memᴰ}
 use Prim.Native.Nat.{ℕ, _+_, _*_, _≤_, _<_}
 use native.Mathlib.Omega.{arith}
 use lib.Dec.{ltb}
+use lib.IntN.{ℤ}
 use lib.ListN.{getD}
 use borrow.Author.Tests.{le-ltb, lt-ltb, ltb-true}
 use Rattle.definitions.specs.Basics.{test-bit}
@@ -20,7 +21,7 @@ use Rattle.data_relations.specs.Rows.{row-bit}
 use Rattle.walk_edge.specs.Columns.{Covered, WaitsFor, column}
 use Rattle.walk_edge.proofs.Handing.{below-or-not}
 use Rattle.walk_seed.specs.Seeds.{Begins, Prepared}
-use Rattle.walk_sweep.specs.Free.{Free, Low, Roomy}
+use Rattle.walk_sweep.specs.Free.{Free, Low, Sheetlike}
 use Rattle.walk_sweep.specs.Graphs.{Both, visits}
 use Rattle.theory.specs.Graphs.{Gains, Rooted, Shape, SheetLeasts}
 use Rattle.theory.specs.Sweeps.{hand}
@@ -45,10 +46,10 @@ module _
   light e (inl m) = gains e (m .0)
   light e (inr w) = omega (arith, ap (λ (x : Edge). x .gain) (w .same), leasts .small (e .from))
 
-  roomy : Roomy (Both es least waiting 0) n 1 (visits n)
-  roomy = record { ends = ends; gains = light; room = omega arith }
+  sheetlike : Sheetlike (Both es least waiting 0) n
+  sheetlike = record { ends = ends; gains = light }
 
-  module _ {number : List ℕ} {width rows m : ℕ} {d d′ : List (List ℕ)} (begun : Prepared least (members (graph es)) sets n width number rows d) (opened : Opened es least waiting number width n d d′ m) where
+  module _ {number : List ℕ} {width rows m : ℕ} {d d′ : List (List ℤ)} (begun : Prepared least (members (graph es)) sets n width number rows d) (opened : Opened es least waiting number width n d d′ m) where
     abbrev k : ℕ
     k = getD number 0 0
 
@@ -99,8 +100,8 @@ module _
     rest-stable rooted z = kept-stable es n some shape rooted (column d′ k) keeps
       where
         low : Low n (1 + most-gain * (visits n)) (column d′ k)
-        low = free .low n 1 roomy first-low
+        low = free .low n 1 sheetlike first-low
 
         keeps : (e : Edge) → List·Memᴰ e (graph es) → column d′ k (e .from) + e .gain ≤ column d′ k (e .to) + e .loss
         keeps e i =
-            omega (arith, free .covers n 1 roomy first-low first-covered e (inl (i, λ l. shape .late-not-source e i (l .0) (l .1))) (ap (λ (x : ℕ). test-bit x (e .from)) z ∙ test-zero (e .from)), extend-some (column d′ k (e .from)) (e .gain) (e .loss) (low .live (e .from) (shape .from-below e i)))
+            omega (arith, free .covers n 1 sheetlike first-low first-covered e (inl (i, λ l. shape .late-not-source e i (l .0) (l .1))) (ap (λ (x : ℕ). test-bit x (e .from)) z ∙ test-zero (e .from)), extend-some (column d′ k (e .from)) (e .gain) (e .loss) (low .live (e .from) (shape .from-below e i)))

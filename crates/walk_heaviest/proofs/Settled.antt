@@ -7,6 +7,7 @@ use Prim.Native.Nat.{ℕ, zero, suc, _+_, _-_, _%_, _≤_, _<_}
 use native.Mathlib.Omega.{arith}
 use native.Mathlib.Decide.{decLt}
 use lib.Dec.{ltb}
+use lib.IntN.{ℤ}
 use lib.ListN.{length, getD, List·getD-eq-default}
 use borrow.Author.Tests.{ltb-true, lt-ltb}
 use Rattle.definitions.specs.Anchors.{InAnchorSet, WellPosed, chain, is-source}
@@ -14,7 +15,7 @@ use Rattle.definitions.specs.Basics.{test-bit}
 use Rattle.definitions.specs.Limits.{most-gain, most-steps}
 use Rattle.definitions.specs.Links.{Edge, Graph, LateInto, _⊑_, members, usable}
 use Rattle.definitions.specs.Plan.{first-row, offset, offset-row}
-use Rattle.definitions.specs.Rounds.{after-row, cell, source-row}
+use Rattle.definitions.specs.Rounds.{after-row, cell, entry, source-row}
 use Rattle.definitions.specs.Waits.{wait-edge}
 use Rattle.data_edges.specs.Serial.{Within, wait-edges}
 use Rattle.data_edges.specs.Words.{graph}
@@ -22,10 +23,10 @@ use Rattle.data_edges.proofs.Waiting.{wait-edges-has, wait-edges-only}
 use Rattle.laws.proofs.Bools.{and-join, and-split, both-ways}
 use Rattle.laws.proofs.Maps.{test-zero}
 use Rattle.data_relations.specs.Rows.{row-bit}
-use Rattle.walk_cells.specs.Cells.{roof}
-use Rattle.walk_cells.specs.Tables.{Square, entry}
+use Rattle.walk_cells.specs.Cells.{value}
+use Rattle.walk_cells.specs.Tables.{Square, said}
 use Rattle.walk_edge.specs.Columns.{Sought, WaitsFor, column}
-use Rattle.walk_cells.proofs.Tables.{square-then}
+use Rattle.walk_cells.proofs.Tables.{said-at, square-then}
 use Rattle.walk_seed.specs.Seeds.{Prepared}
 use Rattle.walk_sweep.specs.Graphs.{Both, SweptBy}
 use Rattle.theory.specs.Graphs.{Gains, Leasts, SheetLeasts, Well}
@@ -34,7 +35,7 @@ use Rattle.theory.proofs.FirstRows.{seeds-length, zeros-length}
 use Rattle.theory.proofs.Offsets.{offset-found, offset-row-iff}
 use Rattle.theory.proofs.RelativeSchedules.{chain-offset}
 use Rattle.theory.proofs.Relaxation.{raise-length, rounds-length}
-use Rattle.theory.proofs.Sweeping.{offsets-seeded, offsets-settle, offsets-small, offsets-swept, sweeps-rest}
+use Rattle.theory.proofs.Sweeping.{offsets-seeded, offsets-settle, offsets-swept, sweeps-rest}
 use Rattle.theory.proofs.Usables.{forward-usable, members-usable, usable-members}
 use Rattle.theory.proofs.Walks.{counted-forward}
 use Rattle.walk_heaviest.specs.Settling.{Opened, Settled, SettledBy, SettlingBy, Spread, Supported}
@@ -52,13 +53,13 @@ offsets-past n es a v b =
     List·getD-eq-default (offset-row n es a) 0 short
 
 -- The loop over the sweeps.
-module _ (es : List ℕ) (least : ℕ → ℕ) (waiting number : List ℕ) (width n : ℕ) (d₀ : List (List ℕ)) where
+module _ (es : List ℕ) (least : ℕ → ℕ) (waiting number : List ℕ) (width n : ℕ) (d₀ : List (List ℤ)) where
   -- Every step that has edges has a mark.
   pub settling-start : (m : ℕ) → Square (length d₀) d₀ → ((v : ℕ) → test-bit m v ≡ ltb v n) → SettlingBy es least waiting number width n 0 d₀ d₀ m
   settling-start m S all =
       record { square = S; each = λ anchor N c b. record { under = λ t U. U; covers = λ t U i e x q. absurd (both-ways (all (e .from) ∙ lt-ltb (e .from) n (i e x)) q); sweeps = λ t U i. none {s = column d₀ c} refl (λ v. omega arith) } }
 
-  pub settling-more : {k c : ℕ} {d d′ : List (List ℕ)} {m m′ : ℕ} → SettlingBy es least waiting number width n k d₀ d m → SweptBy es least waiting number width (λ v. v < n) c d d′ m m′ → SettlingBy es least waiting number width n (k + 1) d₀ d′ m′
+  pub settling-more : {k c : ℕ} {d d′ : List (List ℤ)} {m m′ : ℕ} → SettlingBy es least waiting number width n k d₀ d m → SweptBy es least waiting number width (λ v. v < n) c d d′ m m′ → SettlingBy es least waiting number width n (k + 1) d₀ d′ m′
   settling-more {k} {d} {d′} P Q =
       record {
         square = square-then (P .square) (Q .square);
@@ -69,11 +70,11 @@ module _ (es : List ℕ) (least : ℕ → ℕ) (waiting number : List ℕ) (widt
         };
       }
 
-  pub settling-opened : {d : List (List ℕ)} {m : ℕ} → Square (length d₀) d₀ → Opened es least waiting number width n d₀ d m → SettlingBy es least waiting number width n 1 d₀ d m
+  pub settling-opened : {d : List (List ℤ)} {m : ℕ} → Square (length d₀) d₀ → Opened es least waiting number width n d₀ d m → SettlingBy es least waiting number width n 1 d₀ d m
   settling-opened S O = settling-more (settling-start (O .marks) S (O .all)) (O .swept)
 
   -- Without marks every edge has handed on, and further sweeps would change nothing.
-  pub settling-rest : {k m : ℕ} {d : List (List ℕ)} → k ≤ n → m ≡ 0 → SettlingBy es least waiting number width n k d₀ d m → SettledBy es least waiting number width n d₀ d
+  pub settling-rest : {k m : ℕ} {d : List (List ℤ)} → k ≤ n → m ≡ 0 → SettlingBy es least waiting number width n k d₀ d m → SettledBy es least waiting number width n d₀ d
   settling-rest {k} {m} {d} few still P =
       record {
         square = P .square;
@@ -88,7 +89,7 @@ module _ (es : List ℕ) (least : ℕ → ℕ) (waiting number : List ℕ) (widt
       padded : n - k + k ≡ n
       padded = omega arith
 
-  pub settling-end : {k m : ℕ} {d : List (List ℕ)} → k ≤ n → n ≤ k → SettlingBy es least waiting number width n k d₀ d m → SettledBy es least waiting number width n d₀ d
+  pub settling-end : {k m : ℕ} {d : List (List ℤ)} → k ≤ n → n ≤ k → SettlingBy es least waiting number width n k d₀ d m → SettledBy es least waiting number width n d₀ d
   settling-end {k} {m} {d} b h P =
       let e : k ≡ n = omega arith in
       record { square = P .square; each = λ anchor N c l. let p = P .each anchor N c l in record { under = p .under; sweeps = λ t U i. subst (λ (j : ℕ). Sweeps (Both es least waiting (anchor c)) (column d₀ c) j (column d c)) e (p .sweeps t U i) } }
@@ -133,7 +134,7 @@ module _
   g = graph es ++ wait-edges n least maps
 
   module _
-      {number : List ℕ} {width rows : ℕ} {d d′ : List (List ℕ)} (begun : Prepared least (members (graph es)) sets n width number rows d)
+      {number : List ℕ} {width rows : ℕ} {d d′ : List (List ℤ)} (begun : Prepared least (members (graph es)) sets n width number rows d)
       (settled : SettledBy es least waiting number width n d d′) (a : ℕ) (inside : a < n) (support : Supported n (graph es ++ wait-edges n least maps) sets a)
       (v₀ : ℕ) (b₀ : v₀ < n) (member : row-bit sets v₀ a ≡ true) where
     abbrev t : ℕ → ℕ
@@ -188,13 +189,6 @@ module _
     low : (e : Edge) → Both es least waiting a e → e .from < n
     low e m = well .shape .from-below e (members-usable g a e (both-list es least maps waiting n within turned a e m) .0)
 
-    small : (v : ℕ) → t v ≤ roof
-    small v = by (decLt v n)
-      where
-        by : Dec (v < n) → t v ≤ roof
-        by (yes b) = omega (arith, offsets-small well posed a inside gains few v b)
-        by (no b) = omega (arith, offsets-past n g a v (omega arith))
-
     begun-live : (v : ℕ) → 1 ≤ t v → suc (least a) ≤ r v
     begun-live v h =
         let m = is-member v h in
@@ -210,7 +204,7 @@ module _
 
     sought : Sought (Both es least waiting a) t r
     sought =
-        record { settles = λ e m. offsets-settle well posed a inside e (both-list es least maps waiting n within turned a e m); under = record { small = small; below = below; live = λ v h. omega (arith, begun-live v h) } }
+        record { settles = λ e m. offsets-settle well posed a inside e (both-list es least maps waiting n within turned a e m); under = record { below = below; live = λ v h. omega (arith, begun-live v h) } }
 
     -- The seeds: a wait for a gains the least of a, and so it begins a walk of that weight.
     after-by : (e : Edge) → Leads a e → 1 ≤ t (e .to) → List·Memᴰ e (graph es) ⊎ List·Memᴰ e (wait-edges n least maps) → suc (e .gain - e .loss) ≤ r (e .to)
@@ -241,7 +235,7 @@ module _
     found v = offsets-swept well posed a inside sown swept (done .under t sought .under .below) v
 
     -- And so do the cells that are spread.
-    pub walks-found : {d″ : List (List ℕ)} → Spread number (λ w. w < n) (row-bit sets) d′ d″ → entry d″ v₀ a ≡ cell (offset-row n (graph es ++ wait-edges n least maps) a) v₀
-    walks-found S =
+    pub walks-found : {d″ : List (List ℤ)} → Spread number (λ w. w < n) (row-bit sets) d′ d″ → entry (said d″) v₀ a ≡ cell (offset-row n (graph es ++ wait-edges n least maps) a) v₀
+    walks-found {d″} S =
         let e : getD number a 0 % 64 ≡ k = omega (arith, there, begun .few) in
-        S .here v₀ a b₀ (omega arith) member ∙ ap (λ (x : ℕ). column d′ x v₀) e ∙ found v₀
+        said-at d″ v₀ a ∙ ap value (S .here v₀ a b₀ (omega arith) member) ∙ ap (λ (x : ℕ). column d′ x v₀) e ∙ found v₀

@@ -6,7 +6,8 @@ use walk_sweep::sweep;
 ghost use mathlib.Core.Path.{_≡_};
 ghost use mathlib.Core.Bool.{true};
 ghost use mathlib.Core.List.{List};
-ghost use Prim.Native.Nat.{ℕ, _<_, _≤_};
+ghost use Prim.Native.Nat.{ℕ, _-_, _<_, _≤_};
+ghost use lib.IntN.{ℤ};
 ghost use lib.ListN.{getD};
 ghost use Rattle.data_lists.specs.Lists.{WithLists};
 ghost use Rattle.definitions.specs.Basics.{test-bit};
@@ -45,7 +46,7 @@ fn places(order: &[u8; 64], n: usize) -> [u8; 64]
 
 // The first sweep. At first every step has a mark.
 fn sweep_first(
-    d: &mut [[u32; 64]],
+    d: &mut [[i32; 64]],
     es: &[u64],
     lists: &[u16],
     leasts: &[u16; 64],
@@ -56,7 +57,7 @@ fn sweep_first(
     width: usize,
     n: usize,
 ) -> u64
-    requires { ⌜ Sweepable n width (now es) (now lists) (now waiting) (now d) ⌝ }
+    requires { ⌜ Sweepable 1 n width (now es) (now lists) (now waiting) (now d) ⌝ }
     ensures { λ r. ⌜ Opened (now (es .entry)) (leasts-in (now (leasts .entry))) (now (waiting .entry)) (now (number .entry)) width n (now (d .entry)) (now (d .exit)) r ⌝ }
 {
     let marks = data_sets::below(n);
@@ -77,7 +78,7 @@ fn sweep_first(
 
 // The sweeps after the first, until there have been n, or fewer where nothing is left to hand on.
 fn sweep_on(
-    d: &mut [[u32; 64]],
+    d: &mut [[i32; 64]],
     marks: u64,
     es: &[u64],
     lists: &[u16],
@@ -89,8 +90,8 @@ fn sweep_on(
     width: usize,
     n: usize,
 )
-    requires { ⌜ Sweepable n width (now es) (now lists) (now waiting) (now d) ⌝ }
-    ensures { λ r. ⌜ ((d₀ : List (List ℕ)) → SettlingBy (now (es .entry)) (leasts-in (now (leasts .entry))) (now (waiting .entry)) (now (number .entry)) width n 1 d₀ (now (d .entry)) marks → SettledBy (now (es .entry)) (leasts-in (now (leasts .entry))) (now (waiting .entry)) (now (number .entry)) width n d₀ (now (d .exit))) ⌝ }
+    requires { ⌜ Sweepable (most-steps - 1) n width (now es) (now lists) (now waiting) (now d) ⌝ }
+    ensures { λ r. ⌜ ((d₀ : List (List ℤ)) → SettlingBy (now (es .entry)) (leasts-in (now (leasts .entry))) (now (waiting .entry)) (now (number .entry)) width n 1 d₀ (now (d .entry)) marks → SettledBy (now (es .entry)) (leasts-in (now (leasts .entry))) (now (waiting .entry)) (now (number .entry)) width n d₀ (now (d .exit))) ⌝ }
 {
     let mut left = marks;
     let mut k = 1;
@@ -128,7 +129,7 @@ fn possible(marks: u64, es: &[u64], lists: &[u16], order: &[u8; 64], n: usize) -
 
 // All sweeps, where no closed walk over the edges weighs more than 0; else false, refusal 10. The first sweep mostly tells.
 fn settle(
-    d: &mut [[u32; 64]],
+    d: &mut [[i32; 64]],
     es: &[u64],
     lists: &[u16],
     leasts: &[u16; 64],
@@ -138,7 +139,7 @@ fn settle(
     width: usize,
     n: usize,
 ) -> bool
-    requires { ⌜ Sweepable n width (now es) (now lists) (now waiting) (now d) ⌝ }
+    requires { ⌜ Sweepable most-steps n width (now es) (now lists) (now waiting) (now d) ⌝ }
     ensures { λ r. ⌜ SettledIf (now (es .entry)) (leasts-in (now (leasts .entry))) (now (waiting .entry)) (now (number .entry)) width n (now (d .entry)) (now (d .exit)) r ⌝ }
 {
     let place = places(order, n);
@@ -173,8 +174,8 @@ fn settle(
     true
 }
 
-// Row v says at each member of a map what its column says. No number is above its step, so the highest member goes first and nothing is lost. Other cells are left over from columns.
-fn spread_row(d: &mut [[u32; 64]], number: &[u8; 64], map: u64, v: usize)
+// Row v has at each member of a map what it has in the member's column. No number is above its step, so the highest member goes first and nothing is lost. Other cells are left over from columns.
+fn spread_row(d: &mut [[i32; 64]], number: &[u8; 64], map: u64, v: usize)
     requires { ⌜ Spreadable map v (now number) (now d) ⌝ }
     ensures { λ r. ⌜ Spread (now (number .entry)) (λ w. w ≡ v) (λ w a. test-bit map a) (now (d .entry)) (now (d .exit)) ⌝ }
 {
@@ -182,13 +183,14 @@ fn spread_row(d: &mut [[u32; 64]], number: &[u8; 64], map: u64, v: usize)
     while left != 0 {
         let a = data_bits::highest(left);
         let k = data_indices::place(number[a]);
-        d[v][a] = walk_cells::written(d[v][k]);
+        let c = d[v][k];
+        d[v][a] = c;
         left = data_bits::remove(left, a);
     }
 }
 
 // The same for every row below n.
-fn spread_rows(d: &mut [[u32; 64]], number: &[u8; 64], sets: &[u64; 64], n: usize)
+fn spread_rows(d: &mut [[i32; 64]], number: &[u8; 64], sets: &[u64; 64], n: usize)
     requires { ⌜ Rows n (now d) × ((v a : ℕ) → v < n → a < 64 → row-bit (now sets) v a ≡ true → getD (now number) a 0 ≤ a) ⌝ }
     ensures { λ r. ⌜ Spread (now (number .entry)) (λ w. w < n) (row-bit (now (sets .entry))) (now (d .entry)) (now (d .exit)) ⌝ }
 {
@@ -201,7 +203,7 @@ fn spread_rows(d: &mut [[u32; 64]], number: &[u8; 64], sets: &[u64; 64], n: usiz
 
 // The heaviest walks, as Found says (specs/Settling.antt), where no closed walk over the edges weighs more than 0; else false, refusal 10. The order decides speed alone.
 pub fn walks_if_possible(
-    d: &mut [[u32; 64]],
+    d: &mut [[i32; 64]],
     es: &[u64],
     lists: &[u16],
     leasts: &[u16; 64],

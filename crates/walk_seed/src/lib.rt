@@ -6,17 +6,16 @@ use data_edges::edge_to;
 use data_edges::is_counted;
 ghost use mathlib.Core.Path.{_≡_};
 ghost use mathlib.Core.Bool.{true, false};
-ghost use Prim.Native.Nat.{ℕ, suc, _+_, _<_, _≤_};
+ghost use Prim.Native.Nat.{ℕ, _+_, _<_, _≤_};
 ghost use lib.ListN.{length};
 ghost use Rattle.definitions.specs.Basics.{any-below, test-bit};
 ghost use Rattle.definitions.specs.Links.{members};
 ghost use Rattle.data_edges.specs.Serial.{leasts-in};
-ghost use Rattle.data_edges.specs.Words.{EndsBelow, graph, unpack};
+ghost use Rattle.data_edges.specs.Words.{graph, unpack};
 ghost use Rattle.data_relations.specs.Rows.{row-bit};
-ghost use Rattle.walk_cells.specs.Cells.{value};
 ghost use Rattle.walk_cells.specs.Tables.{Rows, Square, Target};
 ghost use Rattle.walk_edge.specs.Columns.{Only};
-ghost use Rattle.walk_seed.specs.Seeds.{Blank, BegunAll, Idle, Leading, Numbered, Prepared, Raised, Seedable, Seeded};
+ghost use Rattle.walk_seed.specs.Seeds.{AllPlaced, Blank, BegunAll, Idle, Leading, Numbered, Placed, Prepared, Raised, Seedable, Seeded};
 
 // The steps that stand in some row below n.
 fn all_members(sets: &[u64; 64], n: usize) -> u64
@@ -48,15 +47,8 @@ fn number_members(all: u64, number: &mut [u8; 64]) -> usize
     width as usize
 }
 
-// The cell of the walk that weighs a least.
-fn least_cell(least: u16) -> u32
-    ensures { λ r. ⌜ value r ≡ suc least ⌝ }
-{
-    walk_cells::WEIGHTLESS + (least as u32)
-}
-
 // The walks that weigh the leasts of their anchors at step v, in the columns of the members of a map.
-fn seed_row(d: &mut [[u32; 64]], number: &[u8; 64], leasts: &[u16; 64], map: u64, v: usize)
+fn seed_row(d: &mut [[i32; 64]], number: &[u8; 64], leasts: &[u16; 64], map: u64, v: usize)
     requires { ⌜ (v < length (now d)) × Square (length (now d)) (now d) ⌝ }
     ensures { λ r. ⌜ Seeded (leasts-in (now (leasts .entry))) (now (number .entry)) (λ w a. (w ≡ v) × (a < 64) × (test-bit map a ≡ true)) (now (d .entry)) (now (d .exit)) ⌝ }
 {
@@ -64,14 +56,14 @@ fn seed_row(d: &mut [[u32; 64]], number: &[u8; 64], leasts: &[u16; 64], map: u64
     while left != 0 {
         let a = data_bits::lowest(left);
         let k = data_indices::place(number[a]);
-        let first = least_cell(leasts[a]);
+        let first = walk_cells::of_least(leasts[a]);
         d[v][k] = first;
         left = data_bits::without_lowest(left);
     }
 }
 
 // The same at every step below n, by its row of sets.
-fn seed_rows(d: &mut [[u32; 64]], number: &[u8; 64], leasts: &[u16; 64], sets: &[u64; 64], n: usize)
+fn seed_rows(d: &mut [[i32; 64]], number: &[u8; 64], leasts: &[u16; 64], sets: &[u64; 64], n: usize)
     requires { ⌜ Rows n (now d) ⌝ }
     ensures { λ r. ⌜ Seeded (leasts-in (now (leasts .entry))) (now (number .entry)) (λ w a. (w < n) × (a < 64) × (row-bit (now (sets .entry)) w a ≡ true)) (now (d .entry)) (now (d .exit)) ⌝ }
 {
@@ -83,7 +75,7 @@ fn seed_rows(d: &mut [[u32; 64]], number: &[u8; 64], leasts: &[u16; 64], sets: &
 }
 
 // The cell of step v in column k becomes c, where that is more.
-fn raise(d: &mut [[u32; 64]], v: usize, k: usize, c: u32)
+fn raise(d: &mut [[i32; 64]], v: usize, k: usize, c: i32)
     requires { ⌜ Target v (k + 1) (now d) ⌝ }
     ensures { λ r. ⌜ Raised v k c (now (d .entry)) (now (d .exit)) ⌝ }
 {
@@ -93,7 +85,7 @@ fn raise(d: &mut [[u32; 64]], v: usize, k: usize, c: u32)
 }
 
 // The walk of one counted edge out of a step other than 0, in the column of that step where it has one.
-fn seed_edge(d: &mut [[u32; 64]], number: &[u8; 64], w: u64)
+fn seed_edge(d: &mut [[i32; 64]], number: &[u8; 64], w: u64)
     requires { ⌜ Leading (unpack w) (now d) ⌝ }
     ensures { λ r. ⌜ BegunAll (Only (unpack w)) (now (number .entry)) (now (d .entry)) (now (d .exit)) ⌝ }
 {
@@ -110,8 +102,8 @@ fn seed_edge(d: &mut [[u32; 64]], number: &[u8; 64], w: u64)
 }
 
 // The same for any edge. One that gains nothing begins no walk that is not there.
-fn seed_word(d: &mut [[u32; 64]], number: &[u8; 64], w: u64)
-    requires { ⌜ (unpack w .to < length (now d)) × Square (length (now d)) (now d) ⌝ }
+fn seed_word(d: &mut [[i32; 64]], number: &[u8; 64], w: u64)
+    requires { ⌜ Placed (unpack w) (now d) ⌝ }
     ensures { λ r. ⌜ BegunAll (Only (unpack w)) (now (number .entry)) (now (d .entry)) (now (d .exit)) ⌝ }
 {
     if !is_counted(w) {
@@ -124,8 +116,8 @@ fn seed_word(d: &mut [[u32; 64]], number: &[u8; 64], w: u64)
 }
 
 // The edges of a list.
-fn seed_words(d: &mut [[u32; 64]], number: &[u8; 64], es: &[u64])
-    requires { ⌜ EndsBelow (now es) (length (now d)) × Square (length (now d)) (now d) ⌝ }
+fn seed_words(d: &mut [[i32; 64]], number: &[u8; 64], es: &[u64])
+    requires { ⌜ AllPlaced (now es) (now d) ⌝ }
     ensures { λ r. ⌜ BegunAll (members (graph (now (es .entry)))) (now (number .entry)) (now (d .entry)) (now (d .exit)) ⌝ }
 {
     let mut k = 0;
@@ -158,8 +150,8 @@ fn begins_some(es: &[u64]) -> bool
 }
 
 // The edges of a list, where one of them may begin a walk that is not there.
-fn seed_edges(d: &mut [[u32; 64]], number: &[u8; 64], es: &[u64])
-    requires { ⌜ EndsBelow (now es) (length (now d)) × Square (length (now d)) (now d) ⌝ }
+fn seed_edges(d: &mut [[i32; 64]], number: &[u8; 64], es: &[u64])
+    requires { ⌜ AllPlaced (now es) (now d) ⌝ }
     ensures { λ r. ⌜ BegunAll (members (graph (now (es .entry)))) (now (number .entry)) (now (d .entry)) (now (d .exit)) ⌝ }
 {
     if begins_some(es) {
@@ -169,7 +161,7 @@ fn seed_edges(d: &mut [[u32; 64]], number: &[u8; 64], es: &[u64])
 
 // Numbers for the members of the rows of sets below n, and what their columns begin with, in an empty table. How many columns there are.
 pub fn seed(
-    d: &mut [[u32; 64]],
+    d: &mut [[i32; 64]],
     number: &mut [u8; 64],
     es: &[u64],
     leasts: &[u16; 64],

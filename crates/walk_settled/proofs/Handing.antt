@@ -3,14 +3,14 @@ use mathlib.Core.Path.{_≡_, refl, sym, ap, _∙_}
 use mathlib.Core.Bool.{Bool, true, false, not, _&&_, _||_, false≢true}
 use mathlib.Core.Logic.{_⊎_, inl, inr}
 use mathlib.Core.List.{List, _++_, List·Memᴰ, List·Memᴰ·append-cases, Memᴰ·append-left, Memᴰ·append-right}
-use Prim.Native.Nat.{ℕ, _≤_, _<_, min}
+use Prim.Native.Nat.{ℕ, _≤_, _<_}
 use native.Mathlib.Omega.{arith}
 use lib.Dec.{eqb, leb}
 use lib.ListN.{getD}
 use borrow.Author.Tests.{eqb-true}
 use Rattle.definitions.specs.Basics.{all, all-below, test-bit}
 use Rattle.definitions.specs.Links.{Edge}
-use Rattle.definitions.specs.Rounds.{extend}
+use Rattle.definitions.specs.Rounds.{entry, extend}
 use Rattle.definitions.specs.Waits.{wait-edge}
 use Rattle.data_edges.specs.Serial.{Within, wait-edges}
 use Rattle.data_edges.specs.Words.{graph}
@@ -19,12 +19,10 @@ use Rattle.laws.proofs.Bools.{bool-cases, both-ways, not-passing, or-left, or-r
 use Rattle.laws.proofs.Maps.{test-zero}
 use Rattle.laws.proofs.Searches.{all-below-same}
 use Rattle.laws.proofs.Tests.{all-below-by, all-below-each, all-by, all-each}
-use Rattle.walk_cells.specs.Cells.{largest}
-use Rattle.walk_cells.specs.Tables.{entry}
 use Rattle.walk_settled.specs.Settled.{handed-on, waits-handed-on}
 
 -- An edge by its fields.
-pub fields-handed : (d : List (List ℕ)) (e : Edge) {r : Bool} {from to gain loss : ℕ} → from ≡ e .from → to ≡ e .to → gain ≡ e .gain → loss ≡ e .loss → r ≡ leb (min (extend (entry d from 0) gain loss) largest) (entry d to 0) → r ≡ handed-on d e
+pub fields-handed : (d : List (List ℕ)) (e : Edge) {r : Bool} {from to gain loss : ℕ} → from ≡ e .from → to ≡ e .to → gain ≡ e .gain → loss ≡ e .loss → r ≡ leb (extend (entry d from 0) gain loss) (entry d to 0) → r ≡ handed-on d e
 fields-handed d e f t g l h = h ∙ rw (f, t, g, l)
 
 -- A test of the members of a map.

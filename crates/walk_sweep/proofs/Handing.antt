@@ -6,6 +6,7 @@ use mathlib.Core.List.{List}
 use Prim.Native.Nat.{ℕ, _≤_}
 use native.Mathlib.Omega.{arith}
 use lib.Dec.{eqb}
+use lib.IntN.{ℤ}
 use lib.ListN.{length}
 use borrow.Author.Tests.{eq-eqb, ne-eqb}
 use Rattle.definitions.specs.Basics.{test-bit}
@@ -21,7 +22,7 @@ use Rattle.walk_cells.proofs.Tables.{square-then}
 
 -- What bounds the edges of a graph bounds those of a part of it.
 bounds-part : {E G : Graph} {u x : ℕ} {t : ℕ → ℕ} → E ⊑ G → Bounds G u x t → Bounds E u x t
-bounds-part i B = record { small = B .small; ends = λ e m. B .ends e (i e m) }
+bounds-part i B = record { ends = λ e m. B .ends e (i e m) }
 
 -- One graph and then another make a third, where the edges out of u are in one of them.
 pub handed-both : {E F G : Graph} {u x : ℕ} {r s t : ℕ → ℕ} {f g h : ℕ → Bool} → E ⊑ G → F ⊑ G → ((e : Edge) → G e → e .from ≡ u → E e ⊎ F e) → Handed E u x r s f g → Handed F u x s t g h → Handed G u x r t f h
@@ -41,12 +42,13 @@ handed-both {E} {F} {G} {u} {x} {r} {s} {t} i j split H K =
     by y U B e o (inl m) = omega (arith, H .hands y U (bounds-part i B) e m o, K .up y (between y U B) (bounds-part j B) (e .to))
     by y U B e o (inr m) = K .hands y (between y U B) (bounds-part j B) e m o
 
-pub handed-all : {E F G : ℕ → Graph} {number : List ℕ} {u u′ : ℕ} {x : ℕ → ℕ} {d d′ d″ : List (List ℕ)} {m m′ m″ : ℕ} → u′ ≡ u → ((a : ℕ) → E a ⊑ G a) → ((a : ℕ) → F a ⊑ G a)
+pub handed-all : {E F G : ℕ → Graph} {number : List ℕ} {u u′ : ℕ} {x : ℕ → ℕ} {d d′ d″ : List (List ℤ)} {m m′ m″ : ℕ} → u′ ≡ u → ((a : ℕ) → E a ⊑ G a) → ((a : ℕ) → F a ⊑ G a)
     → ((a : ℕ) (e : Edge) → G a e → e .from ≡ u → E a e ⊎ F a e) → HandedAll E number u x d d′ m m′ → HandedAll F number u′ x d′ d″ m′ m″ → HandedAll G number u x d d″ m m″
 handed-all {F = F} {u = u} {x = x} {d′ = d′} {d″ = d″} {m′ = m′} {m″ = m″} same i j split H K =
     record {
       square = square-then (H .square) (K .square);
       each = λ width anchor N k q. let a = anchor k in let K′ : Handed (F a) u (x k) (column d′ k) (column d″ k) (test-bit m′) (test-bit m″) = rw same at (K .each width anchor N k q) in handed-both (i a) (j a) (split a) (H .each width anchor N k q) K′;
+      held = λ w few L. K .held w few (H .held w few L);
     }
 
 -- The same edges under another name.
@@ -59,17 +61,18 @@ handed-one i j h = record {
   marked = h .marked;
 }
 
-pub handed-as : {E G : ℕ → Graph} {number : List ℕ} {u : ℕ} {x : ℕ → ℕ} {d d′ : List (List ℕ)} {m m′ : ℕ} → ((a : ℕ) → E a ⊑ G a) → ((a : ℕ) → G a ⊑ E a) → HandedAll E number u x d d′ m m′ → HandedAll G number u x d d′ m m′
+pub handed-as : {E G : ℕ → Graph} {number : List ℕ} {u : ℕ} {x : ℕ → ℕ} {d d′ : List (List ℤ)} {m m′ : ℕ} → ((a : ℕ) → E a ⊑ G a) → ((a : ℕ) → G a ⊑ E a) → HandedAll E number u x d d′ m m′ → HandedAll G number u x d d′ m m′
 handed-as i j H =
     record {
       square = H .square;
       each = λ width anchor N k q. let a = anchor k in handed-one (i a) (j a) (H .each width anchor N k q);
+      held = H .held;
     }
 
 -- Nothing has been done while no edge of the graph leaves u.
-pub handed-none : {E : ℕ → Graph} {number : List ℕ} {u : ℕ} {x : ℕ → ℕ} (d : List (List ℕ)) (m : ℕ) → Square (length d) d → ((a : ℕ) (e : Edge) → E a e → e .from ≢ u) → HandedAll E number u x d d m m
+pub handed-none : {E : ℕ → Graph} {number : List ℕ} {u : ℕ} {x : ℕ → ℕ} (d : List (List ℤ)) (m : ℕ) → Square (length d) d → ((a : ℕ) (e : Edge) → E a e → e .from ≢ u) → HandedAll E number u x d d m m
 handed-none d m S away =
-    record { square = S; each = λ width anchor N k q. record { up = λ t U b v. omega arith; under = λ t U b. U; hands = λ t U b e i o. absurd (away (anchor k) e i o); marks = λ v h. h; marked = λ v h. refl } }
+    record { square = S; each = λ width anchor N k q. record { up = λ t U b v. omega arith; under = λ t U b. U; hands = λ t U b e i o. absurd (away (anchor k) e i o); marks = λ v h. h; marked = λ v h. refl }; held = λ w few L. L }
 
 -- What an anchor may use of one of two graphs.
 usable-split : (E F : Graph) {a : ℕ} {e : Edge} → ¬ LateInto e a → E e ⊎ F e → UsableFrom E a e ⊎ UsableFrom F a e
@@ -77,19 +80,19 @@ usable-split E F timely (inl m) = inl (m, timely)
 usable-split E F timely (inr m) = inr (m, timely)
 
 -- The loop over the list of a step u, whose row lends x: the edges behind the one that comes next have handed on.
-abbrev pub Listing : List ℕ → List ℕ → ℕ → (ℕ → ℕ) → List (List ℕ) → List (List ℕ) → ℕ → ℕ → ℕ → Type 0
+abbrev pub Listing : List ℕ → List ℕ → ℕ → (ℕ → ℕ) → List (List ℤ) → List (List ℤ) → ℕ → ℕ → ℕ → Type 0
 Listing es number u x d₀ d m₀ m = Following (λ E. HandedAll (λ a. UsableFrom E a) number u x d₀ d m₀ m) es u
 
 -- It begins where no edge leaves u; a turn adds one edge; at the end the edges have another name.
-module _ {number : List ℕ} {u : ℕ} {x : ℕ → ℕ} {d₀ : List (List ℕ)} {m₀ : ℕ} where
+module _ {number : List ℕ} {u : ℕ} {x : ℕ → ℕ} {d₀ : List (List ℤ)} {m₀ : ℕ} where
   pub listed-none : Square (length d₀) d₀ → (E : Graph) → ((e : Edge) → E e → e .from ≢ u) → HandedAll (λ a. UsableFrom E a) number u x d₀ d₀ m₀ m₀
   listed-none S E away = handed-none d₀ m₀ S (λ a e b. away e (b .0))
 
-  pub listed-more : {E : Graph} {y : Edge} {d d′ : List (List ℕ)} {m m′ : ℕ} → HandedAll (λ a. UsableFrom (Only y) a) number (y .from) x d d′ m m′ → (G : Graph) → Adds u E y G → HandedAll (λ a. UsableFrom E a) number u x d₀ d m₀ m → HandedAll (λ a. UsableFrom G a) number u x d₀ d′ m₀ m′
+  pub listed-more : {E : Graph} {y : Edge} {d d′ : List (List ℤ)} {m m′ : ℕ} → HandedAll (λ a. UsableFrom (Only y) a) number (y .from) x d d′ m m′ → (G : Graph) → Adds u E y G → HandedAll (λ a. UsableFrom E a) number u x d₀ d m₀ m → HandedAll (λ a. UsableFrom G a) number u x d₀ d′ m₀ m′
   listed-more {E} {y} K G A H =
       handed-all (A .leaves) (λ a e b. (A .old e (b .0), b .1)) (λ a e o. (A .new e (o .0), o .1)) (λ a e b o. usable-split E (Only y) (b .1) (A .split e (b .0) o)) H K
 
-  pub listed-as : {d : List (List ℕ)} {m : ℕ} (E G : Graph) → E ⊑ G → G ⊑ E → HandedAll (λ a. UsableFrom E a) number u x d₀ d m₀ m → HandedAll (λ a. UsableFrom G a) number u x d₀ d m₀ m
+  pub listed-as : {d : List (List ℤ)} {m : ℕ} (E G : Graph) → E ⊑ G → G ⊑ E → HandedAll (λ a. UsableFrom E a) number u x d₀ d m₀ m → HandedAll (λ a. UsableFrom G a) number u x d₀ d m₀ m
   listed-as E G i j H = handed-as (λ a e b. (i e (b .0), b .1)) (λ a e b. (j e (b .0), b .1)) H
 
 -- The loop over what waits for u: those that are left have not been handed to.
@@ -124,12 +127,12 @@ pub waits-told : {least waiting u : ℕ} (left : ℕ) → left ≡ 0 → WaitsFo
 waits-told left z e w =
     record { target = w .target; waits = w .waits; told = ap (λ (x : ℕ). test-bit x (w .target)) z ∙ test-zero (w .target); same = w .same }
 
-module _ (least waiting u : ℕ) (number : List ℕ) (x : ℕ → ℕ) (d₀ : List (List ℕ)) (m₀ : ℕ) where
+module _ (least waiting u : ℕ) (number : List ℕ) (x : ℕ → ℕ) (d₀ : List (List ℤ)) (m₀ : ℕ) where
   pub told-start : Square (length d₀) d₀ → HandedAll (λ a. Told least u waiting waiting) number u x d₀ d₀ m₀ m₀
   told-start S = handed-none d₀ m₀ S (λ a e t o. both-ways (t .waits) (t .told))
 
   -- A wait is never late, so it is for every anchor.
-  pub told-turn : (d d′ : List (List ℕ)) (m m′ left left′ i : ℕ) → ((j : ℕ) → test-bit left j ≡ true → test-bit waiting j ≡ true) → test-bit left i ≡ true
+  pub told-turn : (d d′ : List (List ℤ)) (m m′ left left′ i : ℕ) → ((j : ℕ) → test-bit left j ≡ true → test-bit waiting j ≡ true) → test-bit left i ≡ true
       → ((j : ℕ) → test-bit left′ j ≡ (test-bit left j && not (eqb j i))) → HandedAll (λ a. Told least u waiting left) number u x d₀ d m₀ m
       → HandedAll (λ a. UsableFrom (Only (wait-edge (λ a. least) (record { anchor = u; target = i }))) a) number u x d d′ m m′ → HandedAll (λ a. Told least u waiting left′) number u x d₀ d′ m₀ m′
   told-turn d d′ m m′ left left′ i within member leaves H K =
@@ -139,7 +142,7 @@ module _ (least waiting u : ℕ) (number : List ℕ) (x : ℕ → ℕ) (d₀ : L
       usable a e (inl t) = inl t
       usable a e (inr o) = inr (o, λ l. both-ways (l .0) (ap (λ (y : Edge). y .late) o))
 
-  pub told-end : (d : List (List ℕ)) (m left : ℕ) → left ≡ 0 → HandedAll (λ a. Told least u waiting left) number u x d₀ d m₀ m → HandedAll (λ a. WaitsFor least u waiting) number u x d₀ d m₀ m
+  pub told-end : (d : List (List ℤ)) (m left : ℕ) → left ≡ 0 → HandedAll (λ a. Told least u waiting left) number u x d₀ d m₀ m → HandedAll (λ a. WaitsFor least u waiting) number u x d₀ d m₀ m
   told-end d m left z H = handed-as (λ a. told-waits) (λ a. waits-told left z) H
 
 -- What is left of a map with a member taken out was in it.

@@ -3,13 +3,14 @@ use mathlib.Core.Path.{_≡_, refl, sym, ap, subst, _∙_}
 use mathlib.Core.Bool.{Bool, false, cond, not, _&&_}
 use mathlib.Core.Logic.{_⊎_, inl, inr, _≢_}
 use mathlib.Core.List.{List, []}
-use Prim.Native.Nat.{ℕ, _+_, _-_, _*_, _≤_, _<_}
+use Prim.Native.Nat.{ℕ, suc, _+_, _-_, _*_, _≤_, _<_}
 use native.Mathlib.Omega.{arith}
 use lib.Dec.{eqb, ltb}
+use lib.IntN.{ℤ}
 use lib.ListN.{length, getD}
 use borrow.Author.Tests.{le-ltb, lt-ltb, ne-eqb}
 use Rattle.definitions.specs.Basics.{test-bit}
-use Rattle.definitions.specs.Limits.{most-gain}
+use Rattle.definitions.specs.Limits.{most-gain, most-steps, most-walk}
 use Rattle.definitions.specs.Links.{Edge, Graph, UsableFrom, members}
 use Rattle.definitions.specs.Rounds.{extend}
 use Rattle.data_lists.proofs.Following.{down-split}
@@ -19,15 +20,15 @@ use Rattle.laws.proofs.Maps.{test-zero}
 use Rattle.theory.specs.Sweeps.{hand}
 use Rattle.theory.proofs.Relaxation.{extend-mono}
 use Rattle.theory.proofs.RowLaws.{extend-none, extend-some}
-use Rattle.walk_cells.specs.Cells.{roof}
-use Rattle.walk_cells.specs.Tables.{Square}
+use Rattle.walk_cells.specs.Cells.{most-weight}
+use Rattle.walk_cells.specs.Tables.{Held, Square}
 use Rattle.walk_edge.specs.Columns.{Bounds, Covered, Handed, HandedAll, Sought, Swept, Under, WaitsFor, column}
 use Rattle.walk_lift.specs.Lifts.{lent}
 use Rattle.walk_take.specs.Rows.{Taken, Trimmed}
 use Rattle.walk_edge.proofs.Handing.{below-or-not, lent-beyond, lent-in}
-use Rattle.walk_cells.proofs.Tables.{square-own, square-then}
-use Rattle.walk_sweep.specs.Free.{Free, Low, Roomy}
-use Rattle.walk_sweep.specs.Graphs.{Both, Linked, Network, Sweepable, SweptBy}
+use Rattle.walk_cells.proofs.Tables.{held-more, square-own, square-then}
+use Rattle.walk_sweep.specs.Free.{Free, Low, Sheetlike}
+use Rattle.walk_sweep.specs.Graphs.{Both, Linked, Network, Sweepable, SweptBy, most-visits}
 use Rattle.walk_sweep.proofs.Handing.{handed-all}
 
 -- What an edge hands on depends on the cell at its start alone.
@@ -48,30 +49,27 @@ module _ {E : Graph} {u x : ℕ} {r s : ℕ → ℕ} {f f′ g : ℕ → Bool} (
         by (inr o) =
             omega (arith, c e m (sym (rest (e .from) o) ∙ mark-back (H .marks (e .from)) q), H .up t U B (e .to), hand-same e r s (H .marked (e .from) q))
 
-  module _ (own : r u ≤ roof → x ≡ r u) where
+  module _ (own : x ≡ r u) where
     -- Below a column that is sought: what edges hand on there is no more than it has at their ends.
     module _ (t : ℕ → ℕ) (S : Sought E t r) where
-      own-sought : x ≡ r u
-      own-sought = own (omega (arith, S .under .below u, S .under .small u))
-
       fits : x ≤ t u
-      fits = omega (arith, own-sought, S .under .below u)
+      fits = omega (arith, own, S .under .below u)
 
       bounds-sought : Bounds E u x t
       bounds-sought =
-          record { small = omega (arith, fits, S .under .small u); ends = λ e m o. omega (arith, extend-mono x (t (e .from)) (e .gain) (e .loss) (rw o fits), S .settles e m) }
+          record { ends = λ e m o. omega (arith, extend-mono x (t (e .from)) (e .gain) (e .loss) (rw o fits), S .settles e m) }
 
     swept-visit : Swept E (λ v. v ≡ u) r s f g
     swept-visit =
         record {
           up = λ t S. H .up t (S .under) (bounds-sought t S);
           under = λ t S. record { settles = S .settles; under = H .under t (S .under) (bounds-sought t S) };
-          covers = λ t S. visit-covers t (S .under) (bounds-sought t S) (own-sought t S);
-          hands = λ t S c. visit-hands t (S .under) (bounds-sought t S) (own-sought t S);
+          covers = λ t S. visit-covers t (S .under) (bounds-sought t S) own;
+          hands = λ t S c. visit-hands t (S .under) (bounds-sought t S) own;
         }
 
     -- Where none is sought: below the column that says one gain more at every step below n.
-    module _ (n b : ℕ) (R : Roomy E n b 1) (L : Low n b r) where
+    module _ (n b : ℕ) (R : Sheetlike E n) (L : Low n b r) where
       abbrev lid : ℕ → ℕ
       lid v = cond (ltb v n) (b + most-gain) 0
 
@@ -83,12 +81,8 @@ module _ {E : Graph} {u x : ℕ} {r s : ℕ → ℕ} {f f′ g : ℕ → Bool} (
 
       under-lid : Under lid r
       under-lid =
-          record { small = λ v. small v (below-or-not v n); below = λ v. below v (below-or-not v n); live = λ v h. live v h (below-or-not v n) }
+          record { below = λ v. below v (below-or-not v n); live = λ v h. live v h (below-or-not v n) }
         where
-          small : (v : ℕ) → (v < n) ⊎ (n ≤ v) → lid v ≤ roof
-          small v (inl h) = omega (arith, lid-in v h, R .room)
-          small v (inr h) = omega (arith, lid-past v h)
-
           below : (v : ℕ) → (v < n) ⊎ (n ≤ v) → r v ≤ lid v
           below v (inl h) = omega (arith, lid-in v h, L .most v)
           below v (inr h) = omega (arith, lid-past v h, L .none v h)
@@ -97,15 +91,12 @@ module _ {E : Graph} {u x : ℕ} {r s : ℕ → ℕ} {f f′ g : ℕ → Bool} (
           live v q (inl h) = L .live v h
           live v q (inr h) = absurd (omega (arith, lid-past v h))
 
-      own-low : x ≡ r u
-      own-low = own (omega (arith, L .most u, R .room))
-
       bounds-lid : Bounds E u x lid
-      bounds-lid = record { small = omega (arith, own-low, L .most u, R .room); ends = λ e m o. by e m (below-or-not 0 x) }
+      bounds-lid = record { ends = λ e m o. by e m (below-or-not 0 x) }
         where
           by : (e : Edge) → E e → (0 < x) ⊎ (x ≤ 0) → extend x (e .gain) (e .loss) ≤ lid (e .to)
           by e m (inl h) =
-              omega (arith, extend-some x (e .gain) (e .loss) h, own-low, L .most u, R .gains e m, lid-in (e .to) (R .ends e m))
+              omega (arith, extend-some x (e .gain) (e .loss) h, own, L .most u, R .gains e m, lid-in (e .to) (R .ends e m))
           by e m (inr h) = omega (arith, extend-none x (e .gain) (e .loss) (omega arith))
 
       low-visit : Low n (b + most-gain * 1) s
@@ -119,7 +110,7 @@ module _ {E : Graph} {u x : ℕ} {r s : ℕ → ℕ} {f f′ g : ℕ → Bool} (
 
     free-visit : Free E 1 r s f g
     free-visit =
-        record { low = low-visit; covers = λ n b R L. visit-covers (lid n b R L) (under-lid n b R L) (bounds-lid n b R L) (own-low n b R L) }
+        record { low = low-visit; covers = λ n b R L. visit-covers (lid n b R L) (under-lid n b R L) (bounds-lid n b R L) own }
 
 -- Nothing is done where the steps of On have no marks.
 swept-idle : {E : Graph} {On : ℕ → Type 0} {r : ℕ → ℕ} {f : ℕ → Bool} → ((v : ℕ) → On v → f v ≡ false) → Swept E On r r f f
@@ -144,26 +135,20 @@ swept-both {E} {On} {Then} {All} {r} {s} {t} {f} split P Q =
 -- The visits add up.
 free-both : {E : Graph} {i j c : ℕ} {r s t : ℕ → ℕ} {f g h : ℕ → Bool} → i + j ≤ c → Free E i r s f g → Free E j s t g h → Free E c r t f h
 free-both {E} {i} {j} {c} {r} few P Q =
-    record { low = λ n b R L. low-more (omega arith) (Q .low n (b + most-gain * i) (later n b R) (P .low n b (first n b R) L)); covers = λ n b R L q. Q .covers n (b + most-gain * i) (later n b R) (P .low n b (first n b R) L) (P .covers n b (first n b R) L q) }
-  where
-    first : (n b : ℕ) → Roomy E n b c → Roomy E n b i
-    first n b R = record { ends = R .ends; gains = R .gains; room = omega (arith, R .room) }
-
-    later : (n b : ℕ) → Roomy E n b c → Roomy E n (b + most-gain * i) j
-    later n b R = record { ends = R .ends; gains = R .gains; room = omega (arith, R .room) }
+    record { low = λ n b R L. low-more (omega arith) (Q .low n (b + most-gain * i) R (P .low n b R L)); covers = λ n b R L q. Q .covers n (b + most-gain * i) R (P .low n b R L) (P .covers n b R L q) }
 
 -- The same for all columns.
-pub swept-then : {es : List ℕ} {least : ℕ → ℕ} {waiting number : List ℕ} {width : ℕ} {On Then All : ℕ → Type 0} {i j c : ℕ} {d d′ d″ : List (List ℕ)} {m m′ m″ : ℕ} → ((v : ℕ) → All v → On v ⊎ Then v) → i + j ≤ c
+pub swept-then : {es : List ℕ} {least : ℕ → ℕ} {waiting number : List ℕ} {width : ℕ} {On Then All : ℕ → Type 0} {i j c : ℕ} {d d′ d″ : List (List ℤ)} {m m′ m″ : ℕ} → ((v : ℕ) → All v → On v ⊎ Then v) → i + j ≤ c
     → SweptBy es least waiting number width On i d d′ m m′ → SweptBy es least waiting number width Then j d′ d″ m′ m″ → SweptBy es least waiting number width All c d d″ m m″
 swept-then split few P Q =
-    record { square = square-then (P .square) (Q .square); each = λ anchor N k q. swept-both split (P .each anchor N k q) (Q .each anchor N k q); free = λ anchor N k q. free-both few (P .free anchor N k q) (Q .free anchor N k q) }
+    record { square = square-then (P .square) (Q .square); each = λ anchor N k q. swept-both split (P .each anchor N k q) (Q .each anchor N k q); free = λ anchor N k q. free-both few (P .free anchor N k q) (Q .free anchor N k q); held = λ w L. held-more (omega arith) (Q .held _ (P .held w L)) }
 
-pub swept-none : {es : List ℕ} {least : ℕ → ℕ} {waiting number : List ℕ} {width : ℕ} {On : ℕ → Type 0} {c : ℕ} {d : List (List ℕ)} {m : ℕ} → Square (length d) d → ((v : ℕ) → On v → test-bit m v ≡ false) → SweptBy es least waiting number width On c d d m m
-swept-none S none = record { square = S; each = λ anchor N k q. swept-idle none; free = λ anchor N k q. free-idle }
+pub swept-none : {es : List ℕ} {least : ℕ → ℕ} {waiting number : List ℕ} {width : ℕ} {On : ℕ → Type 0} {c : ℕ} {d : List (List ℤ)} {m : ℕ} → Square (length d) d → ((v : ℕ) → On v → test-bit m v ≡ false) → SweptBy es least waiting number width On c d d m m
+swept-none S none = record { square = S; each = λ anchor N k q. swept-idle none; free = λ anchor N k q. free-idle; held = λ w L. held-more (omega arith) L }
 
 -- A visit: the edges out of u, and then what waits for it, with the cells that row u had.
 module _
-    (es : List ℕ) (least : ℕ → ℕ) (waiting number row : List ℕ) (u own width top : ℕ) (d d′ d″ : List (List ℕ)) (m rest m′ m″ : ℕ) (trim : Trimmed (getD d u []) width own)
+    (es : List ℕ) (least : ℕ → ℕ) (waiting number : List ℕ) (row : List ℤ) (u own width : ℕ) (top : ℤ) (d d′ d″ : List (List ℤ)) (m rest m′ m″ : ℕ) (trim : Trimmed (getD d u []) width own)
     (take : Taken (getD d u []) row own top) (bits : (v : ℕ) → test-bit rest v ≡ (test-bit m v && not (eqb v u)))
     (H : HandedAll (λ a. UsableFrom (members (graph es)) a) number u (lent row own) d d′ rest m′)
     (K : HandedAll (λ a. WaitsFor (least u) u (getD waiting u 0)) number u (lent row own) d′ d″ m′ m″) where
@@ -179,24 +164,29 @@ module _
   whole : HandedAll (Both es least waiting) number u (lent row own) d d″ rest m″
   whole = handed-all refl (λ a e i. inl i) waits-own split H K
 
-  lends : (k : ℕ) → k < width → column d k u ≤ roof → (k < own) ⊎ (own ≤ k) → lent row own k ≡ column d k u
-  lends k q small (inl h) = lent-in row own k h ∙ take .same k h small
-  lends k q small (inr h) = omega (arith, lent-beyond row own k h, trim .none k h q)
+  lends : (k : ℕ) → k < width → (k < own) ⊎ (own ≤ k) → lent row own k ≡ column d k u
+  lends k q (inl h) = lent-in row own k h ∙ take .same k h
+  lends k q (inr h) = omega (arith, lent-beyond row own k h, trim .none k h q)
+
+  -- What is handed on is in the table.
+  few : (w : ℕ) → Held w d → (k : ℕ) → (k < own) ⊎ (own ≤ k) → lent row own k ≤ suc w
+  few w L k (inl h) = omega (arith, lent-in row own k h, take .same k h, L .most u k)
+  few w L k (inr h) = omega (arith, lent-beyond row own k h)
 
   others : (v : ℕ) → v ≢ u → test-bit rest v ≡ test-bit m v
   others v o = bits v ∙ stays (test-bit m v) (eqb v u) (ne-eqb v u o)
 
   pub visited : SweptBy es least waiting number width (λ v. v ≡ u) 1 d d″ m m″
   visited =
-      record { square = whole .square; each = λ anchor N k q. swept-visit others (whole .each width anchor N k q) (λ small. lends k q small (below-or-not k own)); free = λ anchor N k q. free-visit others (whole .each width anchor N k q) (λ small. lends k q small (below-or-not k own)) }
+      record { square = whole .square; each = λ anchor N k q. swept-visit others (whole .each width anchor N k q) (lends k q (below-or-not k own)); free = λ anchor N k q. free-visit others (whole .each width anchor N k q) (lends k q (below-or-not k own)); held = λ w L. held-more (omega arith) (whole .held w (λ k. few w L k (below-or-not k own)) (held-more (omega arith) L)) }
 
 -- Fewer steps, and more visits.
-pub swept-part : {es : List ℕ} {least : ℕ → ℕ} {waiting number : List ℕ} {width : ℕ} {On All : ℕ → Type 0} {b c : ℕ} {d d′ : List (List ℕ)} {m m′ : ℕ} → ((v : ℕ) → All v → On v) → b ≤ c → SweptBy es least waiting number width On b d d′ m m′ → SweptBy es least waiting number width All c d d′ m m′
+pub swept-part : {es : List ℕ} {least : ℕ → ℕ} {waiting number : List ℕ} {width : ℕ} {On All : ℕ → Type 0} {b c : ℕ} {d d′ : List (List ℤ)} {m m′ : ℕ} → ((v : ℕ) → All v → On v) → b ≤ c → SweptBy es least waiting number width On b d d′ m m′ → SweptBy es least waiting number width All c d d′ m m′
 swept-part i few P =
-    record { square = P .square; each = λ anchor N k q. let p = P .each anchor N k q in record { up = p .up; under = p .under; covers = p .covers; hands = λ t S c e m o. p .hands t S c e m (i (e .from) o) }; free = λ anchor N k q. free-both {j = 0} (omega arith) (P .free anchor N k q) free-idle }
+    record { square = P .square; each = λ anchor N k q. let p = P .each anchor N k q in record { up = p .up; under = p .under; covers = p .covers; hands = λ t S c e m o. p .hands t S c e m (i (e .from) o) }; free = λ anchor N k q. free-both {j = 0} (omega arith) (P .free anchor N k q) free-idle; held = λ w L. held-more (omega arith) (P .held w L) }
 
 -- The loop of a sweep of c visits: once no more are left than there are steps, they are those of the steps from the last to the first.
-pub swept-down : {es : List ℕ} {least : ℕ → ℕ} {waiting number : List ℕ} {width : ℕ} (n c k u : ℕ) {d d′ d″ : List (List ℕ)} {m m′ m″ : ℕ} → (k ≤ n → u ≡ k - 1) → 1 ≤ k → k ≤ c
+pub swept-down : {es : List ℕ} {least : ℕ → ℕ} {waiting number : List ℕ} {width : ℕ} (n c k u : ℕ) {d d′ d″ : List (List ℤ)} {m m′ m″ : ℕ} → (k ≤ n → u ≡ k - 1) → 1 ≤ k → k ≤ c
     → SweptBy es least waiting number width (λ v. (k ≤ v) × (v < n)) (c - k) d d′ m m′ → SweptBy es least waiting number width (λ v. v ≡ u) 1 d′ d″ m′ m″
     → SweptBy es least waiting number width (λ v. (k - 1 ≤ v) × (v < n)) (c - (k - 1)) d d″ m m″
 swept-down n c k u last some few P Q = swept-then (λ v o. by v o (down-split n k v o)) (omega arith) P Q
@@ -206,16 +196,22 @@ swept-down n c k u last some few P Q = swept-then (λ v o. by v o (down-split n 
     by v o (inr h) = inr (h ∙ sym (last (omega (arith, o .1))))
 
 -- Where no mark is left, every step has handed on.
-pub swept-all : {es : List ℕ} {least : ℕ → ℕ} {waiting number : List ℕ} {width : ℕ} {On All : ℕ → Type 0} {i c : ℕ} {d d′ : List (List ℕ)} {m m′ : ℕ} → m′ ≡ 0 → i ≤ c → SweptBy es least waiting number width On i d d′ m m′ → SweptBy es least waiting number width All c d d′ m m′
+pub swept-all : {es : List ℕ} {least : ℕ → ℕ} {waiting number : List ℕ} {width : ℕ} {On All : ℕ → Type 0} {i c : ℕ} {d d′ : List (List ℤ)} {m m′ : ℕ} → m′ ≡ 0 → i ≤ c → SweptBy es least waiting number width On i d d′ m m′ → SweptBy es least waiting number width All c d d′ m m′
 swept-all {All = All} z few P =
     swept-then {Then = All} {j = 0} (λ v x. inr x) (omega arith) P (swept-none (square-own (P .square)) (λ v x. ap (λ (y : ℕ). test-bit y v) z ∙ test-zero v))
 
 -- One table after another: what is said of rows holds for the later one too, which has as many.
-pub linked-then : {es lists : List ℕ} {d d′ : List (List ℕ)} → Linked es lists d → Square (length d) d′ → Linked es lists d′
+pub linked-then : {es lists : List ℕ} {d d′ : List (List ℤ)} → Linked es lists d → Square (length d) d′ → Linked es lists d′
 linked-then L S = record { listed = L .listed; ends = λ k b. omega (arith, L .ends k b, S .rows); square = square-own S }
 
-pub network-then : {es lists waiting : List ℕ} {d d′ : List (List ℕ)} → Network es lists waiting d → Square (length d) d′ → Network es lists waiting d′
+pub network-then : {es lists waiting : List ℕ} {d d′ : List (List ℤ)} → Network es lists waiting d → Square (length d) d′ → Network es lists waiting d′
 network-then N S = record { linked = linked-then (N .linked) S; waits = λ a b h. omega (arith, N .waits a b h, S .rows) }
 
-pub sweepable-then : {n width : ℕ} {es lists waiting : List ℕ} {d d′ : List (List ℕ)} → Sweepable n width es lists waiting d → Square (length d) d′ → Sweepable n width es lists waiting d′
-sweepable-then P S = record { some = P .some; few = P .few; inside = omega (arith, P .inside, S .rows); narrow = P .narrow; network = network-then (P .network) S }
+-- After some of the sweeps that there is room for, there is room for the others.
+pub sweepable-later : {sweeps n width : ℕ} {es lists waiting : List ℕ} {d d′ : List (List ℤ)} (done left : ℕ) (P : Sweepable sweeps n width es lists waiting d) → done + left ≤ sweeps → Square (length d) d′ → Held (P .level + most-gain * (most-visits * done)) d′ → Sweepable left n width es lists waiting d′
+sweepable-later done left P few S H =
+    record { some = P .some; few = P .few; inside = omega (arith, P .inside, S .rows); narrow = P .narrow; network = network-then (P .network) S; level = P .level + most-gain * (most-visits * done); held = H; room = omega (arith, P .room) }
+
+-- Room for weights below 0 (request L10): a column may begin as high as a heaviest walk weighs, so that one that loses as much is still a number from 0 on.
+pub lifted-room : most-walk + most-gain * (most-visits * most-steps) ≤ most-weight
+lifted-room = omega arith

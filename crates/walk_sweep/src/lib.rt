@@ -6,24 +6,24 @@ use walk_take::take;
 ghost use mathlib.Core.Path.{_≡_};
 ghost use mathlib.Core.List.{List};
 ghost use Prim.Native.Nat.{ℕ, _-_, _<_, _≤_};
+ghost use lib.IntN.{pos};
 ghost use lib.ListN.{length};
 ghost use Rattle.definitions.specs.Links.{UsableFrom, members};
 ghost use Rattle.data_edges.specs.Serial.{leasts-in};
 ghost use Rattle.data_edges.specs.Words.{graph};
-ghost use Rattle.walk_lift.specs.Lifts.{Raised, lent};
-ghost use Rattle.walk_cells.specs.Tables.{Target};
+ghost use Rattle.walk_lift.specs.Lifts.{Liftable, Raised, lent};
 ghost use Rattle.walk_edge.specs.Columns.{HandedAll, WaitsFor};
 ghost use Rattle.walk_sweep.specs.Graphs.{Next, Pushable, Sweepable, SweptBy, Tellable, Visitable, visits};
 
 // The edges out of u hand on a row.
 fn push_row(
-    d: &mut [[u32; 64]],
-    row: &[u32; 64],
+    d: &mut [[i32; 64]],
+    row: &[i32; 64],
     marks: u64,
     es: &[u64],
     lists: &[u16],
     u: usize,
-    top: u32,
+    top: i32,
     number: &[u8; 64],
     width: usize,
 ) -> u64
@@ -41,26 +41,26 @@ fn push_row(
 
 // A row that waits is handed another, later by a least. Most steps have none: what adds nothing is made into faster code.
 fn raise_by(
-    d: &mut [[u32; 64]],
-    row: &[u32; 64],
+    d: &mut [[i32; 64]],
+    row: &[i32; 64],
     to: usize,
     least: u16,
     width: usize,
     marks: u64,
 ) -> u64
-    requires { ⌜ (to < 64) × Target to width (now d) ⌝ }
-    ensures { λ r. ⌜ Raised (λ k. k < width) to least (now (row .entry)) (now (d .entry)) (now (d .exit)) marks r ⌝ }
+    requires { ⌜ (to < 64) × Liftable to width (pos least) (now row) (now d) ⌝ }
+    ensures { λ r. ⌜ Raised (λ k. k < width) to (pos least) (now (row .entry)) (now (d .entry)) (now (d .exit)) marks r ⌝ }
 {
     if least == 0 {
         return raise_row(d, row, to, 0, width, marks);
     }
-    raise_row(d, row, to, least as u32, width, marks)
+    raise_row(d, row, to, walk_cells::of_least(least), width, marks)
 }
 
 // What waits for u, by a map, is handed the row, later by the least of u.
 fn push_waits(
-    d: &mut [[u32; 64]],
-    row: &[u32; 64],
+    d: &mut [[i32; 64]],
+    row: &[i32; 64],
     marks: u64,
     waiting: u64,
     least: u16,
@@ -81,8 +81,8 @@ fn push_waits(
 
 // Step u hands on, where it has a mark. The row is lent to it as a place to work in.
 fn hand_on(
-    d: &mut [[u32; 64]],
-    row: &mut [u32; 64],
+    d: &mut [[i32; 64]],
+    row: &mut [i32; 64],
     marks: u64,
     es: &[u64],
     lists: &[u16],
@@ -151,7 +151,7 @@ fn rest_of(m: u64) -> u64 {
 // Steps hand on until no mark is left, or for long enough that each step below n has done so: by n + 16 visits, and then one of each step. A step that gets a mark comes into the hint by its
 // place. What hint, order and places are decides only how many visits there are. At first every step has a mark, so the marks are the hint.
 pub fn sweep(
-    d: &mut [[u32; 64]],
+    d: &mut [[i32; 64]],
     marks: u64,
     es: &[u64],
     lists: &[u16],
@@ -163,10 +163,10 @@ pub fn sweep(
     width: usize,
     n: usize,
 ) -> u64
-    requires { ⌜ Sweepable n width (now es) (now lists) (now waiting) (now d) ⌝ }
+    requires { ⌜ Sweepable 1 n width (now es) (now lists) (now waiting) (now d) ⌝ }
     ensures { λ r. ⌜ SweptBy (now (es .entry)) (leasts-in (now (leasts .entry))) (now (waiting .entry)) (now (number .entry)) width (λ v. v < n) (visits n) (now (d .entry)) (now (d .exit)) marks r ⌝ }
 {
-    let mut row = [0u32; 64];
+    let mut row = [walk_cells::NONE; 64];
     let mut left = marks;
     let mut hint = marks;
     let mut k = n + (n + 16);

@@ -2,11 +2,11 @@
 ghost use mathlib.Core.List.{[]};
 ghost use Prim.Native.Nat.{_≤_};
 ghost use lib.ListN.{getD};
-ghost use Rattle.walk_take.specs.Rows.{Copied, Takeable, Taken, Trimmed};
+ghost use Rattle.walk_take.specs.Rows.{Takeable, Taken, Trimmable, Trimmed};
 
-// How many columns of a row hold weights, at least 8: none beyond does.
-fn trimmed(cells: &[u32; 64], width: usize) -> usize
-    requires { ⌜ width ≤ 64 ⌝ }
+// How many columns of a row hold walks, at least 8: none beyond does.
+fn trimmed(cells: &[i32; 64], width: usize) -> usize
+    requires { ⌜ Trimmable (now cells) width ⌝ }
     ensures { λ r. ⌜ Trimmed (now (cells .entry)) width r ⌝ }
 {
     let mut w = width;
@@ -28,35 +28,26 @@ fn eights(w: usize) -> usize
 }
 
 // How many columns of a row to hand on.
-pub fn extent(cells: &[u32; 64], width: usize) -> usize
-    requires { ⌜ width ≤ 64 ⌝ }
+pub fn extent(cells: &[i32; 64], width: usize) -> usize
+    requires { ⌜ Trimmable (now cells) width ⌝ }
     ensures { λ r. ⌜ Trimmed (now (cells .entry)) width r ⌝ }
 {
     let w = trimmed(cells, width);
     eights(w)
 }
 
-// The first cells of row u, made ready to be handed on; a bound on them.
-fn copy_row(d: &[[u32; 64]], u: usize, row: &mut [u32; 64], width: usize) -> u32
+// The first cells of row u, made ready to be handed on; a cell that says as much as any of them, and no less than weight 0.
+pub fn take(d: &[[i32; 64]], u: usize, row: &mut [i32; 64], width: usize) -> i32
     requires { ⌜ Takeable u width (now d) (now row) ⌝ }
-    ensures { λ r. ⌜ Copied (getD (now (d .entry)) u []) (now (row .exit)) width r ⌝ }
+    ensures { λ r. ⌜ Taken (getD (now (d .entry)) u []) (now (row .exit)) width r ⌝ }
 {
-    let mut bound = walk_cells::EMPTY;
+    let mut top = 0;
     let mut k = 0;
     while k < width {
         let c = walk_cells::clean(d[u][k]);
         row[k] = c;
-        bound = walk_cells::bound_with(bound, c);
+        top = walk_cells::larger(top, c);
         k += 1;
     }
-    bound
-}
-
-// The same; a weight that none of the cells is above.
-pub fn take(d: &[[u32; 64]], u: usize, row: &mut [u32; 64], width: usize) -> u32
-    requires { ⌜ Takeable u width (now d) (now row) ⌝ }
-    ensures { λ r. ⌜ Taken (getD (now (d .entry)) u []) (now (row .exit)) width r ⌝ }
-{
-    let bound = copy_row(d, u, row, width);
-    walk_cells::top_weight(bound)
+    top
 }

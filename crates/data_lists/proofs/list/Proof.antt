@@ -18,7 +18,7 @@ abbrev μ-loop : tie.MeasureT-loop
 μ-loop es lists₀ k₀ lists k = length es - k
 
 loop-holds : tie.Need-loop-holds Inv-loop μ-loop
-loop-holds c = let p = c .before .before .pre in (omega arith, refl, linked-none (p .1) (p .2))
+loop-holds c = let p = c .before .before .pre in (omega arith, refl, linked-none (p .long) (p .empty))
 
 mul-link : tie.Need-mul-link Inv-loop μ-loop
 mul-link c = search needs
@@ -27,7 +27,7 @@ shared-slice-read-link : tie.Need-shared-slice-read-link Inv-loop μ-loop
 shared-slice-read-link c = search needs
 
 link-requires : tie.Need-link-requires Inv-loop μ-loop
-link-requires c κs = (omega arith, omega (arith, c .before .before .before .loop .inv .2 .long))
+link-requires c κs = (omega (arith, c .before .before .before .before .before .before .pre .few), omega (arith, c .before .before .before .loop .inv .2 .long))
 
 add-k : tie.Need-add-k Inv-loop μ-loop
 add-k c = search needs
@@ -44,7 +44,7 @@ same-length : tie.Need-same-length Inv-loop μ-loop
 same-length c = c .before .loop .inv .1
 
 returns : tie.Need-returns Inv-loop μ-loop
-returns c = linked-all _ _ (c .before .loop .k) (c .before .before .before .before .pre .0) (omega arith) (c .before .loop .inv .2)
+returns c = linked-all _ _ (c .before .loop .k) (c .before .before .before .before .pre .few) (c .before .before .before .before .pre .light) (omega arith) (c .before .loop .inv .2)
 
 pub list-spec : {M : Type 1} → statement M
 list-spec =

@@ -3,18 +3,21 @@ use Prim.Native.Nat.{ℕ}
 use native.Mathlib.Omega.{arith}
 use mathlib.Core.Path.{_≡_, ap, sym, _∙_}
 use mathlib.Core.List.{List}
+use lib.Dec.{eqb}
 use lib.ListN.{replicate}
 use borrow.Author.Tests.{eqb-false, eqb-true, not-true, not-false}
 use Rattle.definitions.specs.Basics.{all}
 use Rattle.definitions.specs.Links.{Edge, members}
+use Rattle.definitions.specs.Rounds.{entry}
 use Rattle.definitions.specs.Waits.{serialized, wait-maps}
 use Rattle.data_edges.specs.Serial.{leasts-in}
 use Rattle.data_edges.specs.Words.{graph}
 use Rattle.data_edges.proofs.Places.{ends-below-64}
-use Rattle.walk_cells.specs.Tables.{entry}
+use Rattle.walk_cells.specs.Tables.{Square, said}
 use Rattle.walk_heaviest.proofs.Spreading.{empty-found}
 use Rattle.laws.proofs.Bools.{both-ways}
 use Rattle.walk_settled.specs.Settled.{handed-on}
+use Rattle.walk_cells.proofs.Tables.{read-says}
 use Rattle.theory.specs.Graphs.{SheetLeasts, Well}
 use Rattle.theory.proofs.Feasibility.{stable-nonpositive-iff}
 use Rattle.judge_serial.proofs.Trying.{Offsets, edges-waited, maps-within, settled-feasible, sole-source, untried-infeasible, walks-offsets}
@@ -29,9 +32,9 @@ walked s = s .before .before
 abbrev start : tie.After-walks-if-possible → tie.Start
 start s = s .before .before .before .before .before
 
--- The table then, and that it holds the source's offsets over the edges and the waits.
+-- What the table then says, and that it holds the source's offsets over the edges and the waits.
 abbrev table : tie.Else1 → List (List ℕ)
-table s = walked s .walks-if-possible .last .0
+table s = said (walked s .walks-if-possible .last .0)
 
 abbrev steps : tie.Else1 → ℕ
 steps s = start (walked s) .args .n
@@ -44,6 +47,13 @@ least s = leasts-in (start (walked s) .args .leasts .now)
 
 offsets : (s : tie.Else1) → Well (steps s) (members (edges s)) → SheetLeasts (least s) (members (edges s)) → start (walked s) .args .maps .now ≡ wait-maps (steps s) (edges s) → Offsets (steps s) (serialized (steps s) (least s) (edges s)) (replicate 64 1) (table s)
 offsets s well leasts waits = walks-offsets (least s) (start (walked s) .pre .few) (well .shape) waits (replicate 64 1) (table s) (λ within. walked s .walks-if-possible .ensures .cells (not-false _ (s .if1 .left)) within leasts)
+
+-- Whether it says nothing of the source itself.
+none-told : (s : tie.After-is-none) → s .is-none .result ≡ eqb (entry (table (s .before .before)) 0 0) 0
+none-told s =
+    let w = walked (s .before .before) in
+    let square : Square 64 (w .walks-if-possible .last .0) = w .walks-if-possible .ensures .square in
+    rw (read-says (w .walks-if-possible .last .0) square {v = 0} {k = 0} (search needs) (search needs) (s .before .is-none-arg .given)) at (s .is-none .ensures)
 
 slice-aggregate-walks-if-possible : tie.Need-slice-aggregate-walks-if-possible
 slice-aggregate-walks-if-possible c = search needs
@@ -73,30 +83,21 @@ is-none-requires c κs = search needs
 returns-2 : tie.Need-returns-2
 returns-2 c = λ well gains leasts waits no-circle.
     let e = c .before .before .before in
-    let none = eqb-true (entry (table e) 0 0) 0 (sym (c .before .is-none .ensures) ∙ c .if2 .taken) in
+    let none = eqb-true (entry (table e) 0 0) 0 (sym (none-told (c .before)) ∙ c .if2 .taken) in
     untried-infeasible (least e) (start (walked e) .pre .few) well gains (leasts .leasts) no-circle (table e) (offsets e well leasts waits) (λ T. omega (arith, T .source, none))
-
-uncut-requires : tie.Need-uncut-requires
-uncut-requires c κs = search needs
-
-returns-3 : tie.Need-returns-3
-returns-3 c = λ well gains leasts waits no-circle.
-    let e = c .before .before .before .before .before .before in
-    untried-infeasible (least e) (start (walked e) .pre .few) well gains (leasts .leasts) no-circle (table e) (offsets e well leasts waits) (λ T. both-ways (T .uncut) (sym (c .before .uncut .ensures) ∙ not-true _ (c .if3 .taken)))
 
 settled-requires : tie.Need-settled-requires
 settled-requires c κs = search needs
 
-returns-4 : tie.Need-returns-4
-returns-4 c = λ well gains leasts waits no-circle.
-    let u = c .before .before .before in
-    let n = u .before .before .before in
+returns-3 : tie.Need-returns-3
+returns-3 c = λ well gains leasts waits no-circle.
+    let n = c .before .before .before in
     let e = n .before .before in
     let few = start (walked e) .pre .few in
-    let some = eqb-false (entry (table e) 0 0) 0 (sym (n .is-none .ensures) ∙ u .before .before .if2 .left) in
+    let some = eqb-false (entry (table e) 0 0) 0 (sym (none-told n) ∙ c .before .before .if2 .left) in
     c .settled .ensures (maps-within (least e) few (well .shape) waits)
     ∙ ap (λ (l : List Edge). all (handed-on (table e)) l) (edges-waited (least e) few (well .shape) waits)
-    ∙ settled-feasible (least e) few well gains (leasts .leasts) no-circle (table e) (offsets e well leasts waits) (omega (arith, some)) (sym (u .uncut .ensures) ∙ not-false _ (c .before .before .if3 .left))
+    ∙ settled-feasible (least e) few well gains (leasts .leasts) no-circle (table e) (offsets e well leasts waits) (omega (arith, some))
 
 pub leaves-times-spec : {M : Type 1} → statement M
 leaves-times-spec =
@@ -109,7 +110,5 @@ leaves-times-spec =
     index-2-is-none
     is-none-requires
     returns-2
-    uncut-requires
-    returns-3
     settled-requires
-    returns-4)
+    returns-3)

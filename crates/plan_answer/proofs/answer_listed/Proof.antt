@@ -1,4 +1,7 @@
 -- `plan_answer::answer_listed` meets its contract: a judgement is the analysis; else a table of few rows is enough for few steps, one of some for some, and one of all for any.
+use lib.ListN.{getD}
+use Rattle.data_edges.specs.Words.{unpack}
+use Rattle.data_edges.proofs.Places.{graph-at}
 use borrow.Author.Needs.{needs}
 use denote.Ref.{now}
 use Rattle.definitions.specs.Limits.{most-steps}
@@ -16,7 +19,10 @@ abbrev start : tie.After-slice-known3 → tie.Start
 start s = listed s .before .before .before .before .before .before
 
 list-requires : tie.Need-list-requires
-list-requires c κs = let p = c .before .before .before .before .before .pre .0 in (p .sheet .edges, p .room, p .empty)
+list-requires c κs =
+    let s = c .before .before .before .before .before in
+    let p = s .pre .0 in
+    record { few = p .sheet .edges; light = λ k b. p .sheet .formed .gains (unpack (getD (s .args .es .now) k 0)) (graph-at (s .args .es .now) k b); long = p .room; empty = p .empty }
 
 enum-told : tie.Need-enum-told
 enum-told c = search needs

@@ -58,9 +58,8 @@ write-requires c κs =
     let k = check e in
     let held = tabulated k .tabulate .ensures .held (k .checked .ensures .accepted (accepts e)) in
     record {
-      few = start (tabulated k) .pre .0 .sheet .few;
       rows = held .rows;
-      inside = λ v a b h. omega (arith, member-below (held .holds) a v b h, held .rows);
+      inside = λ v a b h. omega (arith, member-below (held .holds) a v b h, held .rows .inside);
       room = k .checked .ensures .fits (accepts e);
     }
 

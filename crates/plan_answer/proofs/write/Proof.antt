@@ -20,7 +20,7 @@ enum-told-2 c = search needs
 fill-plan-requires : tie.Need-fill-plan-requires
 fill-plan-requires c κs =
     let p = start (c .before .before .before) .pre in
-    record { few = p .few; inside = p .rows; members = p .inside; room = plan-room _ _ _ (c .before .enum-told2 .given .1) (p .room) }
+    record { rows = p .rows; members = p .inside; room = plan-room _ _ _ (c .before .enum-told2 .given .1) (p .room) }
 
 enum-told-3 : tie.Need-enum-told-3
 enum-told-3 c = search needs
@@ -29,7 +29,7 @@ fill-starts-requires : tie.Need-fill-starts-requires
 fill-starts-requires c κs =
     let p = start (c .before .before .before) .pre in
     let room = starts-room _ _ _ (c .before .enum-told3 .given .1) (p .room) in
-    record { few = p .few; inside = p .rows; long = room .0; room = room .1 }
+    record { rows = p .rows; long = room .0; room = room .1 }
 
 returns : tie.Need-returns
 returns c g l t fits = nothing-stands _ _ g _ _ (c .enum-told .given .1) refl

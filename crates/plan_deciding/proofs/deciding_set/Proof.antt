@@ -3,6 +3,7 @@ use mathlib.Core.Path.{_≡_, sym, _∙_}
 use mathlib.Core.Bool.{true}
 use Prim.Native.Nat.{ℕ}
 use Rattle.definitions.specs.Basics.{test-bit}
+use Rattle.walk_cells.specs.Tables.{said}
 use Rattle.plan_deciding.specs.Working.{Orderly, member}
 use Rattle.plan_deciding.proofs.Laws.{Sieving, all-left-out, part-of, sieving-less, sieving-start, sieving-turn}
 use borrow.Author.Needs.{needs}
@@ -11,7 +12,7 @@ use Rattle.plan_deciding.proofs.deciding_set.Statement.{statement}
 use Rattle.plan_deciding.proofs.deciding_set.Tie as tie
 
 abbrev Inv-loop : tie.InvT-loop
-Inv-loop d sets v kept₀ left₀ kept left = ((b : ℕ) → test-bit left b ≡ true → member sets v b ≡ true) × (Orderly d sets v → Sieving d sets v kept left)
+Inv-loop d sets v kept₀ left₀ kept left = ((b : ℕ) → test-bit left b ≡ true → member sets v b ≡ true) × (Orderly (said d) sets v → Sieving (said d) sets v kept left)
 
 abbrev μ-loop : tie.MeasureT-loop
 μ-loop d sets v kept₀ left₀ kept left = left
@@ -38,7 +39,7 @@ without-covered-requires : tie.Need-without-covered-requires Inv-loop μ-loop
 without-covered-requires c κs =
     let top = c .before .before in
     let p = top .before .before .before .pre in
-    record { own = p .own; column = c .highest .ensures .below; over = p .members _ (top .loop .inv .0 _ (c .highest .ensures .member)) }
+    record { own = p .own; over = record { below = c .highest .ensures .below; inside = p .members _ (top .loop .inv .0 _ (c .highest .ensures .member)); square = p .own .square } }
 
 remove-requires : tie.Need-remove-requires Inv-loop μ-loop
 remove-requires c κs = c .before .highest .ensures .below

@@ -1,6 +1,7 @@
 -- `plan_deciding::reaches` meets its contract: three cells are compared.
 use Rattle.plan_deciding.specs.Working.{reaching}
 use borrow.Author.Needs.{needs}
+use Rattle.walk_cells.proofs.Tables.{read-says}
 use Rattle.plan_deciding.proofs.reaches.Statement.{statement}
 use Rattle.plan_deciding.proofs.reaches.Tie as tie
 
@@ -45,7 +46,18 @@ sum-reaches-requires c κs = search needs
 
 returns : tie.Need-returns
 unfolding reaching
-returns c p q s = c .sum-reaches .ensures q s p
+returns c p q r =
+    let third = c .before in
+    let second = third .before in
+    let first = second .before in
+    let s = first .before in
+    let ways = s .pre .1 in
+    -- The cells of b for a, of v for b, and of v for a.
+    let over = read-says (s .args .d .now) (ways .over .square) (ways .over .inside) (s .pre .0) (first .sum-reaches-arg .given) in
+    let last = read-says (s .args .d .now) (ways .own .square) (ways .own .inside) (ways .over .below) (second .sum-reaches-arg2 .given) in
+    let own = read-says (s .args .d .now) (ways .own .square) (ways .own .inside) (s .pre .0) (third .sum-reaches-arg3 .given) in
+    let told = rw (over, last, own) at (c .sum-reaches .ensures) in
+    told q r p
 
 pub reaches-spec : {M : Type 1} → statement M
 reaches-spec =

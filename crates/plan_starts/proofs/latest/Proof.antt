@@ -4,6 +4,7 @@ use mathlib.Core.Bool.{false}
 use Prim.Native.Nat.{ℕ}
 use Rattle.definitions.specs.Basics.{largest, test-bit}
 use Rattle.laws.proofs.Maps.{removed-lt, test-zero}
+use Rattle.walk_cells.specs.Tables.{said}
 use Rattle.plan_starts.specs.Times.{term}
 use Rattle.plan_starts.proofs.Laws.{latest-of, none-taken, one-taken, all-taken}
 use borrow.Author.Needs.{needs}
@@ -12,7 +13,7 @@ use Rattle.plan_starts.proofs.latest.Statement.{statement}
 use Rattle.plan_starts.proofs.latest.Tie as tie
 
 abbrev Inv-loop : tie.InvT-loop
-Inv-loop d leasts members n list old v most₀ left₀ most left = latest-of d leasts list old v n most left ≡ largest (test-bit members) (term d leasts list old v) n
+Inv-loop d leasts members n list old v most₀ left₀ most left = latest-of (said d) leasts list old v n most left ≡ largest (test-bit members) (term (said d) leasts list old v) n
 
 abbrev μ-loop : tie.MeasureT-loop
 μ-loop d leasts members n list old v most₀ left₀ most left = left
@@ -29,7 +30,7 @@ returns c =
     sym (all-taken _ _ _ _ _ _ _ (least .before .before .loop .left) (λ k b. least .lowest .ensures .least k (omega arith))) ∙ least .before .before .loop .inv
 
 term-of-requires : tie.Need-term-of-requires Inv-loop μ-loop
-term-of-requires c κs = record { row = omega arith; column = c .before .lowest .ensures .below; entered = omega arith }
+term-of-requires c κs = record { row = c .before .before .before .before .before .pre .0; column = c .before .lowest .ensures .below; entered = omega arith }
 
 larger-requires : tie.Need-larger-requires Inv-loop μ-loop
 larger-requires c κs = search needs

@@ -6,6 +6,7 @@ use mathlib.Core.List.{List, _++_}
 use Prim.Native.Nat.{ℕ, _+_, _*_, _-_, _≤_, _<_}
 use lib.ListN.{length, drop, length-take, length-drop}
 use Rattle.definitions.specs.Limits.{longest-table}
+use Rattle.walk_cells.specs.Tables.{said}
 use Rattle.plan_deciding.specs.Working.{Orderly}
 use Rattle.plan_table.specs.Rows.{first-rows}
 use Rattle.laws.proofs.Counts.{row-end, square-small}
@@ -14,7 +15,7 @@ use Rattle.plan_table.proofs.fill_plan.Statement.{statement}
 use Rattle.plan_table.proofs.fill_plan.Tie as tie
 
 abbrev Inv-loop : tie.InvT-loop
-Inv-loop d leasts sets n table₀ v₀ table v = (v ≤ n) × (length table ≡ length table₀) × (((u : ℕ) → u < n → Orderly d sets u) → table ≡ first-rows d leasts sets n v ++ drop (v * n) table₀)
+Inv-loop d leasts sets n table₀ v₀ table v = (v ≤ n) × (length table ≡ length table₀) × (((u : ℕ) → u < n → Orderly (said d) sets u) → table ≡ first-rows (said d) leasts sets n v ++ drop (v * n) table₀)
 
 abbrev μ-loop : tie.MeasureT-loop
 μ-loop d leasts sets n table₀ v₀ table v = n - v
@@ -38,10 +39,10 @@ same s = s .loop .inv .1 ∙ clear-length _ _ _ (start s .pre .room) (clearing s
 in-table : (c : tie.In-loop Inv-loop μ-loop) → InTable (start (c .before) .args .n) (c .before .loop .v) (c .before .loop .table)
 in-table c =
     let p = start (c .before) .pre in
-    record { row = row-end _ _ (omega arith); small = square-small _ (p .few); room = omega (arith, same (c .before), p .room) }
+    record { row = row-end _ _ (omega arith); small = square-small _ (p .rows .few); room = omega (arith, same (c .before), p .room) }
 
 mul-clear : tie.Need-mul-clear Inv-loop μ-loop
-mul-clear c = omega (arith, square-small _ (c .before .pre .few))
+mul-clear c = omega (arith, square-small _ (c .before .pre .rows .few))
 
 clear-requires : tie.Need-clear-requires Inv-loop μ-loop
 clear-requires c κs = c .before .before .pre .room
@@ -68,7 +69,7 @@ fill-row-requires : tie.Need-fill-row-requires Inv-loop μ-loop
 fill-row-requires c κs =
     let l = c .before in
     let p = start (l .before) .pre in
-    (record { below = omega (arith, p .few); own = omega (arith, p .inside); members = λ a. p .members _ a (omega arith) }, simp (length-take, length-drop) (omega (arith, in-table l)))
+    (record { own = record { below = omega (arith, p .rows .few); inside = omega (arith, p .rows .inside); square = p .rows .square }; members = λ a. p .members _ a (omega arith) }, simp (length-take, length-drop) (omega (arith, in-table l)))
 
 add-v : tie.Need-add-v Inv-loop μ-loop
 add-v c = search needs
@@ -90,7 +91,7 @@ returns : tie.Need-returns Inv-loop μ-loop
 returns c =
     let s = c .before in
     let e : s .loop .v ≡ start s .args .n = omega arith in
-    planned _ (start s .pre .few) (clearing s .clear .ensures) (λ T. rw e at (s .loop .inv .2 T))
+    planned _ (start s .pre .rows .few) (clearing s .clear .ensures) (λ T. rw e at (s .loop .inv .2 T))
 
 pub fill-plan-spec : {M : Type 1} → statement M
 fill-plan-spec =

@@ -3,6 +3,7 @@ use mathlib.Core.Path.{_≡_, ap, _∙_}
 use mathlib.Core.Bool.{false}
 use Prim.Native.Nat.{ℕ}
 use Rattle.definitions.specs.Basics.{test-bit}
+use Rattle.walk_cells.specs.Tables.{said}
 use Rattle.plan_deciding.specs.Working.{offset-in}
 use Rattle.laws.proofs.Maps.{removed-lt, test-zero}
 use Rattle.plan_table.proofs.Laws.{Putting, none-put, one-put, all-put}
@@ -12,7 +13,7 @@ use Rattle.plan_table.proofs.put_offsets.Statement.{statement}
 use Rattle.plan_table.proofs.put_offsets.Tie as tie
 
 abbrev Inv-loop : tie.InvT-loop
-Inv-loop d leasts map n v row₀ left₀ row left = Putting n (offset-in d leasts v) map left row₀ row
+Inv-loop d leasts map n v row₀ left₀ row left = Putting n (offset-in (said d) leasts v) map left row₀ row
 
 abbrev μ-loop : tie.MeasureT-loop
 μ-loop d leasts map n v row₀ left₀ row left = left
@@ -32,7 +33,7 @@ returns c =
     all-put (λ k b. least .lowest .ensures .least k (omega arith)) (least .before .before .loop .inv)
 
 offset-at-requires : tie.Need-offset-at-requires Inv-loop μ-loop
-offset-at-requires c κs = (omega arith, c .before .lowest .ensures .below)
+offset-at-requires c κs = (c .before .before .before .before .before .pre .0, c .before .lowest .ensures .below)
 
 mul-row : tie.Need-mul-row Inv-loop μ-loop
 mul-row c = search needs

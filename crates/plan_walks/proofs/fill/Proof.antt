@@ -4,6 +4,8 @@ use native.Mathlib.Omega.{arith}
 use mathlib.Core.Path.{sym, _∙_}
 use borrow.Author.Tests.{not-true}
 use Rattle.laws.proofs.Bools.{both-ways}
+use Rattle.walk_cells.specs.Tables.{said}
+use Rattle.walk_cells.proofs.Tables.{square-own}
 use Rattle.plan_walks.proofs.Sourcing.{source-in}
 use Rattle.plan_walks.proofs.Tables.{ends-within, plannable-holds}
 use Rattle.plan_walks.proofs.fill.Statement.{statement}
@@ -50,8 +52,8 @@ returns-2 c =
       λ possible k p. record {
         well = p .well;
         serial = p .serial;
-        rows = omega (arith, st .pre .rows, told .square .rows);
-        holds = plannable-holds (sourced .add-source .last .0) (walked .walks-if-possible .last .0) (sheet .few) p (told .cells possible) (sourced .add-source .ensures (p .long));
+        rows = record { few = sheet .few; inside = omega (arith, st .pre .rows, told .square .rows); square = square-own (told .square) };
+        holds = plannable-holds (sourced .add-source .last .0) (said (walked .walks-if-possible .last .0)) (sheet .few) p (told .cells possible) (sourced .add-source .ensures (p .long));
       },
     )
 

@@ -1,19 +1,22 @@
 -- `walk_cells::sum_reaches` meets its contract.
-use native.Mathlib.Omega.{arith}
-use Prim.Native.Nat.{_+_, _-_}
-use borrow.Author.Tests.{le-leb, leb-true, lt-ltb, ltb-true}
-use Rattle.laws.proofs.Bools.{same-test}
-use borrow.Author.Needs.{needs}
+use Rattle.walk_cells.proofs.Heights.{wide-fits, wide-sum-fits, wide-test}
 use Rattle.walk_cells.proofs.sum_reaches.Statement.{statement}
 use Rattle.walk_cells.proofs.sum_reaches.Tie as tie
 
+cast-result : tie.Need-cast-result
+cast-result c = wide-fits (c .fits .z)
+
+cast-result-2 : tie.Need-cast-result-2
+cast-result-2 c = wide-fits (c .fits .x)
+
+cast-result-3 : tie.Need-cast-result-3
+cast-result-3 c = wide-fits (c .fits .y)
+
 add-result : tie.Need-add-result
-add-result c = search needs
+add-result c = wide-sum-fits (c .fits .x) (c .fits .y)
 
 returns : tie.Need-returns
-returns c = λ p q s.
-    let a = c .args in
-    same-test _ _ (λ h. le-leb (a .z - 1) (a .x - 1 + (a .y - 1)) (omega (arith, ltb-true (a .z) (a .x + a .y) h))) (λ h. lt-ltb (a .z) (a .x + a .y) (omega (arith, leb-true (a .z - 1) (a .x - 1 + (a .y - 1)) h)))
+returns c = wide-test (c .fits .x) (c .fits .y) (c .fits .z)
 
 pub sum-reaches-spec : {M : Type 1} → statement M
-sum-reaches-spec = tie.close (tie.spec add-result returns)
+sum-reaches-spec = tie.close (tie.spec cast-result cast-result-2 cast-result-3 add-result returns)

@@ -2,16 +2,21 @@
 use native.Mathlib.Omega.{arith}
 use mathlib.Core.Path.{_≡_, ap}
 use Prim.Native.Nat.{ℕ, _+_, _-_, _≤_}
+use lib.IntN.{pos}
 use lib.ListN.{getD}
+use mir.Syntax.{w32}
+use mir.Val.{SFits}
 use Rattle.data_lists.specs.Lists.{last-from}
 use Rattle.data_lists.proofs.Following.{following-end, following-less, following-next, following-start, following-turn}
-use Rattle.walk_feasible.proofs.Pushing.{Listing, pushed-as, pushed-at, pushed-more, pushed-none}
-use borrow.Author.Needs.{needs}
+use Rattle.walk_cells.specs.Cells.{Movable}
+use Rattle.walk_feasible.specs.Search.{level}
+use Rattle.walk_feasible.proofs.Pushing.{Listing, back-has, height-back, pushed-as, pushed-at, pushed-more, pushed-none, room-movable}
+use borrow.Author.Needs.{needs, sfits-of}
 use Rattle.walk_feasible.proofs.push_step.Statement.{statement}
 use Rattle.walk_feasible.proofs.push_step.Tie as tie
 
 abbrev Inv-loop : tie.InvT-loop
-Inv-loop row₀ via₀ marks es lists u own m₀ next₀ row via m next = Listing es u own row₀ row via marks m next
+Inv-loop row₀ via₀ marks es lists u own m₀ next₀ row via m next = Listing es u (level row₀ u) row₀ row via marks m next
 
 abbrev μ-loop : tie.MeasureT-loop
 μ-loop row₀ via₀ marks es lists u own m₀ next₀ row via m next = next
@@ -35,6 +40,10 @@ some s = omega arith
 -- What follows the edge in its list.
 following : (s : tie.After-index Inv-loop μ-loop) → getD (entry s .args .lists .now) (63 + s .index .result) 0 ≡ last-from (entry s .args .es .now) (entry s .args .u) (turn s .loop .next - 1)
 following s = following-next (entry s .pre .1 .listed) (some s) (turn s .loop .inv) (ap (λ (j : ℕ). getD (entry s .args .lists .now) (63 + j) 0) (s .index .ensures))
+
+-- The cell of u fits 32 bits.
+own-fits : (s : tie.After-shared-slice-known3 Inv-loop μ-loop) → SFits w32 (getD (start s .args .row .now) (start s .args .u) (pos 0))
+own-fits s = sfits-of (s .before .own .given)
 
 mul-own : tie.Need-mul-own Inv-loop μ-loop
 mul-own c = search needs
@@ -68,7 +77,7 @@ push-edge-requires c κs =
     let i = c .before .before .before in
     let h = turn i .loop .inv .been in
     let p = entry i .pre in
-    record { long = h .long; noted = h .noted; least = p .1 .room .least _ (p .0); below = p .1 .room .below _ }
+    record { long = h .long; noted = h .noted; movable = back-has Movable (own-fits (turn i .before)) (room-movable (p .1 .room) _) }
 
 add-next : tie.Need-add-next Inv-loop μ-loop
 add-next c = let i = indexed c in omega (arith, turn i .loop .inv .few, i .index .ensures, entry i .pre .1 .listed .few)
@@ -85,7 +94,8 @@ loop-less c = let i = indexed (c .before) in following-less (some i) (following 
 loop-again : tie.Need-loop-again Inv-loop μ-loop
 loop-again c =
     let i = indexed (c .before) in
-    following-turn (some i) (following i) (pushed-more (pushed-at (entry i .args .es .now) (i .index .ensures) (c .before .push-edge .ensures))) (turn i .loop .inv)
+    let own = height-back (own-fits (turn i .before)) in
+    following-turn (some i) (following i) (pushed-more (pushed-at (entry i .args .es .now) (i .index .ensures) own (c .before .push-edge .ensures))) (turn i .loop .inv)
 
 returns : tie.Need-returns Inv-loop μ-loop
 returns c = following-end (omega arith) pushed-as (c .before .loop .inv)

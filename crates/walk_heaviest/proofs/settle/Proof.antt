@@ -1,10 +1,14 @@
 -- `walk_heaviest::settle` meets its contract: what the first sweep leaves, and where it is possible the sweeps after it.
 use borrow.Author.Needs.{needs}
+use Prim.Native.Nat.{_-_}
+use native.Mathlib.Omega.{arith}
 use mathlib.Core.Path.{refl, sym, _∙_}
 use borrow.Author.Tests.{not-true, not-false}
 use Rattle.laws.proofs.Bools.{both-ways}
 use Rattle.data_edges.specs.Serial.{leasts-in}
-use Rattle.walk_sweep.proofs.Sweeping.{sweepable-then}
+use Rattle.definitions.specs.Limits.{most-steps}
+use Rattle.walk_cells.proofs.Tables.{held-more}
+use Rattle.walk_sweep.proofs.Sweeping.{sweepable-later}
 use Rattle.walk_heaviest.proofs.Settled.{settling-opened}
 use Rattle.walk_heaviest.proofs.settle.Statement.{statement}
 use Rattle.walk_heaviest.proofs.settle.Tie as tie
@@ -17,7 +21,7 @@ places-requires : tie.Need-places-requires
 places-requires c κs = search needs
 
 sweep-first-requires : tie.Need-sweep-first-requires
-sweep-first-requires c κs = search needs
+sweep-first-requires c κs = let p = c .before .before .before .before .before .pre in sweepable-later 0 1 p (omega arith) (p .network .linked .square) (held-more (omega arith) (p .held))
 
 possible-requires : tie.Need-possible-requires
 possible-requires c κs = search needs
@@ -35,7 +39,7 @@ returns c =
     }
 
 sweep-on-requires : tie.Need-sweep-on-requires
-sweep-on-requires c κs = let f = c .before .before .before .before .before in sweepable-then (start f .pre) (f .sweep-first .ensures .swept .square)
+sweep-on-requires c κs = let f = c .before .before .before .before .before in let p = start f .pre in let first = f .sweep-first .ensures .swept in sweepable-later 1 (most-steps - 1) p (omega arith) (first .square) (held-more (omega (arith, p .few)) (first .held (p .level) (p .held)))
 
 same-length-2 : tie.Need-same-length-2
 same-length-2 c = search needs

@@ -70,6 +70,9 @@ settle-requires c κs =
         linked = record { listed = p .given .listed; ends = λ k b. omega (arith, p .ends k b, S .rows); square = square-own S };
         waits = λ a b h. omega (arith, within a b h, p .inside, S .rows);
       };
+      level = most-gain;
+      held = seeded .seed .ensures .held;
+      room = omega arith;
     }
 
 same-length : tie.Need-same-length

@@ -2,25 +2,31 @@
 use mathlib.Core.Path.{_≡_, refl, _∙_}
 use Prim.Native.Nat.{ℕ, _-_, _≤_, _<_}
 use native.Mathlib.Omega.{arith}
+use mir.Facts.{toZ-ofZ}
+use mir.Syntax.{w32}
+use mir.Val.{toZ}
 use borrow.Author.Tests.{eqb-true, not-false}
 use borrow.Author.Needs.{needs}
 use Rattle.laws.proofs.Maps.{or-above}
 use Rattle.walk_lift.specs.Lifts.{Lifted, Still}
-use Rattle.walk_lift.proofs.Lifting.{lifted-start, lifted-turn, target-turn}
+use Rattle.walk_lift.proofs.Lifting.{lifted-start, lifted-turn, liftable-turn}
 use Rattle.walk_lift.proofs.lift_noting.Statement.{statement}
 use Rattle.walk_lift.proofs.lift_noting.Tie as tie
 
 abbrev Inv-loop : tie.InvT-loop
-Inv-loop d₀ row to delta width grown₀ k₀ d grown k = (k ≤ width) × Lifted (λ j. j < k) to delta row d₀ d × (grown ≡ 0 → Still to d₀ d)
+Inv-loop d₀ row to delta width grown₀ k₀ d grown k = (k ≤ width) × Lifted (λ j. j < k) to (toZ w32 delta) row d₀ d × (grown ≡ 0 → Still to d₀ d)
 
 abbrev μ-loop : tie.MeasureT-loop
 μ-loop d₀ row to delta width grown₀ k₀ d grown k = width - k
 
 loop-holds : tie.Need-loop-holds Inv-loop μ-loop
-loop-holds c = (omega arith, lifted-start _ _ _ _ (c .pre .square), λ z j. refl)
+loop-holds c = (omega arith, lifted-start _ _ _ _ (c .pre .target .square), λ z j. refl)
 
 lift-cell-requires : tie.Need-lift-cell-requires Inv-loop μ-loop
-lift-cell-requires c κs = let at-loop = c .before .before in target-turn _ (c .before .loop-test .taken) (at-loop .before .pre) (at-loop .loop .inv .1)
+lift-cell-requires c κs =
+    let at-loop = c .before .before in
+    let fits = toZ-ofZ (at-loop .before .fits .delta) in
+    rw fits (liftable-turn _ (c .before .loop-test .taken) (at-loop .before .pre) (rw fits at (at-loop .loop .inv .1)))
 
 add-k : tie.Need-add-k Inv-loop μ-loop
 add-k c = search needs
@@ -41,7 +47,7 @@ returns : tie.Need-returns Inv-loop μ-loop
 returns c =
     let s = c .before in
     let e : s .loop .k ≡ s .before .args .width = omega arith in
-    (rw e at (s .loop .inv .1), λ q. s .loop .inv .2 (eqb-true _ _ (not-false _ q)))
+    (rw (e, toZ-ofZ (s .before .fits .delta)) at (s .loop .inv .1), λ q. s .loop .inv .2 (eqb-true _ _ (not-false _ q)))
 
 pub lift-noting-spec : {M : Type 1} → statement M
 lift-noting-spec =

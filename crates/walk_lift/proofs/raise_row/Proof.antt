@@ -1,5 +1,6 @@
 -- `walk_lift::raise_row` meets its contract: a row that has its mark may change, and one that changes gets it.
 use mathlib.Core.Path.{sym, _∙_}
+use mir.Facts.{toZ-ofZ}
 use borrow.Author.Needs.{needs}
 use Rattle.walk_lift.proofs.Lifting.{raised-marked, raised-noting}
 use Rattle.walk_lift.proofs.raise_row.Statement.{statement}
@@ -15,7 +16,9 @@ same-length : tie.Need-same-length
 same-length c = search needs
 
 returns : tie.Need-returns
-returns c = raised-marked (sym (c .before .before .before .before .has .ensures) ∙ c .before .before .before .if1 .taken) (c .before .lift .ensures)
+returns c =
+    let has = c .before .before .before .before in
+    raised-marked (sym (has .has .ensures) ∙ c .before .before .before .if1 .taken) (rw (toZ-ofZ (has .before .fits .delta)) at (c .before .lift .ensures))
 
 lift-noting-requires : tie.Need-lift-noting-requires
 lift-noting-requires c κs = search needs
@@ -27,7 +30,10 @@ same-length-2 : tie.Need-same-length-2
 same-length-2 c = search needs
 
 returns-2 : tie.Need-returns-2
-returns-2 c = raised-noting _ (c .insert-if .ensures) (c .before .before .lift-noting .ensures .0) (c .before .before .lift-noting .ensures .1)
+returns-2 c =
+    let lifts = c .before .before in
+    let start = lifts .before .before .before .before in
+    raised-noting _ (c .insert-if .ensures) (rw (toZ-ofZ (start .fits .delta)) at (lifts .lift-noting .ensures .0)) (lifts .lift-noting .ensures .1)
 
 pub raise-row-spec : {M : Type 1} → statement M
 raise-row-spec =

@@ -26,7 +26,7 @@ seed-edges-requires : tie.Need-seed-edges-requires
 seed-edges-requires c κs =
     let r = c .before .before .before in
     let S = r .seed-rows .ensures .square in
-    (λ k b. omega (arith, start (numbered r) .pre .ends k b, S .rows), square-own S)
+    record { ends = λ k b. omega (arith, start (numbered r) .pre .ends k b, S .rows); square = square-own S; light = start (numbered r) .pre .light }
 
 same-length : tie.Need-same-length
 same-length c = search needs

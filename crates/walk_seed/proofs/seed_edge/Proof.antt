@@ -7,7 +7,10 @@ use Rattle.definitions.specs.Links.{Edge}
 use Rattle.data_edges.specs.Words.{unpack}
 use Rattle.walk_cells.specs.Cells.{value}
 use Rattle.walk_seed.proofs.Seeding.{begun-edge, begun-source, begun-unnumbered}
-use borrow.Author.Needs.{needs}
+use mir.Facts.{toZ-ofZ}
+use mir.Syntax.{w32}
+use mir.Val.{SFits}
+use borrow.Author.Needs.{needs, sfits-of}
 use Rattle.walk_seed.proofs.seed_edge.Statement.{statement}
 use Rattle.walk_seed.proofs.seed_edge.Tie as tie
 
@@ -29,7 +32,7 @@ edge-from-requires : tie.Need-edge-from-requires
 edge-from-requires c κs = search needs
 
 returns : tie.Need-returns
-returns c = let s = c .before .before in begun-source (s .args .number .now) (unpack (s .args .w)) (s .args .d .now) (s .pre .square) (sym (c .before .edge-from .ensures .0) ∙ c .if1 .taken)
+returns c = let s = c .before .before in begun-source (s .args .number .now) (unpack (s .args .w)) (s .args .d .now) (s .pre .placed .square) (sym (c .before .edge-from .ensures .0) ∙ c .if1 .taken)
 
 element-copy-out-k : tie.Need-element-copy-out-k
 element-copy-out-k c = search needs
@@ -38,7 +41,7 @@ returns-2 : tie.Need-returns-2
 returns-2 c =
     let f = c .before .before .before in
     let s = f .before in
-    begun-unnumbered (s .args .number .now) (unpack (s .args .w)) (s .args .d .now) (s .pre .square) (omega (arith, ap (λ (x : ℕ). getD (s .args .number .now) x 0) (f .edge-from .ensures .0), c .if2 .taken))
+    begun-unnumbered (s .args .number .now) (unpack (s .args .w)) (s .args .d .now) (s .pre .placed .square) (omega (arith, ap (λ (x : ℕ). getD (s .args .number .now) x 0) (f .edge-from .ensures .0), c .if2 .taken))
 
 edge-gain-requires : tie.Need-edge-gain-requires
 edge-gain-requires c κs = search needs
@@ -57,7 +60,7 @@ place-requires c κs = search needs
 
 raise-requires : tie.Need-raise-requires
 raise-requires c κs =
-    let p = start (c .before .before .before) .pre in
+    let p = start (c .before .before .before) .pre .placed in
     record { row = omega (arith, c .before .edge-to .ensures .0, p .row); few = omega (arith, c .place .ensures .1); square = p .square }
 
 same-length : tie.Need-same-length
@@ -70,6 +73,7 @@ returns-3 c =
     let o = to .before .before in
     let s = start o in
     let from = leaving o .edge-from .ensures in
+    let fits : SFits w32 (o .of-edge .result) = sfits-of (o .of-edge .ok) in
     begun-edge
     (s .args .number .now)
     (unpack (s .args .w))
@@ -79,12 +83,13 @@ returns-3 c =
     (s .args .d .now)
     (c .before .raise .last .0)
     (to .edge-to .ensures .0)
+    (s .pre .placed .light)
     (s .pre .counts)
     (λ z. o .before .before .before .before .before .if1 .left (from .0 ∙ z))
     (omega (arith, from .0, from .1))
     (omega (arith, k .ensures .0, ap (λ (x : ℕ). getD (s .args .number .now) x 0) (from .0), o .before .before .before .if2 .left))
     (weighs o)
-    (c .before .raise .ensures)
+    (rw (toZ-ofZ fits) at (c .before .raise .ensures))
 
 pub seed-edge-spec : {M : Type 1} → statement M
 seed-edge-spec =

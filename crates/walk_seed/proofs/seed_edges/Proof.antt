@@ -17,7 +17,7 @@ returns : tie.Need-returns
 returns c = c .before .seed-words .ensures
 
 returns-2 : tie.Need-returns-2
-returns-2 c = let s = c .before .before .before in begun-idle _ (s .args .es .now) _ (s .pre .1) (c .before .begins-some .ensures (c .if1 .left))
+returns-2 c = let s = c .before .before .before in begun-idle _ (s .args .es .now) _ (s .pre .square) (c .before .begins-some .ensures (c .if1 .left))
 
 pub seed-edges-spec : {M : Type 1} → statement M
 seed-edges-spec =

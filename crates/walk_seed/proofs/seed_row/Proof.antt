@@ -10,7 +10,10 @@ use Rattle.walk_cells.proofs.Tables.{square-own}
 use Rattle.walk_seed.specs.Seeds.{Seeded}
 use Rattle.walk_seed.proofs.Numbering.{still-left}
 use Rattle.walk_seed.proofs.Seeding.{Passed, passed-end, passed-more, passed-start, stored-cell}
-use borrow.Author.Needs.{needs}
+use mir.Facts.{toZ-ofZ}
+use mir.Syntax.{w32}
+use mir.Val.{SFits}
+use borrow.Author.Needs.{needs, sfits-of}
 use Rattle.walk_seed.proofs.seed_row.Statement.{statement}
 use Rattle.walk_seed.proofs.seed_row.Tie as tie
 
@@ -32,26 +35,26 @@ element-copy-out-place c = search needs
 place-requires : tie.Need-place-requires Inv-loop μ-loop
 place-requires c κs = search needs
 
-mul-least-cell : tie.Need-mul-least-cell Inv-loop μ-loop
-mul-least-cell c = search needs
+mul-of-least : tie.Need-mul-of-least Inv-loop μ-loop
+mul-of-least c = search needs
 
-element-copy-out-least-cell : tie.Need-element-copy-out-least-cell Inv-loop μ-loop
-element-copy-out-least-cell c = search needs
+element-copy-out-of-least : tie.Need-element-copy-out-of-least Inv-loop μ-loop
+element-copy-out-of-least c = search needs
 
-least-cell-requires : tie.Need-least-cell-requires Inv-loop μ-loop
-least-cell-requires c κs = search needs
+of-least-requires : tie.Need-of-least-requires Inv-loop μ-loop
+of-least-requires c κs = search needs
 
-mul-d : tie.Need-mul-d Inv-loop μ-loop
-mul-d c = search needs
+mul-first : tie.Need-mul-first Inv-loop μ-loop
+mul-first c = search needs
 
-mul-d-2 : tie.Need-mul-d-2 Inv-loop μ-loop
-mul-d-2 c = search needs
+mul-first-2 : tie.Need-mul-first-2 Inv-loop μ-loop
+mul-first-2 c = search needs
 
-index-1-d : tie.Need-index-1-d Inv-loop μ-loop
-index-1-d c = search needs
+index-1-first : tie.Need-index-1-first Inv-loop μ-loop
+index-1-first c = search needs
 
-index-2-d : tie.Need-index-2-d Inv-loop μ-loop
-index-2-d c = search needs
+index-2-first : tie.Need-index-2-first Inv-loop μ-loop
+index-2-first c = search needs
 
 without-lowest-requires : tie.Need-without-lowest-requires Inv-loop μ-loop
 without-lowest-requires c κs = omega arith
@@ -63,14 +66,15 @@ loop-again : tie.Need-loop-again Inv-loop μ-loop
 loop-again c =
     let a = c .before .before .before .before .before .lowest in
     let k = c .before .before .before .place in
-    let least = c .before .least-cell in
+    let least = c .before .of-least in
+    let fits : SFits w32 (least .result) = sfits-of (least .ok) in
     let s = c .before .before .before .before .before .before .before in
     let args = s .before .args in
     let S = s .loop .inv .1 .square in
     let leaves = c .without-lowest .ensures _ (a .ensures) in
     let stored = stored-cell (args .v) (k .result) (least .result) (s .loop .d) (square-own S) (omega (arith, s .before .pre .0, S .rows)) (k .ensures .1) in (
       λ j h. s .loop .inv .0 j (still-left (s .loop .left) (c .without-lowest .result) (a .result) leaves j h .0),
-      passed-more (leasts-in (args .leasts .now)) (args .number .now) (args .v) (args .map) (s .loop .left) (c .without-lowest .result) (a .result) (k .result) (least .result) (a .ensures .below) (s .loop .inv .0 _ (a .ensures .member)) (a .ensures .member) leaves (k .ensures .0) (least .ensures) (s .loop .inv .1) stored,
+      rw (toZ-ofZ fits) (passed-more (leasts-in (args .leasts .now)) (args .number .now) (args .v) (args .map) (s .loop .left) (c .without-lowest .result) (a .result) (k .result) (least .result) (a .ensures .below) (s .loop .inv .0 _ (a .ensures .member)) (a .ensures .member) leaves (k .ensures .0) (least .ensures .0) (omega (arith, least .ensures .1)) (s .loop .inv .1) stored),
     )
 
 same-length : tie.Need-same-length Inv-loop μ-loop
@@ -89,13 +93,13 @@ seed-row-spec =
     lowest-requires
     element-copy-out-place
     place-requires
-    mul-least-cell
-    element-copy-out-least-cell
-    least-cell-requires
-    mul-d
-    mul-d-2
-    index-1-d
-    index-2-d
+    mul-of-least
+    element-copy-out-of-least
+    of-least-requires
+    mul-first
+    mul-first-2
+    index-1-first
+    index-2-first
     without-lowest-requires
     loop-less
     loop-again

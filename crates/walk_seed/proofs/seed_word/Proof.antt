@@ -12,7 +12,7 @@ is-counted-requires : tie.Need-is-counted-requires
 is-counted-requires c κs = search needs
 
 returns : tie.Need-returns
-returns c = let s = c .before .before in begun-uncounted (s .args .number .now) (unpack (s .args .w)) (s .args .d .now) (s .pre .1) (sym (c .before .is-counted .ensures) ∙ not-true _ (c .if1 .taken))
+returns c = let s = c .before .before in begun-uncounted (s .args .number .now) (unpack (s .args .w)) (s .args .d .now) (s .pre .square) (sym (c .before .is-counted .ensures) ∙ not-true _ (c .if1 .taken))
 
 edge-gain-requires : tie.Need-edge-gain-requires
 edge-gain-requires c κs = search needs
@@ -21,13 +21,13 @@ edge-loss-requires : tie.Need-edge-loss-requires
 edge-loss-requires c κs = search needs
 
 returns-2 : tie.Need-returns-2
-returns-2 c = let s = c .before .before .before .before .before in begun-light (s .args .number .now) (unpack (s .args .w)) (s .args .d .now) (s .pre .1) (omega (arith, c .before .before .edge-gain .ensures .0, c .before .edge-loss .ensures .0, c .if2 .taken))
+returns-2 c = let s = c .before .before .before .before .before in begun-light (s .args .number .now) (unpack (s .args .w)) (s .args .d .now) (s .pre .square) (omega (arith, c .before .before .edge-gain .ensures .0, c .before .edge-loss .ensures .0, c .if2 .taken))
 
 seed-edge-requires : tie.Need-seed-edge-requires
 seed-edge-requires c κs =
     let counted = c .before .before .before .before .before in
     let p = counted .before .pre in
-    record { row = p .0; square = p .1; counts = sym (counted .is-counted .ensures) ∙ not-false _ (c .before .before .before .before .if1 .left) }
+    record { placed = p; counts = sym (counted .is-counted .ensures) ∙ not-false _ (c .before .before .before .before .if1 .left) }
 
 same-length : tie.Need-same-length
 same-length c = search needs

@@ -21,7 +21,7 @@ abbrev μ-loop : tie.MeasureT-loop
 μ-loop d₀ number es k₀ d k = length es - k
 
 loop-holds : tie.Need-loop-holds Inv-loop μ-loop
-loop-holds c = let s = c .before in (omega arith, begun-start (s .args .number .now) (s .args .es .now) (s .args .d .now) (s .pre .1))
+loop-holds c = let s = c .before in (omega arith, begun-start (s .args .number .now) (s .args .es .now) (s .args .d .now) (s .pre .square))
 
 mul-seed-word : tie.Need-mul-seed-word Inv-loop μ-loop
 mul-seed-word c = search needs
@@ -30,7 +30,7 @@ shared-slice-read-seed-word : tie.Need-shared-slice-read-seed-word Inv-loop μ-l
 shared-slice-read-seed-word c = search needs
 
 seed-word-requires : tie.Need-seed-word-requires Inv-loop μ-loop
-seed-word-requires c κs = let l = c .before .before .before .loop in let S = l .inv .1 .square in (omega (arith, c .before .before .before .before .before .pre .0 (l .k) (search needs), S .rows), square-own S)
+seed-word-requires c κs = let l = c .before .before .before .loop in let S = l .inv .1 .square in let p = c .before .before .before .before .before .pre in record { row = omega (arith, p .ends (l .k) (search needs), S .rows); square = square-own S; light = p .light (l .k) (search needs) }
 
 add-k : tie.Need-add-k Inv-loop μ-loop
 add-k c = search needs

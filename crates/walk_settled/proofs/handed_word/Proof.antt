@@ -1,6 +1,7 @@
 -- `walk_settled::handed_word` meets its contract.
 use borrow.Author.Needs.{needs}
 use Rattle.data_edges.specs.Words.{unpack}
+use Rattle.walk_cells.specs.Tables.{said}
 use Rattle.walk_settled.proofs.Handing.{fields-handed}
 use Rattle.walk_settled.proofs.handed_word.Statement.{statement}
 use Rattle.walk_settled.proofs.handed_word.Tie as tie
@@ -24,7 +25,7 @@ returns : tie.Need-returns
 returns c =
     let s = c .before .before .before .before .before in
     fields-handed
-    (s .args .d .now)
+    (said (s .args .d .now))
     (unpack (s .args .w))
     (c .before .before .before .before .edge-from .ensures .0)
     (c .before .before .before .edge-to .ensures .0)

@@ -9,6 +9,7 @@ use borrow.Author.Tests.{not-true, not-false}
 use Rattle.definitions.specs.Waits.{wait-edge}
 use Rattle.data_edges.specs.Serial.{leasts-in}
 use Rattle.laws.proofs.Maps.{removed-lt}
+use Rattle.walk_cells.specs.Tables.{said}
 use Rattle.walk_settled.specs.Settled.{handed-on, waits-handed-on}
 use Rattle.walk_settled.proofs.Handing.{members-fail, members-less, members-none}
 use Rattle.walk_settled.proofs.settled_row.Statement.{statement}
@@ -24,7 +25,7 @@ abbrev waited : List (List ℕ) → List ℕ → ℕ → ℕ → Bool
 waited d leasts i a = handed-on d (wait-edge (leasts-in leasts) (record { anchor = a; target = i }))
 
 abbrev Inv-loop : tie.InvT-loop
-Inv-loop d leasts map i left₀ left = waits-handed-on d (leasts-in leasts) map i ≡ waits-handed-on d (leasts-in leasts) left i
+Inv-loop d leasts map i left₀ left = waits-handed-on (said d) (leasts-in leasts) map i ≡ waits-handed-on (said d) (leasts-in leasts) left i
 
 abbrev μ-loop : tie.MeasureT-loop
 μ-loop d leasts map i left₀ left = left
@@ -48,7 +49,7 @@ returns : tie.Need-returns Inv-loop μ-loop
 returns c =
     let s = c .before .before .before .before .before in
     let low = c .before .before .before .lowest in
-    sym (s .loop .inv ∙ members-fail (waited (s .before .args .d .now) (s .before .args .leasts .now) (s .before .args .i)) (s .loop .left) (low .result) (low .ensures .below) (low .ensures .member) (sym (c .before .handed-wait .ensures) ∙ not-true _ (c .if1 .taken)))
+    sym (s .loop .inv ∙ members-fail (waited (said (s .before .args .d .now)) (s .before .args .leasts .now) (s .before .args .i)) (s .loop .left) (low .result) (low .ensures .below) (low .ensures .member) (sym (c .before .handed-wait .ensures) ∙ not-true _ (c .if1 .taken)))
 
 without-lowest-requires : tie.Need-without-lowest-requires Inv-loop μ-loop
 without-lowest-requires c κs = omega arith
@@ -61,11 +62,11 @@ loop-again c =
     let s = c .before .before .before .before .before .before in
     let low = c .before .before .before .before .lowest in
     s .loop .inv
-    ∙ members-less (waited (s .before .args .d .now) (s .before .args .leasts .now) (s .before .args .i)) (s .loop .left) (c .without-lowest .result) (low .result)
+    ∙ members-less (waited (said (s .before .args .d .now)) (s .before .args .leasts .now) (s .before .args .i)) (s .loop .left) (c .without-lowest .result) (low .result)
     (sym (c .before .before .handed-wait .ensures) ∙ not-false _ (c .before .if1 .left)) (c .without-lowest .ensures _ (low .ensures))
 
 returns-2 : tie.Need-returns-2 Inv-loop μ-loop
-returns-2 c = let s = c .before in sym (s .loop .inv ∙ members-none (waited (s .before .args .d .now) (s .before .args .leasts .now) (s .before .args .i)) (s .loop .left) (omega arith))
+returns-2 c = let s = c .before in sym (s .loop .inv ∙ members-none (waited (said (s .before .args .d .now)) (s .before .args .leasts .now) (s .before .args .i)) (s .loop .left) (omega arith))
 
 pub settled-row-spec : {M : Type 1} → statement M
 settled-row-spec =

@@ -11,6 +11,7 @@ use Rattle.data_edges.specs.Serial.{leasts-in}
 use Rattle.laws.proofs.Bools.{both-ways, not-passing}
 use Rattle.laws.proofs.Searches.{all-below-more, all-below-nothing}
 use Rattle.laws.proofs.Tests.{all-below-by, all-below-each}
+use Rattle.walk_cells.specs.Tables.{said}
 use Rattle.walk_settled.specs.Settled.{waits-handed-on}
 use Rattle.walk_settled.proofs.settled_waits.Statement.{statement}
 use Rattle.walk_settled.proofs.settled_waits.Tie as tie
@@ -19,7 +20,7 @@ use Rattle.walk_settled.proofs.settled_waits.Lts as lts
 use Rattle.walk_settled.proofs.settled_row.Reads as settled-row-reads
 
 abbrev Inv-loop : tie.InvT-loop
-Inv-loop d leasts maps n i₀ i = (i ≤ n) × (all-below (λ j. waits-handed-on d (leasts-in leasts) (getD maps j 0) j) i ≡ true)
+Inv-loop d leasts maps n i₀ i = (i ≤ n) × (all-below (λ j. waits-handed-on (said d) (leasts-in leasts) (getD maps j 0) j) i ≡ true)
 
 abbrev μ-loop : tie.MeasureT-loop
 μ-loop d leasts maps n i₀ i = n - i
@@ -49,7 +50,7 @@ loop-again : tie.Need-loop-again Inv-loop μ-loop
 loop-again c =
     let s = c .before .before .before .before in
     let given = s .before .args in
-    (search needs, all-below-more (λ j. waits-handed-on (given .d .now) (leasts-in (given .leasts .now)) (getD (given .maps .now) j 0) j) (s .loop .i) (s .loop .inv .1) (sym (c .before .settled-row .ensures) ∙ not-false _ (c .if1 .left)))
+    (search needs, all-below-more (λ j. waits-handed-on (said (given .d .now)) (leasts-in (given .leasts .now)) (getD (given .maps .now) j 0) j) (s .loop .i) (s .loop .inv .1) (sym (c .before .settled-row .ensures) ∙ not-false _ (c .if1 .left)))
 
 returns-2 : tie.Need-returns-2 Inv-loop μ-loop
 returns-2 c = let s = c .before in sym (all-below-by _ _ (λ j b. all-below-each _ (s .loop .i) (s .loop .inv .1) j (omega arith)))

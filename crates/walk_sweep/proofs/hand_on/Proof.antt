@@ -6,7 +6,10 @@ use Rattle.definitions.specs.Basics.{test-bit}
 use Rattle.data_edges.specs.Serial.{leasts-in}
 use Rattle.walk_cells.proofs.Tables.{square-own}
 use Rattle.walk_sweep.proofs.Sweeping.{swept-none, visited}
-use borrow.Author.Needs.{needs}
+use mir.Facts.{toZ-ofZ}
+use mir.Syntax.{w32}
+use mir.Val.{SFits}
+use borrow.Author.Needs.{needs, sfits-of}
 use Rattle.walk_sweep.proofs.hand_on.Statement.{statement}
 use Rattle.walk_sweep.proofs.hand_on.Tie as tie
 
@@ -22,6 +25,10 @@ extent s = s .before .before .before
 
 abbrev taken : tie.After-push-row → tie.After-take
 taken s = s .before .before .before
+
+-- The cell that says as much as any of the row fits.
+top-fits : (s : tie.After-take) → SFits w32 (s .take .result)
+top-fits s = sfits-of (s .take .ok)
 
 has-requires : tie.Need-has-requires
 has-requires c κs = search needs
@@ -41,16 +48,19 @@ index-1-extent : tie.Need-index-1-extent
 index-1-extent c = search needs
 
 extent-requires : tie.Need-extent-requires
-extent-requires c κs = search needs
+extent-requires c κs = let s = c .before .before .before .before .before .before in record { few = s .pre .few; long = s .pre .network .linked .square .cells (s .args .u) (s .pre .inside) }
 
 take-requires : tie.Need-take-requires
-take-requires c κs = search needs
+take-requires c κs =
+    let e = c .before .before in
+    let s = e .before .before .before .before .before .before .before in
+    record { target = record { row = s .pre .inside; few = e .extent .ensures .fits; square = s .pre .network .linked .square }; low = λ k. s .pre .held .most (s .args .u) k; long = s .pre .long }
 
 push-row-requires : tie.Need-push-row-requires
 push-row-requires c κs =
     let t = c .before .before in
     let p = start t .pre in
-    record { below = p .below; few = extent t .extent .ensures .fits; linked = p .network .linked; ready = t .take .ensures .ready }
+    rw (toZ-ofZ (top-fits t)) (record { below = p .below; few = extent t .extent .ensures .fits; linked = p .network .linked; ready = t .take .ensures .ready })
 
 mul-push-waits : tie.Need-mul-push-waits
 mul-push-waits c = search needs
@@ -70,7 +80,7 @@ push-waits-requires c κs =
     let t = taken p in
     let s = start t in
     let S = p .push-row .ensures .square in
-    record { few = extent t .extent .ensures .fits; inside = λ i h. omega (arith, s .pre .network .waits (s .args .u) i h, S .rows); square = square-own S; clear = t .take .ensures .ready .clear }
+    record { few = extent t .extent .ensures .fits; inside = λ i h. omega (arith, s .pre .network .waits (s .args .u) i h, S .rows); square = square-own S; movable = t .take .ensures .ready .movable }
 
 same-length : tie.Need-same-length
 same-length c = search needs
@@ -80,7 +90,7 @@ returns-2 c =
     let p = c .before .before .before .before .before .before .before in
     let t = taken p in
     let took = t .take .ensures in
-    (visited _ (leasts-in (start t .args .leasts .now)) (start t .args .waiting .now) _ _ _ _ _ _ _ _ _ _ _ _ _ (extent t .extent .ensures) took (removed t .remove .ensures) (p .push-row .ensures) (c .before .push-waits .ensures _ _), took .long)
+    (visited _ (leasts-in (start t .args .leasts .now)) (start t .args .waiting .now) _ _ _ _ _ _ _ _ _ _ _ _ _ (extent t .extent .ensures) took (removed t .remove .ensures) (p .push-row .ensures) (c .before .push-waits .ensures _ _), took .ready .movable .long)
 
 pub hand-on-spec : {M : Type 1} → statement M
 hand-on-spec =

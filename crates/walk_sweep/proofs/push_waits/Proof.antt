@@ -11,7 +11,8 @@ use Rattle.laws.proofs.Maps.{removed-lt}
 use Rattle.walk_cells.proofs.Tables.{square-own}
 use Rattle.walk_lift.specs.Lifts.{lent}
 use Rattle.walk_edge.specs.Columns.{HandedAll, Only}
-use Rattle.walk_edge.proofs.Handing.{handed-row, timely-columns}
+use Rattle.walk_cells.proofs.Values.{gain-delta, gain-small}
+use Rattle.walk_edge.proofs.Handing.{handed-row, timely-columns, timely-on}
 use Rattle.walk_sweep.proofs.Handing.{Told, left-within, told-start, told-turn, told-end}
 use Rattle.walk_sweep.proofs.push_waits.Statement.{statement}
 use Rattle.walk_sweep.proofs.push_waits.Tie as tie
@@ -43,7 +44,7 @@ Hands s u number =
 handed : (s : tie.After-without-lowest Inv-loop μ-loop) (u : ℕ) (number : List ℕ) → Hands s u number
 handed s u number =
     let a = turn s .before .args in
-    handed-row (wait s u) number (a .row .now) (a .width) (turn s .before .pre .clear) _ _ _ _ _ _ _ (omega arith) (omega arith) refl (omega arith) (s .before .before .raise-by .ensures) (timely-columns (wait s u) number _ refl)
+    handed-row (wait s u) number (a .row .now) (a .width) (turn s .before .pre .movable) _ _ _ _ _ _ _ (omega (arith, turn s .before .fits .least .fits)) refl (gain-delta (a .least)) (s .before .before .raise-by .ensures) (timely-on (a .width)) (timely-columns (wait s u) number _ refl)
 
 loop-holds : tie.Need-loop-holds Inv-loop μ-loop
 loop-holds c = (λ j h. h, λ u number. told-start _ _ _ _ _ _ _ (c .pre .square))
@@ -56,8 +57,14 @@ raise-by-requires c κs =
     let at-loop = c .before .before .before in
     let p = at-loop .before .pre in
     let low = c .before .lowest in
-    let S = at-loop .loop .inv .1 0 [] .square in
-    (low .ensures .below, record { row = omega (arith, p .inside (low .result) (at-loop .loop .inv .0 (low .result) (low .ensures .member)), S .rows); few = p .few; square = square-own S })
+    let S = at-loop .loop .inv .1 0 [] .square in (
+      low .ensures .below,
+      record {
+        target = record { row = omega (arith, p .inside (low .result) (at-loop .loop .inv .0 (low .result) (low .ensures .member)), S .rows); few = p .few; square = square-own S };
+        movable = p .movable;
+        small = gain-small (at-loop .before .args .least) (omega (arith, at-loop .before .fits .least .fits));
+      },
+    )
 
 without-lowest-requires : tie.Need-without-lowest-requires Inv-loop μ-loop
 without-lowest-requires c κs = omega arith

@@ -4,6 +4,7 @@ use Prim.Native.Nat.{_-_, _≤_, _<_}
 use native.Mathlib.Omega.{arith}
 use lib.ListN.{length}
 use Rattle.data_edges.specs.Serial.{leasts-in}
+use Rattle.walk_cells.proofs.Tables.{held-more}
 use Rattle.walk_sweep.specs.Graphs.{SweptBy, visits}
 use Rattle.walk_sweep.proofs.Sweeping.{network-then, swept-all, swept-down, swept-none, swept-part}
 use borrow.Author.Needs.{needs}
@@ -51,7 +52,7 @@ hand-on-requires c κs =
     let p = start t .pre in
     let S = t .loop .inv .1 .square in
     let u = c .before .before .next-step .ensures .0 in
-    record { below = omega (arith, u, p .few); inside = omega (arith, u, p .inside, S .rows); few = p .narrow; network = network-then (p .network) S; long = t .loop .inv .2 }
+    record { below = omega (arith, u, p .few); inside = omega (arith, u, p .inside, S .rows); few = p .narrow; network = network-then (p .network) S; held = held-more (omega (arith, t .loop .inv .0, p .room, p .few)) (t .loop .inv .1 .held (p .level) (p .held)); long = t .loop .inv .2 }
 
 rest-of-requires : tie.Need-rest-of-requires Inv-loop μ-loop
 rest-of-requires c κs = search needs

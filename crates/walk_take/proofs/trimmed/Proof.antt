@@ -1,9 +1,16 @@
 -- `walk_take::trimmed` meets its contract. Invariant: from w on no column holds a weight. What falls: w.
-use mathlib.Core.Path.{sym, _∙_}
+use mathlib.Core.Path.{_≡_, sym, ap, _∙_}
+use Prim.Native.Nat.{_-_}
 use native.Mathlib.Omega.{arith}
 use Rattle.walk_take.specs.Rows.{Trimmed}
 use Rattle.walk_take.proofs.Taking.{trimmed-turn}
-use borrow.Author.Needs.{needs}
+use lib.Dec.{ltb}
+use lib.IntN.{ℤ}
+use mir.Facts.{toZ-ofZ}
+use borrow.Author.Needs.{needs, sfits-of}
+use Rattle.walk_cells.specs.Cells.{value}
+use Rattle.walk_cells.specs.Tables.{cell-of}
+use Rattle.walk_cells.proofs.Tables.{cell-in}
 use Rattle.walk_take.proofs.trimmed.Statement.{statement}
 use Rattle.walk_take.proofs.trimmed.Tie as tie
 
@@ -38,7 +45,15 @@ loop-less : tie.Need-loop-less Inv-loop μ-loop
 loop-less c = search needs
 
 loop-again : tie.Need-loop-again Inv-loop μ-loop
-loop-again c = trimmed-turn _ _ _ (c .before .before .before .before .loop .inv) (omega arith) (sym (c .before .is-walk .ensures) ∙ c .if1 .left)
+loop-again c =
+    let tested = c .before in
+    let read = tested .before in
+    let at-loop = read .before .before in
+    let start = at-loop .before in
+    let cells = start .args .cells .now in
+    let place = cell-in cells (at-loop .loop .w - 1) (omega (arith, at-loop .loop .inv .fits, start .pre .long, read .before .loop-test .taken)) in
+    let says : tested .is-walk .result ≡ ltb 0 (value (cell-of cells (at-loop .loop .w - 1))) = tested .is-walk .ensures ∙ ap (λ (x : ℤ). ltb 0 (value x)) (toZ-ofZ (sfits-of (read .is-walk-arg .given)) ∙ place) in
+    trimmed-turn cells _ (at-loop .loop .w) (at-loop .loop .inv) (omega (arith, read .before .loop-test .taken)) (sym says ∙ c .if1 .left)
 
 returns-2 : tie.Need-returns-2 Inv-loop μ-loop
 returns-2 c = c .before .loop .inv
