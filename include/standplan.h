@@ -10,7 +10,7 @@
  * Threads: calls are safe from several threads at once, unless one writes to memory that another has lent at that time. So a plan may be
  * shared by any number of runs; a run is held by one thread at a time.
  *
- * Stack, measured on x86-64 Linux (docs/GUIDE.md has the command), at most: judge and waits 72 kB, plan and starts 74 kB, steps 18 kB, begin, tick and finish 4 kB.
+ * Stack, measured on x86-64 Linux (docs/GUIDE.md has the command), at most: judge and waits 78 kB, plan and starts 80 kB, steps 18 kB, begin, tick and finish 4 kB.
  * STANDPLAN_STACK bytes are enough for any call; the least stack that a thread may have (PTHREAD_STACK_MIN) is not.
  *
  * Version 2.0.0 changed the runner's calls (request L6): standplan_begin is lent the least durations, the state has them, and standplan_steps is new; it gives

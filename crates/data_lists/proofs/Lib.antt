@@ -1,3 +1,5 @@
 pub mod Laws
 pub mod Linking
+pub mod Appending
 pub mod Following
+pub mod Returning

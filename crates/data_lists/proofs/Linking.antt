@@ -1,4 +1,4 @@
--- The loop over the words: it starts with empty lists, a word put before its list keeps it, and its end is the lists of all words.
+-- The loop over the words, as far as adjacency lists go: it starts with empty ones, and a word put before its list makes them those of one word more.
 use mathlib.Core.Path.{_≡_, sym, ap, _∙_}
 use mathlib.Core.Bool.{cond}
 use mathlib.Core.List.{List}
@@ -10,15 +10,14 @@ use lib.Dec.{eqb}
 use lib.ListN.{length, getD, set, replicate, getD-replicate, length-set}
 use lib.Seq.{getD-set-same, getD-set-other}
 use borrow.Author.Tests.{eq-eqb, ne-eqb}
-use Rattle.definitions.specs.Limits.{most-edges}
-use Rattle.data_edges.specs.Words.{Light, unpack}
+use Rattle.data_edges.specs.Words.{unpack}
 use Rattle.data_edges.proofs.Digits.{from-small}
 use Rattle.laws.proofs.Bools.{same-or-not, cond-true, cond-false}
-use Rattle.data_lists.specs.Lists.{Empty, last-from, Lists, put-first}
+use Rattle.data_lists.specs.Lists.{Empty, last-from, put-first}
 
 -- The lists of the first k words.
 pub record Linked (es lists : List ℕ) (k : ℕ) : Type 0 where
-  pub long : 64 + length es ≤ length lists
+  pub long : 64 + length es + length es < length lists
   pub heads : (u : ℕ) → u < 64 → getD lists u 0 ≡ last-from es u k
   pub nexts : (i : ℕ) → i < k → getD lists (64 + i) 0 ≡ last-from es (unpack (getD es i 0) .from) i
 
@@ -26,7 +25,7 @@ pub record Linked (es lists : List ℕ) (k : ℕ) : Type 0 where
 pub zeros-empty : (k : ℕ) → 64 ≤ k → Empty (replicate k 0)
 zeros-empty k h u b = getD-replicate {A = ℕ} k u 0 0 (omega arith)
 
-pub linked-none : {es lists : List ℕ} → 64 + length es ≤ length lists → Empty lists → Linked es lists 0
+pub linked-none : {es lists : List ℕ} → 64 + length es + length es < length lists → Empty lists → Linked es lists 0
 unfolding last-from
 linked-none long empty = record { long = long; heads = empty; nexts = λ i b. absurd (let f : ⊥ = omega arith in f) }
 
@@ -74,6 +73,3 @@ module _ (es lists : List ℕ) (k from : ℕ) (small : k < length es) (start : f
   unfolding put-first
   linked-more =
       record { long = omega (arith, L .long, first-length lists from k); heads = λ u b. head-more u b (same-or-not u from); nexts = λ i b. next-more i b (same-or-not i k) }
-
-pub linked-all : (es lists : List ℕ) (k : ℕ) → length es ≤ most-edges → Light es → k ≡ length es → Linked es lists k → Lists es lists
-linked-all es lists k few light e L = record { few = few; light = light; heads = λ u b. L .heads u b ∙ ap (last-from es u) e; nexts = λ i b. L .nexts i (omega arith); long = L .long }

@@ -122,7 +122,7 @@ fn serialize(
     if judge_waits::is_inconsistent(reach, n) {
         return refused(Refusal::Inconsistent, true);
     }
-    judge_waits::wait_maps(es, reach, sets, maps);
+    judge_waits::wait_maps(es, lists, reach, sets, maps);
     put_in(es, lists, leasts, order, n, allow, maps)
 }
 

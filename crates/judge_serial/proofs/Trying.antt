@@ -3,9 +3,10 @@ use mathlib.Core.Path.{_≡_, ap, refl, subst, sym, _∙_}
 use mathlib.Core.Bool.{Bool, true, false, not, _||_}
 use mathlib.Core.Logic.{_↔_, _⊎_, inl, inr}
 use mathlib.Core.List.{List, _++_}
-use Prim.Native.Nat.{ℕ, _<_, _≤_}
+use Prim.Native.Nat.{ℕ, zero, suc, _%_, _<_, _≤_}
 use native.Mathlib.Omega.{arith}
-use lib.ListN.{replicate, getD-replicate}
+use lib.IntN.{ℤ}
+use lib.ListN.{getD, replicate, getD-replicate}
 use borrow.Author.Tests.{le-leb, leb-true, lt-ltb, not-true}
 use Rattle.definitions.specs.Answers.{closes-circle, infeasible, unserializable}
 use Rattle.definitions.specs.Anchors.{WellPosed, is-source}
@@ -18,8 +19,12 @@ use Rattle.definitions.specs.Waits.{serialized, wait-maps}
 use Rattle.demands.proofs.Sheets.{feasible-iff, not-8, serializable-iff, serialized-rooted}
 use Rattle.data_edges.specs.Serial.{Within, wait-edges}
 use Rattle.data_edges.proofs.Serializing.{serialized-maps}
+use Rattle.walk_cells.specs.Cells.{value}
+use Rattle.walk_cells.specs.Tables.{cell-at, read-by, said}
+use Rattle.walk_cells.proofs.Tables.{read-by-at, said-at}
 use Rattle.walk_heaviest.specs.Settling.{Supported}
 use Rattle.laws.proofs.Bools.{bool-cases, both-ways, not-passing, or-left}
+use Rattle.laws.proofs.Maps.{test-above}
 use Rattle.laws.proofs.Tests.{all-by, all-each, any-none, tabulate-at}
 use Rattle.data_relations.specs.Rows.{row-bit}
 use Rattle.walk_settled.specs.Settled.{hand, handed-on, source-column}
@@ -55,6 +60,22 @@ module _ (least : ℕ → ℕ) {n : ℕ} {g : List Edge} {maps : List ℕ} (few 
 pub sole-source : (v : ℕ) → v < 64 → row-bit (replicate 64 1) v 0 ≡ true
 unfolding test-bit
 sole-source v b = ap (λ (m : ℕ). test-bit m 0) (getD-replicate 64 v 1 0 b)
+
+source-alone : (v a : ℕ) → v < 64 → row-bit (replicate 64 1) v a ≡ true → a ≡ 0
+source-alone v zero b h = refl
+source-alone v (suc a) b h = absurd (both-ways (ap (λ (m : ℕ). test-bit m (suc a)) (sym (getD-replicate 64 v 1 0 b)) ∙ h) (test-above 1 1 (suc a) (omega arith) (omega arith)))
+
+-- Where its column is the first, that column says what is read by its number.
+pub first-column : {n : ℕ} {es : List Edge} (number : List ℕ) (d : List (List ℤ)) → n ≤ 64 → getD number 0 0 ≡ 0 → Offsets n es (replicate 64 1) (read-by number d) → Offsets n es (replicate 64 1) (said d)
+first-column number d few first cells well posed gains a inside support v b member =
+    let e = source-alone v a (omega arith) member in
+    let k : getD number 0 0 % 64 ≡ 0 = omega (arith, first) in
+    ap (entry (said d) v) e
+    ∙ said-at d v 0
+    ∙ ap (λ (j : ℕ). value (cell-at d v j)) (sym k)
+    ∙ sym (read-by-at number d v 0 (omega arith))
+    ∙ ap (entry (read-by number d) v) (sym e)
+    ∙ cells well posed gains a inside support v b member
 
 -- A tried column shows that no closed walk is above 0.
 tried-nonpositive : {n : ℕ} {es : List Edge} {d : List (List ℕ)} → 0 < n → Shape n (members es) → Rooted n (members es) → Tried es d → NonPositive (members es)

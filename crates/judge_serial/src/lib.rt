@@ -58,7 +58,7 @@ fn closes_circle(es: &[u64], maps: &[u64; 64], n: usize) -> bool
     !order_steps::arrange(&rows, n, &mut order)
 }
 
-// Whether start times keep edges and waits while each step lasts its least: whether the source's column of the working table is settled. The source is the only anchor.
+// Whether start times keep edges and waits while each step lasts its least: whether the source's column of the working table is settled. The source is the only anchor, and its column the first.
 // Of edges to which 10 applies nothing is promised.
 fn leaves_times(
     es: &[u64],
@@ -72,8 +72,19 @@ fn leaves_times(
     ensures { λ r. ⌜ (Well n (members (graph (now (es .entry)))) → Gains (members (graph (now (es .entry)))) most-gain → SheetLeasts (leasts-in (now (leasts .entry))) (members (graph (now (es .entry)))) → now (maps .entry) ≡ wait-maps n (graph (now (es .entry))) → closes-circle n (serialized n (leasts-in (now (leasts .entry))) (graph (now (es .entry)))) ≡ false → r ≡ not (infeasible n (serialized n (leasts-in (now (leasts .entry))) (graph (now (es .entry)))))) ⌝ }
 {
     let mut d = [[walk_cells::NONE; 64]; 64];
+    let mut number = [64u8; 64];
     let sets = [1u64; 64];
-    if !walk_heaviest::walks_if_possible(&mut d, es, lists, leasts, maps, &sets, order, n) {
+    if !walk_heaviest::walks_if_possible(
+        &mut d,
+        &mut number,
+        es,
+        lists,
+        leasts,
+        maps,
+        &sets,
+        order,
+        n,
+    ) {
         return false;
     }
     if walk_cells::is_none(d[0][0]) {

@@ -5,7 +5,7 @@ use mathlib.Core.List.{List, map}
 use Prim.Native.Nat.{ℕ, _+_, _<_, _≤_}
 use native.Mathlib.Omega.{arith}
 use lib.Dec.{eqb, ltb}
-use lib.ListN.{length, getD, length-set, set, take}
+use lib.ListN.{length, getD, length-set, replicate, set, take}
 use lib.Seq.{ext-getD}
 use borrow.Author.Tests.{eq-eqb, eqb-true, lt-ltb, ltb-true, not-true}
 use Rattle.definitions.specs.Anchors.{in-anchor-set}
@@ -15,13 +15,14 @@ use Rattle.definitions.specs.Links.{Edge, late-into, usable}
 use Rattle.definitions.specs.Rounds.{after-reaches}
 use Rattle.definitions.specs.Waits.{wait-count, wait-map, wait-maps, waits-for}
 use Rattle.data_edges.specs.Words.{graph, unpack}
+use Rattle.data_lists.proofs.Returning.{Passes}
 use Rattle.laws.proofs.Bools.{and-join, and-split, both-ways, not-passing, same-test}
 use Rattle.laws.proofs.Counts.{sum-below-same, select-length}
 use Rattle.laws.proofs.Maps.{same-map}
 use Rattle.laws.proofs.Searches.{any-below-same, any-snoc, map-take-more}
 use Rattle.laws.proofs.Tests.{any-by, any-has, tabulate-length}
 use Rattle.data_relations.specs.Rows.{row-bit, Gathered}
-use Rattle.data_relations.proofs.Gathering.{store-bit}
+use Rattle.data_relations.proofs.Gathering.{pass-all, pass-none, store-bit}
 use Rattle.theory.proofs.Usables.{late-into-iff, members-usable, usable-members, usable-shape}
 use Rattle.theory.specs.Counts.{count-below}
 use Rattle.theory.proofs.WaitCounts.{wait-count-members}
@@ -54,11 +55,23 @@ module _ (reach sets maps : List ℕ) (e : Edge) (long : length maps ≡ 64) whe
       same : (w a : ℕ) → (eqb w i && (row-bit reach j a && not (late-into a e) && not (row-bit sets i a))) ≡ holds-up reach sets w a e
       same w a = rw (to, from, back)
 
--- The words passed over, and one more.
+-- The words passed over: none, one more, all.
+pub held-start : (reach sets es maps : List ℕ) → maps ≡ replicate 64 0 → Gathered (holds-up reach sets) (graph (take 0 es)) maps
+unfolding graph
+held-start reach sets es maps blank = rw blank (pass-none (holds-up reach sets) unpack es)
+
 pub held-more : (reach sets es maps maps′ : List ℕ) (k : ℕ) → k < length es → Gathered (holds-up reach sets) (graph (take k es)) maps → Held (holds-up reach sets) (unpack (getD es k 0)) maps maps′ → Gathered (holds-up reach sets) (graph (take (k + 1) es)) maps′
 unfolding graph
 held-more reach sets es maps maps′ k b G H =
     record { long = H .long; bits = λ i a. H .bits i a ∙ ap (λ (t : Bool). t || holds-up reach sets i a (unpack (getD es k 0))) (G .bits i a) ∙ sym (ap (any (holds-up reach sets i a)) (map-take-more unpack es k 0 b) ∙ any-snoc (holds-up reach sets i a) (map unpack (take k es)) (unpack (getD es k 0))) }
+
+pub held-end : (reach sets es maps : List ℕ) → Gathered (holds-up reach sets) (graph (take (length es) es)) maps → Gathered (holds-up reach sets) (graph es) maps
+unfolding graph
+held-end reach sets es maps G = pass-all (holds-up reach sets) unpack es (length es) (omega arith) G
+
+-- A word that is no return may be passed over.
+pub held-pass : (reach sets es maps : List ℕ) → Passes (λ k. Gathered (holds-up reach sets) (graph (take k es)) maps) es
+held-pass reach sets es maps k b ahead G = held-more reach sets es maps maps k b G (held-none reach sets maps (unpack (getD es k 0)) (G .long) ahead)
 
 module _ {n : ℕ} {g : List Edge} {reach sets : List ℕ} (known : Known n g reach sets) where
   -- An anchor that reaches something is below n.

@@ -1,5 +1,6 @@
 // Refusal 11 and the waits, from what reaches what and the anchor sets: see specs/Reaching.antt.
 ghost use mathlib.Core.Path.{_≡_};
+ghost use mathlib.Core.Bool.{true};
 ghost use mathlib.Core.List.{List, flatMap};
 ghost use Prim.Native.Nat.{ℕ, _≤_};
 ghost use lib.ListN.{length, getD, replicate};
@@ -8,6 +9,7 @@ ghost use Rattle.definitions.specs.Basics.{any-below, select-below, tabulate, t
 ghost use Rattle.definitions.specs.Links.{Edge};
 ghost use Rattle.definitions.specs.Waits.{wait-count, wait-maps};
 ghost use Rattle.data_edges.specs.Words.{unpack, graph};
+ghost use Rattle.data_lists.specs.Lists.{Lists};
 ghost use Rattle.data_relations.specs.Rows.{row-bit, Gathered};
 ghost use Rattle.judge_waits.specs.Reaching.{Held, Reaches, Known, holds-up};
 
@@ -20,14 +22,11 @@ pub fn is_inconsistent(reach: &[u64; 64], n: usize) -> bool
     data_relations::has_loop(reach, n)
 }
 
-// One edge: where it is backward, what reaches its start, may use it and is not in its end's set comes into the map of its end.
+// A return: what reaches its start, may use it and is not in its end's set comes into the map of its end.
 fn hold_up(maps: &mut [u64; 64], w: u64, reach: &[u64; 64], sets: &[u64; 64])
-    requires { ⌜ length (now maps) ≡ 64 ⌝ }
+    requires { ⌜ (length (now maps) ≡ 64) × (unpack w .back ≡ true) ⌝ }
     ensures { λ r. ⌜ Held (holds-up (now (reach .entry)) (now (sets .entry))) (unpack w) (now (maps .entry)) (now (maps .exit)) ⌝ }
 {
-    if !data_edges::is_back(w) {
-        return;
-    }
     let j = data_edges::edge_from(w);
     let i = data_edges::edge_to(w);
     let users = data_edges::usable_by(reach[j], w);
@@ -37,15 +36,23 @@ fn hold_up(maps: &mut [u64; 64], w: u64, reach: &[u64; 64], sets: &[u64; 64])
 }
 
 // The waits of a sheet of n steps, into maps that are blank, bit a of map i: each backward edge from j to i makes i wait for what reaches j, but a late one not for i itself.
-pub fn wait_maps(es: &[u64], reach: &[u64; 64], sets: &[u64; 64], maps: &mut [u64; 64])
-    requires { ⌜ now maps ≡ replicate 64 0 ⌝ }
+pub fn wait_maps(
+    es: &[u64],
+    lists: &[u16],
+    reach: &[u64; 64],
+    sets: &[u64; 64],
+    maps: &mut [u64; 64],
+)
+    requires { ⌜ Lists (now es) (now lists) × (now maps ≡ replicate 64 0) ⌝ }
     ensures bits { λ r. ⌜ Gathered (holds-up (now (reach .entry)) (now (sets .entry))) (graph (now (es .entry))) (now (maps .exit)) ⌝ }
     ensures definition { λ r. ⌜ ((n : ℕ) → Known n (graph (now (es .entry))) (now (reach .entry)) (now (sets .entry)) → now (maps .exit) ≡ wait-maps n (graph (now (es .entry)))) ⌝ }
 {
-    let mut k = 0;
-    while k < es.len() {
-        hold_up(maps, es[k], reach, sets);
-        k += 1;
+    let mut at = 64 + es.len();
+    let mut k = data_indices::index(lists[at]);
+    while k != 0 {
+        hold_up(maps, es[k - 1], reach, sets);
+        at += 1;
+        k = data_indices::index(lists[at]);
     }
 }
 

@@ -13,6 +13,7 @@ use Rattle.definitions.specs.Basics.{test-bit}
 use Rattle.definitions.specs.Links.{Edge, Forward, UsableFrom, late-into, members}
 use Rattle.data_edges.specs.Words.{graph, unpack}
 use Rattle.data_edges.proofs.Places.{graph-at, graph-place}
+use Rattle.data_lists.proofs.Returning.{Passes}
 use Rattle.laws.proofs.Bools.{and-join, and-split, bool-cases, both-ways, not-passing}
 use Rattle.laws.proofs.Maps.{test-zero}
 use Rattle.data_relations.proofs.Gathering.{Made, made-no-row}
@@ -127,6 +128,10 @@ module _ (es rows₀ : List ℕ) where
   pub homing-turn : (rows rows′ : List ℕ) (marks marks′ k : ℕ) → k < length es → HomingAll es rows₀ rows marks k → Returned (unpack (getD es k 0)) rows rows′ marks marks′ → HomingAll es rows₀ rows′ marks′ (k + 1)
   homing-turn rows rows′ marks marks′ k inside S R =
       record { long = R .long; marked = λ a v q. R .marked a v q ∙ S .marked a v (not-passing (test-bit marks v) (λ h. both-ways (R .marks v h) q)); each = λ plain a. record { sound = homing-sound rows rows′ marks marks′ k inside S R plain a; covers = λ st e m i q gives. homing-covers rows rows′ marks marks′ k inside S R plain a st e m q gives i } }
+
+  -- A word that is no return may be passed over.
+  pub homing-pass : (rows : List ℕ) (marks : ℕ) → Passes (HomingAll es rows₀ rows marks) es
+  homing-pass rows marks k inside ahead S = homing-turn rows rows marks marks k inside S (returned-idle (unpack (getD es k 0)) rows marks (S .long) ahead)
 
   -- Every edge is the edge of a word.
   pub homing-end : (rows : List ℕ) (marks k : ℕ) → length es ≤ k → HomingAll es rows₀ rows marks k → HomedAll (members (graph es)) rows₀ rows marks

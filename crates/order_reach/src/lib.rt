@@ -1,12 +1,11 @@
 // Which anchors reach which vertices: each step hands on, along its edges, the anchors of its row, in an order and back, until nothing is left to hand on. See specs/Pushes.antt.
 use data_edges::edge_from;
 use data_edges::edge_to;
-use data_edges::is_back;
 use data_edges::is_counted;
 use data_edges::is_late;
 use data_edges::usable_by;
 ghost use mathlib.Core.Path.{_≡_};
-ghost use mathlib.Core.Bool.{cond, false};
+ghost use mathlib.Core.Bool.{cond, true, false};
 ghost use Prim.Native.Nat.{_<_, _≤_};
 ghost use lib.ListN.{length, replicate};
 ghost use Rattle.data_relations.specs.Sets.{AnchorSets};
@@ -141,14 +140,11 @@ fn strip(rows: &mut [u64; 64], sets: &[u64; 64], n: usize)
     }
 }
 
-// One edge hands on what its start has, where it is a return.
+// A return hands on what its start has.
 fn push_return(rows: &mut [u64; 64], marks: u64, w: u64) -> u64
-    requires { ⌜ length (now rows) ≡ 64 ⌝ }
+    requires { ⌜ (length (now rows) ≡ 64) × (unpack w .back ≡ true) ⌝ }
     ensures { λ r. ⌜ Returned (unpack w) (now (rows .entry)) (now (rows .exit)) marks r ⌝ }
 {
-    if !is_back(w) {
-        return marks;
-    }
     let from = edge_from(w);
     let to = edge_to(w);
     let h = usable_by(rows[from], w);
@@ -156,15 +152,17 @@ fn push_return(rows: &mut [u64; 64], marks: u64, w: u64) -> u64
 }
 
 // Every return, one after another. The marks of the rows that grew.
-fn push_returns(rows: &mut [u64; 64], es: &[u64]) -> u64
-    requires { ⌜ length (now rows) ≡ 64 ⌝ }
+fn push_returns(rows: &mut [u64; 64], es: &[u64], lists: &[u16]) -> u64
+    requires { ⌜ WithRows (now es) (now lists) (now rows) ⌝ }
     ensures { λ r. ⌜ HomedAll (members (graph (now (es .entry)))) (now (rows .entry)) (now (rows .exit)) r ⌝ }
 {
     let mut marks = 0;
-    let mut k = 0;
-    while k < es.len() {
-        marks = push_return(rows, marks, es[k]);
-        k += 1;
+    let mut at = 64 + es.len();
+    let mut k = data_indices::index(lists[at]);
+    while k != 0 {
+        marks = push_return(rows, marks, es[k - 1]);
+        at += 1;
+        k = data_indices::index(lists[at]);
     }
     marks
 }
@@ -184,7 +182,7 @@ pub fn reach(
     ensures nothing_new { λ r. ⌜ (r ≡ false → Stripped (now (sets .entry)) n (now (rows .exit))) ⌝ }
 {
     strip(rows, sets, n);
-    let mut marks = push_returns(rows, es);
+    let mut marks = push_returns(rows, es, lists);
     if marks == 0 {
         return false;
     }

@@ -1,7 +1,7 @@
--- The tables of edges that can be scheduled and are well-posed are orderly: a member's cell is not empty, and who makes b needless makes needless what b does.
+-- The tables of edges that can be scheduled and are well-posed are orderly: a member's cell is not empty, who makes b needless makes needless what b does, and before the source there is nobody.
 use mathlib.Core.Path.{_≡_, refl, sym, subst, _∙_}
 use mathlib.Core.Bool.{true}
-use mathlib.Core.Logic.{_≢_}
+use mathlib.Core.Logic.{_⊎_, inl, inr, _≢_}
 use mathlib.Core.List.{List}
 use Prim.Native.Nat.{ℕ, _+_, _<_, _≤_}
 use native.Mathlib.Omega.{arith}
@@ -11,7 +11,7 @@ use Rattle.definitions.specs.Plan.{offset, offset-row}
 use Rattle.definitions.specs.Rounds.{entry}
 use Rattle.plan_deciding.specs.Working.{Holds, Orderly, covering, member}
 use Rattle.plan_deciding.proofs.Laws.{member-anchor, member-below as row-member-below, overriding-same}
-use Rattle.laws.proofs.Bools.{and-join, and-split}
+use Rattle.laws.proofs.Bools.{and-join, and-split, same-or-not}
 use Rattle.theory.specs.Graphs.{Acyclic, Overrides, Well}
 use Rattle.theory.proofs.DecidingSets.{overrides-iff}
 use Rattle.theory.proofs.Irredundance.{offset-triangle}
@@ -72,8 +72,18 @@ module _ {n : ℕ} {es : List Edge} (well : Well n (members es)) (posed : WellPo
         omega (arith, H .cells a v p h m, offset-row-iff well posed a v h .1 (in-anchor-set-iff (well .shape) a v .0 (sym (member-anchor H a v p h) ∙ m)))
 
     pub holds-orderly : (v : ℕ) → v < n → Orderly d sets v
-    holds-orderly v h = record { full = λ a m. cell-full v a h m; behind = λ b mb a m. cell-full b a (row-member-below H b v h mb) m; transitive = further-out }
+    holds-orderly v h = record { full = λ a m. cell-full v a h m; behind = λ b mb a m. cell-full b a (row-member-below H b v h mb) m; transitive = further-out; source = alone }
       where
+        alone : (a : ℕ) → member sets 0 a ≡ true → a ≡ 0
+        alone a m = by (same-or-not a 0)
+          where
+            p : a < n
+            p = row-member-below H a 0 (omega arith) m
+
+            by : (a ≡ 0) ⊎ (a ≢ 0) → a ≡ 0
+            by (inl e) = e
+            by (inr o) = absurd (behind-source a 0 p (λ e. o (sym e)) (in-anchor-set-iff (well .shape) a 0 .0 (sym (member-anchor H a 0 p (omega arith)) ∙ m)) refl)
+
         further-out : (a b c : ℕ) → member sets v a ≡ true → member sets v b ≡ true → member sets v c ≡ true → covering d sets v a b ≡ true → covering d sets v b c ≡ true → covering d sets v a c ≡ true
         further-out a b c ma mb mc ab bc =
             let pa = row-member-below H a v h ma in

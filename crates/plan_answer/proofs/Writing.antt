@@ -103,7 +103,7 @@ module _ {question : Question} (n : ℕ) (least : ℕ → ℕ) (g : List Edge) (
       rw e (w (rw e at fits) ∙ ap (λ (m : ℕ). start-times n least (serialized n least g) (delays list) ++ drop m out) (sym (start-times-length n least (serialized n least g) (delays list))))
 
 -- The start times of a list that is not refused have 32 bits.
-module _ {n : ℕ} {least : ℕ → ℕ} {g : List Edge} {d : List (List ℤ)} {sets : List ℕ} (t : Tabulated n least g d sets) (gains : Gains (members g) most-gain) (leasts : SheetLeasts least (members g)) (few : n ≤ most-steps) where
+module _ {n : ℕ} {least : ℕ → ℕ} {g : List Edge} {number : List ℕ} {d : List (List ℤ)} {sets : List ℕ} (t : Tabulated n least g number d sets) (gains : Gains (members g) most-gain) (leasts : SheetLeasts least (members g)) (few : n ≤ most-steps) where
   pub fitting : (question : Question) (os : List Operation) (list : List ℕ) (room : ℕ) → length os ≡ n → ((a : ℕ) → least a ≡ least-at os a) → list-wrong question os list ≡ false → short question n (length list) room ≡ false → Fitting question n least g list
   fitting Judgement os list room long same right h = tt
   fitting Plan os list room long same right h = tt

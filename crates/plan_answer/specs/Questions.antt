@@ -2,7 +2,7 @@
 use mathlib.Core.Path.{_≡_}
 use mathlib.Core.Bool.{Bool, true, false, _||_}
 use mathlib.Core.List.{List, []}
-use Prim.Native.Nat.{ℕ, _+_, _*_, _<_, _≤_}
+use Prim.Native.Nat.{ℕ, _+_, _*_, _<_}
 use lib.Dec.{ltb}
 use lib.IntN.{ℤ}
 use lib.ListN.{length, replicate}
@@ -106,5 +106,5 @@ pub record Writable (question : Question) (n : ℕ) (d : List (List ℤ)) (sets 
 -- The edges of a sheet, and numbers with room for their adjacency lists that hold none yet.
 pub record Listable (n : ℕ) (least : ℕ → ℕ) (es lists : List ℕ) : Type 0 where
   pub sheet : SheetEdges n least es
-  pub room : most-steps + length es ≤ length lists
+  pub room : most-steps + length es + length es < length lists
   pub empty : Empty lists

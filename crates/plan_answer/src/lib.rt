@@ -54,8 +54,12 @@ const FEW_STEPS: usize = 8;
 
 const SOME_STEPS: usize = 16;
 
-// Adjacency lists: a number for each step that there may be, and one for each edge.
+// Adjacency lists: a number for each step that there may be, and one for each edge; behind them the returns, of which there may be as many as edges, and a 0.
 const FEW_EDGES: usize = 256;
+
+const FEW_LISTED: usize = 64 + 2 * FEW_EDGES + 1;
+
+const MOST_LISTED: usize = 64 + 2 * MOST_EDGES + 1;
 
 // ---- from the verdict, the working table and the anchor sets
 
@@ -122,6 +126,7 @@ fn checked(
 // The numbers that are asked for, to the front of those that are lent.
 fn write(
     d: &[[i32; 64]],
+    number: &[u8; 64],
     leasts: &[u16; 64],
     sets: &[u64; 64],
     n: usize,
@@ -130,15 +135,15 @@ fn write(
     out: &mut [u32],
 )
     requires { ⌜ Writable question n (now d) (now sets) (now list) (now out) ⌝ }
-    ensures { λ r. ⌜ ((g : List Edge) → SheetLeasts (leasts-in (now (leasts .entry))) (members g) → Tabulated n (leasts-in (now (leasts .entry))) g (now (d .entry)) (now (sets .entry)) → Fitting question n (leasts-in (now (leasts .entry))) g (now (list .entry)) → now (out .exit) ≡ numbers-of question n (leasts-in (now (leasts .entry))) g (now (list .entry)) ++ drop (length (numbers-of question n (leasts-in (now (leasts .entry))) g (now (list .entry)))) (now (out .entry))) ⌝ }
+    ensures { λ r. ⌜ ((g : List Edge) → SheetLeasts (leasts-in (now (leasts .entry))) (members g) → Tabulated n (leasts-in (now (leasts .entry))) g (now (number .entry)) (now (d .entry)) (now (sets .entry)) → Fitting question n (leasts-in (now (leasts .entry))) g (now (list .entry)) → now (out .exit) ≡ numbers-of question n (leasts-in (now (leasts .entry))) g (now (list .entry)) ++ drop (length (numbers-of question n (leasts-in (now (leasts .entry))) g (now (list .entry)))) (now (out .entry))) ⌝ }
 {
     match question {
         Question::Judgement => {}
         Question::Plan => {
-            plan_table::fill_plan(d, leasts, sets, n, out);
+            plan_table::fill_plan(d, number, leasts, sets, n, out);
         }
         Question::Starts => {
-            plan_starts::fill_starts(d, leasts, sets, n, list, out);
+            plan_starts::fill_starts(d, number, leasts, sets, n, list, out);
         }
     }
 }
@@ -162,8 +167,9 @@ fn answer_on(
     requires { ⌜ Tabulable n (leasts-in (now leasts)) (now es) (now lists) (now d) × Blank (now maps) ⌝ }
     ensures { λ r. ⌜ ((os : List Operation) → StepsHeld n unbounded (now (leasts .entry)) os → Responds question n (leasts-in (now (leasts .entry))) (graph (now (es .entry))) allow os (now (list .entry)) (now (out .entry)) r (now (out .exit)) (now (maps .exit))) ⌝ }
 {
+    let mut number = [64u8; 64];
     let mut sets = [0u64; 64];
-    let found = tabulate(d, es, lists, leasts, n, allow, &mut sets, maps);
+    let found = tabulate(d, &mut number, es, lists, leasts, n, allow, &mut sets, maps);
     let judged = found.verdict;
     let verdict = checked(judged, question, list, unbounded, leasts, n, out.len());
     let answer = Found {
@@ -174,7 +180,7 @@ fn answer_on(
     if !accepted(verdict) {
         return answer;
     }
-    write(d, leasts, &sets, n, question, list, out);
+    write(d, &number, leasts, &sets, n, question, list, out);
     answer
 }
 
@@ -262,7 +268,7 @@ fn answer_edges(
     ensures { λ r. ⌜ ((os : List Operation) → StepsHeld n unbounded (now (leasts .entry)) os → Responds question n (leasts-in (now (leasts .entry))) (graph (now (es .entry))) allow os (now (list .entry)) (now (out .entry)) r (now (out .exit)) (now (maps .exit))) ⌝ }
 {
     if es.len() <= FEW_EDGES {
-        let mut lists = [0u16; 64 + FEW_EDGES];
+        let mut lists = [0u16; FEW_LISTED];
         return answer_listed(
             es,
             &mut lists,
@@ -276,7 +282,7 @@ fn answer_edges(
             maps,
         );
     }
-    let mut lists = [0u16; 64 + MOST_EDGES];
+    let mut lists = [0u16; MOST_LISTED];
     answer_listed(
         es,
         &mut lists,

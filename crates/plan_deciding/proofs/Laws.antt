@@ -3,7 +3,7 @@ use mathlib.Core.Path.{_≡_, refl, sym, ap, ap₂, _∙_}
 use mathlib.Core.Bool.{Bool, true, false, not, _&&_, _||_, and-true, and-false}
 use mathlib.Core.Logic.{_⊎_, inl, inr}
 use mathlib.Core.List.{List}
-use Prim.Native.Nat.{ℕ, _+_, _-_, _<_, _≤_}
+use Prim.Native.Nat.{ℕ, zero, suc, _+_, _-_, _<_, _≤_}
 use native.Mathlib.Omega.{arith}
 use lib.Bits.{bitAnd, and-le-l}
 use lib.Dec.{eqb, leb, ltb}
@@ -14,9 +14,9 @@ use Rattle.definitions.specs.Basics.{any-below, test-bit}
 use Rattle.definitions.specs.Links.{Edge, no-leasts}
 use Rattle.definitions.specs.Plan.{offset, overrides, decides}
 use Rattle.laws.proofs.Bools.{and-join, and-split, bool-cases, both-ways, same-test}
-use Rattle.laws.proofs.Maps.{removed-lt, same-map, test-and, test-zero}
-use Rattle.laws.proofs.Members.{any-member-less, any-member-none}
-use Rattle.laws.proofs.Tests.{any-below-has, any-below-by}
+use Rattle.laws.proofs.Maps.{removed-lt, same-map, test-above, test-and, test-zero}
+use Rattle.laws.proofs.Members.{any-member-less}
+use Rattle.laws.proofs.Tests.{any-below-has, any-below-by, none-any-below}
 use Rattle.definitions.specs.Rounds.{entry}
 use Rattle.data_edges.specs.Serial.{leasts-in}
 use Rattle.plan_deciding.specs.Working.{Full, Holds, Orderly, weight, offset-in, member, reaching, covering, deciding}
@@ -169,9 +169,26 @@ module _ (d : List (List ℕ)) (sets : List ℕ) (v : ℕ) where
     sieving-turn =
         record { inside = λ a h. S .inside a (was-kept a h); part = λ a h. given-of less next rest a (rest-is a) h .1; same = λ a. same-rest a ∙ one-left-out kept left next less x b stood next-is less-is a ∙ S .same a }
 
-  -- No member is left.
-  pub all-left-out : (kept left a : ℕ) → left ≡ 0 → deciding-of kept left a ≡ test-bit kept a
-  all-left-out kept left a e = ap (λ (t : Bool). test-bit kept a && not t) (any-member-none (covering d sets v a) 64 left e) ∙ and-true (test-bit kept a)
+  -- Nobody but step 0 is in its anchor set, so it leaves nobody out.
+  module _ (T : Orderly d sets v) where
+    source-leaves : (a : ℕ) → covering d sets v a 0 ≡ false
+    unfolding covering
+    source-leaves a = by (bool-cases (covering d sets v a 0))
+      where
+        by : (covering d sets v a 0 ≡ true) ⊎ (covering d sets v a 0 ≡ false) → covering d sets v a 0 ≡ false
+        by (inl t) =
+            let x = and-split (not (eqb 0 a)) (member sets 0 a) (and-split (not (eqb 0 a) && member sets 0 a) (reaching d v a 0) t .0) in
+            absurd (both-ways (x .0) (ap not (eq-eqb 0 a (sym (T .source a (x .1))))))
+        by (inr t) = t
+
+    -- No member is left, or step 0 alone.
+    pub all-left-out : (kept left a : ℕ) → left ≤ 1 → deciding-of kept left a ≡ test-bit kept a
+    all-left-out kept left a h =
+        ap (λ (t : Bool). test-bit kept a && not t) (none-any-below (λ b. test-bit left b && covering d sets v a b) 64 (λ b _. by b)) ∙ and-true (test-bit kept a)
+      where
+        by : (b : ℕ) → (test-bit left b && covering d sets v a b) ≡ false
+        by zero = ap (λ (t : Bool). test-bit left 0 && t) (source-leaves a) ∙ and-false (test-bit left 0)
+        by (suc b) = ap (λ (t : Bool). t && covering d sets v a (suc b)) (test-above left 1 (suc b) (omega arith) (omega arith))
 
 -- ---- on the tables of an edge list
 

@@ -65,8 +65,9 @@ pub record Rowed (v : ℕ) (sets : List ℕ) (d : List (List ℤ)) : Type 0 wher
 abbrev pub Full : List (List ℕ) → ℕ → ℕ → Type 0
 Full d v map = (a : ℕ) → test-bit map a ≡ true → 1 ≤ entry d v a
 
--- What the tables of edges that can be scheduled have at v: the cells of members are not empty, and who leaves out a member leaves out what that member does.
+-- What the tables of edges that can be scheduled have at v: the cells of members are not empty, who leaves out a member leaves out what that member does, and the anchor set of step 0 has no other member.
 pub record Orderly (d : List (List ℕ)) (sets : List ℕ) (v : ℕ) : Type 0 where
   pub full : Full d v (getD sets v 0)
   pub behind : (b : ℕ) → member sets v b ≡ true → Full d b (getD sets b 0)
   pub transitive : (a b c : ℕ) → member sets v a ≡ true → member sets v b ≡ true → member sets v c ≡ true → covering d sets v a b ≡ true → covering d sets v b c ≡ true → covering d sets v a c ≡ true
+  pub source : (a : ℕ) → member sets 0 a ≡ true → a ≡ 0

@@ -1,4 +1,4 @@
-// Start times (relative start times) for a list of delays, from the working tables: see crate plan_deciding for what d and sets hold. leasts: the least duration of each step.
+// Start times (relative start times) for a list of delays, from the working tables: see crate plan_deciding for what d, number and sets hold. leasts: the least duration of each step.
 // Every function is safe for any tables with a row for each step; on those of an edge list its answer is the definition's.
 ghost use mathlib.Core.Path.{_≡_};
 ghost use Prim.Native.Nat.{ℕ, _+_, _≤_, min, max};
@@ -6,7 +6,7 @@ ghost use lib.Dec.{eqb};
 ghost use Rattle.definitions.specs.Basics.{all-below, largest, test-bit};
 ghost use Rattle.definitions.specs.Limits.{most-steps};
 ghost use Rattle.definitions.specs.Rounds.{cell};
-ghost use Rattle.walk_cells.specs.Tables.{Rows, said};
+ghost use Rattle.walk_cells.specs.Tables.{Rows, read-by};
 ghost use Rattle.plan_deciding.specs.Working.{Row};
 ghost use Rattle.plan_starts.specs.Times.{Listed, Member, Startable, Started, cut, term, start-at, next-row, row-after};
 
@@ -37,6 +37,7 @@ fn narrow(x: u64) -> u32
 // What the member a adds to the choice for v.
 fn term_of(
     d: &[[i32; 64]],
+    number: &[u8; 64],
     leasts: &[u16; 64],
     list: &[u32],
     old: &[u32; 64],
@@ -44,14 +45,19 @@ fn term_of(
     a: usize,
 ) -> u64
     requires { ⌜ Member v a (now d) (now list) ⌝ }
-    ensures { λ r. ⌜ r ≡ term (said (now (d .entry))) (now (leasts .entry)) (now (list .entry)) (now (old .entry)) v a ⌝ }
+    ensures { λ r. ⌜ r ≡ term (read-by (now (number .entry)) (now (d .entry))) (now (leasts .entry)) (now (list .entry)) (now (old .entry)) v a ⌝ }
 {
-    sum(old[a], list[a], plan_deciding::offset_at(d, leasts, v, a))
+    sum(
+        old[a],
+        list[a],
+        plan_deciding::offset_at(d, number, leasts, v, a),
+    )
 }
 
 // The largest term of the members below n, in their order.
 fn latest(
     d: &[[i32; 64]],
+    number: &[u8; 64],
     leasts: &[u16; 64],
     members: u64,
     n: usize,
@@ -60,7 +66,7 @@ fn latest(
     v: usize,
 ) -> u64
     requires { ⌜ Row v (now d) × Listed n (now list) ⌝ }
-    ensures { λ r. ⌜ r ≡ largest (test-bit members) (term (said (now (d .entry))) (now (leasts .entry)) (now (list .entry)) (now (old .entry)) v) n ⌝ }
+    ensures { λ r. ⌜ r ≡ largest (test-bit members) (term (read-by (now (number .entry)) (now (d .entry))) (now (leasts .entry)) (now (list .entry)) (now (old .entry)) v) n ⌝ }
 {
     let mut most = 0;
     let mut left = members;
@@ -69,7 +75,7 @@ fn latest(
         if n <= a {
             return most;
         }
-        let x = term_of(d, leasts, list, old, v, a);
+        let x = term_of(d, number, leasts, list, old, v, a);
         most = larger(most, x);
         left = data_bits::without_lowest(left);
     }
@@ -79,6 +85,7 @@ fn latest(
 // The start of v by the starts of a row.
 fn start_of(
     d: &[[i32; 64]],
+    number: &[u8; 64],
     leasts: &[u16; 64],
     sets: &[u64; 64],
     n: usize,
@@ -87,18 +94,19 @@ fn start_of(
     v: usize,
 ) -> u32
     requires { ⌜ Row v (now d) × Listed n (now list) ⌝ }
-    ensures { λ r. ⌜ r ≡ start-at (said (now (d .entry))) (now (leasts .entry)) (now (sets .entry)) n (now (list .entry)) (now (old .entry)) v ⌝ }
+    ensures { λ r. ⌜ r ≡ start-at (read-by (now (number .entry)) (now (d .entry))) (now (leasts .entry)) (now (sets .entry)) n (now (list .entry)) (now (old .entry)) v ⌝ }
 {
     if v == 0 {
         return 0;
     }
-    let most = latest(d, leasts, sets[v], n, list, old, v);
+    let most = latest(d, number, leasts, sets[v], n, list, old, v);
     narrow(most)
 }
 
 // One turn of the rule.
 fn turn(
     d: &[[i32; 64]],
+    number: &[u8; 64],
     leasts: &[u16; 64],
     sets: &[u64; 64],
     n: usize,
@@ -106,12 +114,12 @@ fn turn(
     old: &[u32; 64],
 ) -> [u32; 64]
     requires { ⌜ Rows n (now d) × Listed n (now list) ⌝ }
-    ensures { λ r. ⌜ r ≡ next-row (said (now (d .entry))) (now (leasts .entry)) (now (sets .entry)) n (now (list .entry)) (now (old .entry)) ⌝ }
+    ensures { λ r. ⌜ r ≡ next-row (read-by (now (number .entry)) (now (d .entry))) (now (leasts .entry)) (now (sets .entry)) n (now (list .entry)) (now (old .entry)) ⌝ }
 {
     let mut row = [0u32; 64];
     let mut v = 0;
     while v < n {
-        let x = start_of(d, leasts, sets, n, list, old, v);
+        let x = start_of(d, number, leasts, sets, n, list, old, v);
         row[v] = x;
         v += 1;
     }
@@ -134,14 +142,21 @@ fn same(a: &[u32; 64], b: &[u32; 64], n: usize) -> bool
 }
 
 // Turns until one changes nothing, n of them at most.
-fn turns(d: &[[i32; 64]], leasts: &[u16; 64], sets: &[u64; 64], n: usize, list: &[u32]) -> [u32; 64]
+fn turns(
+    d: &[[i32; 64]],
+    number: &[u8; 64],
+    leasts: &[u16; 64],
+    sets: &[u64; 64],
+    n: usize,
+    list: &[u32],
+) -> [u32; 64]
     requires { ⌜ Rows n (now d) × Listed n (now list) ⌝ }
-    ensures { λ r. ⌜ r ≡ row-after (said (now (d .entry))) (now (leasts .entry)) (now (sets .entry)) n (now (list .entry)) n ⌝ }
+    ensures { λ r. ⌜ r ≡ row-after (read-by (now (number .entry)) (now (d .entry))) (now (leasts .entry)) (now (sets .entry)) n (now (list .entry)) n ⌝ }
 {
     let mut row = [0u32; 64];
     let mut k = 0;
     while k < n {
-        let next = turn(d, leasts, sets, n, list, &row);
+        let next = turn(d, number, leasts, sets, n, list, &row);
         if same(&row, &next, n) {
             return next;
         }
@@ -154,6 +169,7 @@ fn turns(d: &[[i32; 64]], leasts: &[u16; 64], sets: &[u64; 64], n: usize, list: 
 // Start times for a list of delays, at the front of the lent numbers.
 pub fn fill_starts(
     d: &[[i32; 64]],
+    number: &[u8; 64],
     leasts: &[u16; 64],
     sets: &[u64; 64],
     n: usize,
@@ -161,9 +177,9 @@ pub fn fill_starts(
     out: &mut [u32],
 )
     requires { ⌜ Startable n (now d) (now list) (now out) ⌝ }
-    ensures { λ r. ⌜ Started n (said (now (d .entry))) (now (leasts .entry)) (now (sets .entry)) (now (list .entry)) (now (out .entry)) (now (out .exit)) ⌝ }
+    ensures { λ r. ⌜ Started n (read-by (now (number .entry)) (now (d .entry))) (now (leasts .entry)) (now (sets .entry)) (now (list .entry)) (now (out .entry)) (now (out .exit)) ⌝ }
 {
-    let row = turns(d, leasts, sets, n, list);
+    let row = turns(d, number, leasts, sets, n, list);
     let mut v = 0;
     while v < n {
         let x = row[v];

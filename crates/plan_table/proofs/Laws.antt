@@ -8,10 +8,10 @@ use native.Mathlib.Omega.{arith}
 use native.Mathlib.Nat.{suc-mul, zero-mul}
 use native.Mathlib.Numerals.{add-one}
 use native.Mathlib.Decide.{decLt}
-use lib.Dec.{eqb}
+use lib.Dec.{eqb, ltb}
 use lib.ListN.{length, getD, set, take, drop, length-append, length-drop, length-set}
 use lib.Seq.{drop-at, drop-drop, ext-getD, getD-drop, getD-set-same, getD-set-other, getD-take}
-use borrow.Author.Tests.{eq-eqb, ne-eqb}
+use borrow.Author.Tests.{eq-eqb, lt-ltb, ltb-true, ne-eqb}
 use borrow.Rule.Slice.PartMut.{putMid}
 use Rattle.laws.proofs.Counts.{row-end}
 use Rattle.definitions.specs.Basics.{tabulate, test-bit}
@@ -19,7 +19,8 @@ use Rattle.definitions.specs.Links.{Edge, members}
 use Rattle.definitions.specs.Plan.{decides, offset, undecided, plan-entry, plan-row, plan-rows, plan-table}
 use Rattle.laws.proofs.Counts.{row-end}
 use Rattle.laws.proofs.Fronts.{laid, laid-at, laid-past, put-rest}
-use Rattle.laws.proofs.Bools.{bool-cases, cond-true, cond-false, same-or-not}
+use Rattle.laws.proofs.Bools.{and-split, bool-cases, cond-true, cond-false, same-or-not}
+use Rattle.laws.proofs.Maps.{test-zero}
 use Rattle.laws.proofs.Tests.{tabulate-length, tabulate-same}
 use Rattle.theory.specs.Graphs.{Lasting}
 use Rattle.theory.proofs.Extras.{decides-extra}
@@ -29,34 +30,46 @@ use Rattle.plan_table.specs.Rows.{Planned, Put, cleared, entry-at, first
 
 -- ---- offsets put into a row, a member at a time
 
--- The row, with the values of the members left put in, is what is asked for.
+-- The row, with the values of the members left put in, is what is asked for; those left are below n.
 pub record Putting (n : ℕ) (value : ℕ → ℕ) (map left : ℕ) (row₀ row : List ℕ) : Type 0 where
   pub long : length row ≡ length row₀
   pub fits : n ≤ length row
+  pub low : (a : ℕ) → test-bit left a ≡ true → a < n
   pub front : (a : ℕ) → a < n → cond (test-bit left a) (value a) (getD row a 0) ≡ cond (test-bit map a) (value a) (getD row₀ a 0)
   pub rest : (a : ℕ) → n ≤ a → getD row a 0 ≡ getD row₀ a 0
 
-pub none-put : (n : ℕ) (value : ℕ → ℕ) (map : ℕ) (row : List ℕ) → n ≤ length row → Putting n value map map row row
-none-put n value map row b = record { long = refl; fits = b; front = λ a _. refl; rest = λ a _. refl }
+-- The map is cut to the members below n: none of them is put yet.
+pub none-put : {n : ℕ} (value : ℕ → ℕ) {map left : ℕ} {row : List ℕ} (first : ℕ) → n ≤ length row → ((a : ℕ) → test-bit first a ≡ ltb a n) → ((a : ℕ) → test-bit left a ≡ (test-bit map a && test-bit first a)) → Putting n value map left row row
+none-put {n} value {map} {left} {row} first b first-is left-is =
+    record { long = refl; fits = b; low = low; front = λ a c. ap (λ (t : Bool). cond t (value a) (getD row a 0)) (same a c); rest = λ a _. refl }
+  where
+    low : (a : ℕ) → test-bit left a ≡ true → a < n
+    low a h = ltb-true a n (sym (first-is a) ∙ and-split (test-bit map a) (test-bit first a) (sym (left-is a) ∙ h) .1)
+
+    same : (a : ℕ) → a < n → test-bit left a ≡ test-bit map a
+    same a c = left-is a ∙ ap (λ (t : Bool). test-bit map a && t) (first-is a ∙ lt-ltb a n c) ∙ and-true (test-bit map a)
 
 module _ {n : ℕ} {value : ℕ → ℕ} {map left : ℕ} {row₀ row : List ℕ} where
   -- A member's value is put in; at another place nothing changes.
-  pub one-put : {x y next : ℕ} → x < n → test-bit left x ≡ true → y ≡ value x → ((j : ℕ) → test-bit next j ≡ (test-bit left j && not (eqb j x)))
+  pub one-put : {y next : ℕ} (x : ℕ) → test-bit left x ≡ true → y ≡ value x → ((j : ℕ) → test-bit next j ≡ (test-bit left j && not (eqb j x)))
       → Putting n value map left row₀ row → Putting n value map next row₀ (set row x y)
-  one-put {x} {y} {next} b stood is next-is P =
-      record { long = length-set row x y ∙ P .long; fits = simp length-set (P .fits); front = λ a c. front a (same-or-not a x) ∙ P .front a c; rest = λ a c. getD-set-other row x a y 0 (λ e. omega arith) ∙ P .rest a c }
+  one-put {y} {next} x stood is next-is P =
+      record { long = length-set row x y ∙ P .long; fits = simp length-set (P .fits); low = λ a h. P .low a (and-split (test-bit left a) (not (eqb a x)) (sym (next-is a) ∙ h) .0); front = λ a c. front a (same-or-not a x) ∙ P .front a c; rest = λ a c. getD-set-other row x a y 0 (λ e. omega (arith, b)) ∙ P .rest a c }
     where
+      b : x < n
+      b = P .low x stood
+
       front : (a : ℕ) → (a ≡ x) ⊎ (a ≢ x) → cond (test-bit next a) (value a) (getD (set row x y) a 0) ≡ cond (test-bit left a) (value a) (getD row a 0)
       front a (inl e) =
           let gone : test-bit next a ≡ false = next-is a ∙ ap (λ (t : Bool). test-bit left a && not t) (eq-eqb a x e) ∙ and-false (test-bit left a) in
-          cond-false _ _ gone ∙ ap (λ (i : ℕ). getD (set row x y) i 0) e ∙ getD-set-same row x y 0 (omega (arith, P .fits)) ∙ is ∙ ap value (sym e) ∙ sym (cond-true _ _ (ap (test-bit left) e ∙ stood))
+          cond-false _ _ gone ∙ ap (λ (i : ℕ). getD (set row x y) i 0) e ∙ getD-set-same row x y 0 (omega (arith, b, P .fits)) ∙ is ∙ ap value (sym e) ∙ sym (cond-true _ _ (ap (test-bit left) e ∙ stood))
       front a (inr p) =
           let kept : test-bit next a ≡ test-bit left a = next-is a ∙ ap (λ (t : Bool). test-bit left a && not t) (ne-eqb a x p) ∙ and-true (test-bit left a) in
           ap₂ (λ (t : Bool) (z : ℕ). cond t (value a) z) kept (getD-set-other row x a y 0 p)
 
-  -- No member below n is left.
-  pub all-put : ((a : ℕ) → a < n → test-bit left a ≡ false) → Putting n value map left row₀ row → Put n (test-bit map) value row₀ row
-  all-put none P = record { long = P .long; front = λ a b. sym (cond-false _ _ (none a b)) ∙ P .front a b; rest = P .rest }
+  -- No member is left.
+  pub all-put : left ≡ 0 → Putting n value map left row₀ row → Put n (test-bit map) value row₀ row
+  all-put none P = record { long = P .long; front = λ a b. sym (cond-false _ _ (ap (λ (x : ℕ). test-bit x a) none ∙ test-zero a)) ∙ P .front a b; rest = P .rest }
 
 -- A cleared row with the offsets of the deciding set is the row of the plan.
 pub row-filled : (d : List (List ℕ)) (leasts sets : List ℕ) (n v map : ℕ) (row row′ : List ℕ) → ((j : ℕ) → test-bit map j ≡ deciding d sets v j) → n ≤ length row → ((a : ℕ) → a < n → getD row a 0 ≡ undecided) → Put n (test-bit map) (offset-in d leasts v) row row′ → row′ ≡ laid (entry-at d leasts sets v) n row
@@ -73,8 +86,6 @@ row-filled d leasts sets n v map row row′ h fits clear P =
     by : (a : ℕ) → Dec (a < n) → getD row′ a 0 ≡ getD (laid f n row) a 0
     by a (yes b) = P .front a b ∙ ap₂ (λ (t : Bool) (x : ℕ). cond t (offset-in d leasts v a) x) (h a) (clear a b) ∙ sym (laid-at f n row a 0 b)
     by a (no b) = let c : n ≤ a = omega arith in P .rest a c ∙ sym (laid-past f n row a 0 c)
-
--- ---- where rows stand
 
 -- ---- a row at a time
 

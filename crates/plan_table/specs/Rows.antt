@@ -6,6 +6,7 @@ use Prim.Native.Nat.{ℕ, zero, suc, _*_, _<_, _≤_}
 use lib.IntN.{ℤ}
 use lib.ListN.{length, getD, drop}
 use Rattle.definitions.specs.Basics.{tabulate}
+use Rattle.definitions.specs.Limits.{most-steps}
 use Rattle.definitions.specs.Links.{Edge, members}
 use Rattle.definitions.specs.Plan.{plan-table, undecided}
 use Rattle.theory.specs.Graphs.{Lasting}
@@ -15,6 +16,11 @@ use Rattle.plan_deciding.specs.Working.{Holds, HoldsLeasts, Orderly, deciding, 
 -- A row of members that do not decide.
 abbrev pub cleared : ℕ → ℕ
 cleared a = undecided
+
+-- A row of n entries has room at the front of the lent numbers.
+pub record Room (n : ℕ) (row : List ℕ) : Type 0 where
+  pub few : n ≤ most-steps
+  pub fits : n ≤ length row
 
 -- The places below n that pass a test have their values, every other is as it was.
 pub record Put (n : ℕ) (test : ℕ → Bool) (value : ℕ → ℕ) (row row′ : List ℕ) : Type 0 where

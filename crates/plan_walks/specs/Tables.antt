@@ -17,8 +17,8 @@ use Rattle.definitions.specs.Waits.{serialized, wait-maps}
 use Rattle.data_edges.specs.Words.{graph}
 use Rattle.plan_deciding.specs.Working.{Holds}
 use Rattle.data_numbers.specs.Codes.{is-given}
-use Rattle.walk_cells.specs.Tables.{Rows, said}
-use Rattle.walk_seed.specs.Seeds.{Empty}
+use Rattle.walk_cells.specs.Tables.{Rows, read-by}
+use Rattle.walk_seed.specs.Seeds.{Blank as Unnumbered, Empty}
 use Rattle.theory.specs.Graphs.{Gains, Serializable, SheetGraph, SheetLeasts, Well}
 use Rattle.judge_waits.specs.Reaching.{Reaches}
 
@@ -40,10 +40,11 @@ pub record Tabulable (n : ℕ) (least : ℕ → ℕ) (es lists : List ℕ) (d : 
 abbrev pub Blank : List ℕ → Type 0
 Blank rows = rows ≡ replicate most-steps 0
 
--- Rows for what reaches what, and maps for the waits, that hold nothing yet.
-pub record Blanks (reach waits : List ℕ) : Type 0 where
+-- Rows for what reaches what, maps for the waits, and numbers of columns, that hold nothing yet.
+pub record Blanks (reach waits number : List ℕ) : Type 0 where
   pub rows : Blank reach
   pub maps : Blank waits
+  pub numbers : Unnumbered number
 
 -- Not 10: some start times keep every edge while each open step lasts its least.
 abbrev pub feasible : ℕ → List Edge → Bool
@@ -59,14 +60,14 @@ pub record Plannable (n : ℕ) (least : ℕ → ℕ) (g : List Edge) (reach maps
   pub reaches : Reaches n g reach
   pub waits : maps ≡ wait-maps n g
 
--- The edges of an accepted sheet, with a table and sets that hold their heaviest walks and anchor sets, the waits put in.
-pub record Tabulated (n : ℕ) (least : ℕ → ℕ) (g : List Edge) (d : List (List ℤ)) (sets : List ℕ) : Type 0 where
+-- The edges of an accepted sheet, with a table, read by the numbers of its columns, and sets that hold their heaviest walks and anchor sets, the waits put in.
+pub record Tabulated (n : ℕ) (least : ℕ → ℕ) (g : List Edge) (number : List ℕ) (d : List (List ℤ)) (sets : List ℕ) : Type 0 where
   pub well : Well n (members g)
   pub serial : Serializable (members (serialized n least g))
   pub rows : Rows n d
-  pub holds : Holds n (serialized n least g) (said d) sets
+  pub holds : Holds n (serialized n least g) (read-by number d) sets
 
--- What is found of edges: the verdict with the waits, and on acceptance the table and the sets.
-pub record Tabulates (n : ℕ) (least : ℕ → ℕ) (g : List Edge) (allow : Bool) (r : Found) (maps : List ℕ) (d : List (List ℤ)) (sets : List ℕ) : Type 0 where
+-- What is found of edges: the verdict with the waits, and on acceptance the table with its numbers, and the sets.
+pub record Tabulates (n : ℕ) (least : ℕ → ℕ) (g : List Edge) (allow : Bool) (r : Found) (maps number : List ℕ) (d : List (List ℤ)) (sets : List ℕ) : Type 0 where
   pub listed : Listed n g (judge-edges n least g) allow (r .verdict) maps (r .count)
-  pub held : is-given (verdict-of (r .verdict)) ≡ true → Tabulated n least g d sets
+  pub held : is-given (verdict-of (r .verdict)) ≡ true → Tabulated n least g number d sets

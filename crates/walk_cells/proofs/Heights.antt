@@ -5,11 +5,12 @@ use mathlib.Core.Logic.{_⊎_, inl, inr}
 use Prim.Native.Nat.{ℕ, zero, suc, _+_, _-_, _<_, _≤_, _^_}
 use native.Mathlib.Omega.{arith}
 use native.Mathlib.Numerals.{add-one}
+use lib.Bits.{and-le-l, and-le-r, bitXor, xor-add-and}
 use lib.Dec.{T, eqb, leb, ltb}
 use lib.IntN.{ℤ, pos, negsuc, _+ℤ_, _-ℤ_, natAbs, negℤ, subℕ}
 use lib.Signed.{mag, ltZ, leZ, nonNeg}
-use borrow.Author.Tests.{le-leb, le-ltb, leb-true, lt-ltb, ltb-false, ltb-true, ne-eqb}
-use mir.Facts.{toZ-ofZ}
+use borrow.Author.Tests.{le-leb, le-ltb, lt-ltb, ltb-false, ltb-true, ne-eqb}
+use mir.Facts.{fits-ofZ, fits-xor, toZ-inj, toZ-ofZ}
 use mir.Val.{Fits, SFits, ofZ, toZ}
 use mir.ValLaws.{toZ-pos}
 use mir.Syntax.{w32, w64}
@@ -100,19 +101,13 @@ module _ {a b : ℤ} (fa : SFits w32 a) (fb : SFits w32 b) where
     sum-height-back : height (back (back a +ℤ back b)) + ground ≡ height a + height b
     sum-height-back = rw sum-back sum-height
 
--- A number that is not above 0 is no higher than the ground.
-not-above : (z : ℤ) → leZ z (pos 0) ≡ true → height z ≤ ground
-unfolding height
-not-above (pos n) h = omega (arith, leb-true n 0 h)
-not-above (negsuc n) h = omega arith
-
 -- Of a cell and what it moves by.
 module _ {c delta : ℤ} (M : Movable c) (S : Small delta) where
-  pub movable-height : (ground ≤ height c + 1073741824) × (height c ≤ ground + most-weight)
+  pub movable-height : (ground ≤ height c + 117901064) × (height c ≤ ground + most-weight)
   unfolding Clear height
   movable-height = by (M .clear)
     where
-      by : (c ≡ none) ⊎ (1 ≤ value c) → (ground ≤ height c + 1073741824) × (height c ≤ ground + most-weight)
+      by : (c ≡ none) ⊎ (1 ≤ value c) → (ground ≤ height c + 117901064) × (height c ≤ ground + most-weight)
       by (inl e) = rw e (omega arith, omega arith)
       by (inr l) = (omega (arith, value-height c), omega (arith, value-height c, M .low))
 
@@ -122,16 +117,13 @@ module _ {c delta : ℤ} (M : Movable c) (S : Small delta) where
   moved-most : height c + height delta < ground + ground + 2 ^ 31
   moved-most = omega (arith, movable-height .1, S .gains)
 
-  -- The sum fits; its height; and what it says of the two where it is not above 0.
+  -- The sum fits; its height.
   module _ (fc : SFits w32 c) (fd : SFits w32 delta) where
     pub moved-fits : SFits w32 (back c +ℤ back delta)
     moved-fits = sum-fits-back fc fd moved-least moved-most
 
     pub moved-height : height (back (back c +ℤ back delta)) + ground ≡ height c + height delta
     moved-height = sum-height-back fc fd moved-least moved-most
-
-    pub moved-idle : leZ (back (back c +ℤ back delta)) (pos 0) ≡ true → height c + height delta ≤ ground + ground
-    moved-idle h = omega (arith, not-above (back (back c +ℤ back delta)) h, moved-height)
 
 -- A test of two numbers, as the machine makes it.
 module _ {a b : ℤ} (fa : SFits w32 a) (fb : SFits w32 b) where
@@ -203,6 +195,41 @@ module _ {gain loss : ℕ} (g : gain < move-limit) (l : loss < move-limit) where
       rw (toZ-pos w32 gain (omega arith), toZ-pos w32 loss (omega arith), toZ-ofZ difference-fits)
       (record { sum = difference }, record { gains = omega (arith, difference); loses = omega (arith, difference) })
 
+-- A least taken from a weight: what the test says, that the difference fits, and what it is where the weight is no less.
+less-pos : (n m : ℕ) → m ≤ n → pos n -ℤ pos m ≡ pos (n - m)
+less-pos n zero h = ap pos (omega arith)
+less-pos n (suc m) h = simp (le-ltb n (suc m) h) refl
+
+module _ {c : ℤ} {least : ℕ} (f : SFits w32 c) (small : least < 2 ^ 16) where
+  pub past-none : ltZ (back c) (toZ w32 least) ≡ true → value c - 1 - least ≡ 0
+  unfolding value
+  past-none h = by c (rw (toZ-ofZ f, toZ-pos w32 least (omega arith)) at h)
+    where
+      by : (z : ℤ) → ltZ z (pos least) ≡ true → value z - 1 - least ≡ 0
+      by (pos n) h = omega (arith, ltb-true n least h)
+      by (negsuc n) h = omega arith
+
+  module _ (no-less : ltZ (back c) (toZ w32 least) ≡ false) where
+    past-is : (back c -ℤ toZ w32 least ≡ pos (value c - 1 - least)) × (value c - 1 - least < 2 ^ 31)
+    unfolding value
+    past-is = rw (toZ-ofZ f, toZ-pos w32 least (omega arith)) (by c f (rw (toZ-ofZ f, toZ-pos w32 least (omega arith)) at no-less))
+      where
+        by : (z : ℤ) → SFits w32 z → ltZ z (pos least) ≡ false → (z -ℤ pos least ≡ pos (value z - 1 - least)) × (value z - 1 - least < 2 ^ 31)
+        by (pos n) g h = let k : n < 2 ^ 31 = g .sfits in (less-pos n least (ltb-false n least h) ∙ ap pos (omega arith), omega arith)
+        by (negsuc n) g h = let z : _≡_ {A = ℕ} 0 1 = cc in absurd (omega arith)
+
+    pub past-fits : SFits w32 (back c -ℤ toZ w32 least)
+    past-fits = rw (past-is .0) (record { sfits = past-is .1 })
+
+    past-back : back (back c -ℤ toZ w32 least) ≡ pos (value c - 1 - least)
+    past-back = toZ-ofZ past-fits ∙ past-is .0
+
+    pub past-cast : T (nonNeg (back (back c -ℤ toZ w32 least))) × Fits w32 (natAbs (back (back c -ℤ toZ w32 least)))
+    past-cast = rw past-back (tt, record { fits = omega (arith, past-is .1) })
+
+    pub past-bits : natAbs (back (back c -ℤ toZ w32 least)) ≡ value c - 1 - least
+    past-bits = ap natAbs past-back
+
 -- A number from 0 on that fits a signed one is that one.
 pub value-bits : (n : ℕ) → n < 2 ^ 31 → value (toZ w32 n) ≡ suc n
 unfolding value
@@ -257,6 +284,15 @@ pub risen-back : {old c delta m new : ℤ} → SFits w32 old → SFits w32 c →
 risen-back {old} {c} {delta} {m} {new} fo fc fd fm fn sum larger =
     record { moved = m; sum = rw (toZ-ofZ fc, toZ-ofZ fd) at sum; larger = rw (toZ-ofZ fn) (rw (toZ-ofZ fo, toZ-ofZ fm) at larger) }
 
--- Where it did not, as the machine tells.
-pub still-back : {old m new : ℤ} → SFits w32 old → SFits w32 m → SFits w32 new → Larger (back old) (back m) new → height (back m) ≤ height (back old) → back new ≡ old
-still-back {old} {m} {new} fo fm fn larger low = rw (toZ-ofZ fn) (larger .kept low ∙ toZ-ofZ fo)
+-- Numbers that differ in no bit are the same; and one that has no bit is 0.
+pub no-change : {old new : ℤ} → SFits w32 old → SFits w32 new → toZ w32 (bitXor (ofZ w32 old) (ofZ w32 new)) ≡ pos 0 → new ≡ old
+no-change {old} {new} fo fn h =
+    let bits : bitXor (ofZ w32 old) (ofZ w32 new) ≡ 0 = toZ-inj (fits-xor (fits-ofZ fo) (fits-ofZ fn)) (record { fits = omega arith }) h in
+    let same : ofZ w32 new ≡ ofZ w32 old = by (ofZ w32 old) (ofZ w32 new) bits in
+    sym (toZ-ofZ fn) ∙ ap (toZ w32) same ∙ toZ-ofZ fo
+  where
+    by : (a b : ℕ) → bitXor a b ≡ 0 → b ≡ a
+    by a b e = omega (arith, xor-add-and a b, and-le-l a b, and-le-r a b)
+
+pub no-bits : {c : ℤ} → SFits w32 c → ofZ w32 c ≡ 0 → c ≡ pos 0
+no-bits f e = sym (toZ-ofZ f) ∙ ap (toZ w32) e

@@ -11,9 +11,10 @@ use mir.Facts.{toZ-ofZ}
 use lib.Seq.{getD-set-same, getD-set-other}
 use Rattle.definitions.specs.Rounds.{entry}
 use Rattle.laws.proofs.Bools.{same-or-not}
+use Rattle.laws.proofs.Tests.{tabulate-at}
 use Rattle.walk_cells.proofs.Heights.{back}
 use Rattle.walk_cells.specs.Cells.{none, value}
-use Rattle.walk_cells.specs.Tables.{Held, Square, cell-at, cell-of, said}
+use Rattle.walk_cells.specs.Tables.{Held, Square, cell-at, cell-of, column-of, read-by, said}
 
 -- The rows of a table are as many as it has; and one table after another has as many as the first.
 pub square-own : {n : ℕ} {d : List (List ℤ)} → Square n d → Square (length d) d
@@ -62,6 +63,13 @@ pub said-length : (d : List (List ℤ)) → length (said d) ≡ length d
 unfolding said
 said-length d = length-map d (map value)
 
+-- And what the cell in an anchor's column says.
+pub read-by-at : (number : List ℕ) (d : List (List ℤ)) (v a : ℕ) → a < 64 → entry (read-by number d) v a ≡ value (cell-at d v (column-of number a))
+unfolding read-by value
+read-by-at number [] v a h = refl
+read-by-at number (row ∷ d) zero a h = tabulate-at (λ b. value (cell-of row (column-of number b))) 64 a 0 h
+read-by-at number (row ∷ d) (suc v) a h = read-by-at number d v a h
+
 -- A bound on what cells say, made larger.
 pub held-more : {w x : ℕ} {d : List (List ℤ)} → w ≤ x → Held w d → Held x d
 held-more l H = record { most = λ v k. omega (arith, H .most v k) }
@@ -81,3 +89,7 @@ module _ {n : ℕ} (d : List (List ℤ)) (S : Square n d) {v k : ℕ} (row : v <
   read-says fits =
       rw (toZ-ofZ (record { sfits = fits }))
       (ap value (cell-in (getD d v []) k (omega (arith, S .cells v row))) ∙ sym (said-at d v k))
+
+  -- The same of the cell in the column of an anchor.
+  pub read-by-says : (number : List ℕ) {a : ℕ} → a < 64 → k ≡ column-of number a → mag read < 2 ^ 31 → value (back read) ≡ entry (read-by number d) v a
+  read-by-says number {a} inside e fits = read-says fits ∙ said-at d v k ∙ ap (λ (j : ℕ). value (cell-at d v j)) e ∙ sym (read-by-at number d v a inside)

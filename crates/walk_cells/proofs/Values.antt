@@ -1,20 +1,16 @@
 -- What cells say, and how that changes as they rise: the laws by which other crates know cells.
 use mathlib.Core.Path.{_≡_, refl, ap}
-use mathlib.Core.Logic.{_⊎_, inl, inr}
+use mathlib.Core.Logic.{inl, inr}
 use Prim.Native.Nat.{ℕ, suc, _+_, _-_, _≤_, _<_, max}
 use native.Mathlib.Omega.{arith}
 use native.Mathlib.Decide.{decLe}
 use lib.IntN.{ℤ, pos, negsuc}
-use Rattle.walk_cells.specs.Cells.{Clear, Delta, Larger, Risen, Small, ground, height, move-limit, none, value}
+use Rattle.walk_cells.specs.Cells.{Clear, Delta, Risen, Small, height, move-limit, none, value}
 use Rattle.walk_cells.proofs.Heights.{value-height}
 
 pub value-none : value none ≡ 0
 unfolding value
 value-none = refl
-
-pub value-pos : (w : ℕ) → value (pos w) ≡ suc w
-unfolding value
-value-pos w = refl
 
 -- A cell that says a weight is that weight.
 pub value-walk : (c : ℤ) (w : ℕ) → value c ≡ suc w → c ≡ pos w
@@ -30,19 +26,6 @@ gain-delta w = record { sum = omega arith }
 pub gain-small : (w : ℕ) → w < move-limit → Small (pos w)
 unfolding height
 gain-small w h = record { gains = omega arith; loses = omega arith }
-
--- A cell that holds a walk can be handed on as it is.
-pub walk-clear : (c : ℤ) → 1 ≤ value c → Clear c
-unfolding Clear
-walk-clear c h = inr h
-
--- The larger of two cells says the larger of what they say.
-pub larger-value : {old c new : ℤ} → Larger old c new → value new ≡ max (value old) (value c)
-larger-value {old} {c} {new} L = by (decLe (height c) (height old))
-  where
-    by : Dec (height c ≤ height old) → value new ≡ max (value old) (value c)
-    by (yes h) = rw (L .kept h) (omega (arith, value-height old, value-height c))
-    by (no h) = rw (L .taken (omega arith)) (omega (arith, value-height old, value-height c))
 
 -- A cell to which another one moves along an edge. It stays where that one says nothing; else it says the walk made longer, where that is more.
 module _ {old c delta new : ℤ} (R : Risen old c delta new) where

@@ -13,7 +13,7 @@ value (negsuc m) = 0
 
 -- The cell that every cell of a table begins as, and that one without a walk becomes before it is handed on: no gain leads from there to 0.
 abbrev pub none : ℤ
-none = negsuc 1073741823
+none = negsuc 117901063
 
 -- Sums and orders of signed numbers are told by their heights: how far they lie above a number that is below every sum of two of them. The ground is the height of 0.
 abbrev pub ground : ℕ

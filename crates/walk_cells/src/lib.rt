@@ -1,14 +1,14 @@
 // Cells of the working table: the one crate that knows how a cell is held. A cell is the weight of a walk, or a number below 0 where there is none. See specs/Cells.antt.
 ghost use mathlib.Core.Path.{_≡_};
-ghost use mathlib.Core.Bool.{true};
 ghost use Prim.Native.Nat.{suc, _+_, _-_, _≤_, _<_};
 ghost use lib.Dec.{eqb, leb, ltb};
+ghost use lib.IntN.{pos};
 ghost use Rattle.definitions.specs.Limits.{most-ticks};
 ghost use Rattle.definitions.specs.Rounds.{extend};
 ghost use Rattle.walk_cells.specs.Cells.{Clear, Compared, Delta, Larger, Movable, Small, ground, height, move-limit, value};
 
-// The cell of no walk, far below every weight.
-pub const NONE: i32 = -1073741824;
+// The cell of no walk: no gain leads from there to 0. Its four bytes are equal, so that a table is cleared at once.
+pub const NONE: i32 = -117901064;
 
 // ---- while walks are sought
 
@@ -35,11 +35,11 @@ pub fn larger(old: i32, c: i32) -> i32
     if old < c { c } else { old }
 }
 
-// 0 where the second of two cells is not above the first. A number, so that the compiler makes vectors of the loop that gathers it.
-pub fn rises(old: i32, c: i32) -> u32
-    ensures { λ r. ⌜ (r ≡ 0 → height c ≤ height old) ⌝ }
+// The bits in which a cell differs from what it was: 0 where it is the same. Bits, so that the compiler makes vectors of the loop that gathers them.
+pub fn change(old: i32, new: i32) -> i32
+    ensures { λ r. ⌜ (r ≡ pos 0 → new ≡ old) ⌝ }
 {
-    if old < c { 1 } else { 0 }
+    old ^ new
 }
 
 // A cell that says the same, made ready to be handed on.
@@ -56,12 +56,12 @@ pub fn is_walk(c: i32) -> bool
     0 <= c
 }
 
-// Whether no walk as light as this one gets longer than 0 by delta.
-pub fn is_idle(top: i32, delta: i32) -> bool
-    requires { ⌜ Movable top × Small delta ⌝ }
-    ensures { λ r. ⌜ (r ≡ true → height top + height delta ≤ ground + ground) ⌝ }
+// Whether no walk that weighs at most this gets longer than 0 by an edge.
+pub fn is_idle(top: u32, gain: u64, loss: u64) -> bool
+    requires { ⌜ gain < move-limit ⌝ }
+    ensures { λ r. ⌜ r ≡ leb (top + gain) loss ⌝ }
 {
-    top + delta <= 0
+    (top as u64) + gain <= loss
 }
 
 // The cell of a walk that weighs a least.
@@ -103,6 +103,17 @@ pub fn weight(c: i32) -> u32
         return 0;
     }
     c as u32
+}
+
+// The weight without a least; 0 where there is none, or where it is less.
+pub fn weight_past(c: i32, least: u16) -> u32
+    ensures { λ r. ⌜ r ≡ value c - 1 - least ⌝ }
+{
+    let x = least as i32;
+    if c < x {
+        return 0;
+    }
+    (c - x) as u32
 }
 
 // Whether a walk and another one behind it are as heavy as a third.

@@ -139,13 +139,13 @@ module _ (e : Edge) (number : List ℕ) (row : List ℤ) (width : ℕ) (movable 
             none (inr late) x o = absurd (o .1 (rw (o .0) late))
 
   -- Where no walk gets longer than offset 0 by it, the edge has handed on.
-  pub handed-idle : (top : ℤ) (m : ℕ) → ((k : ℕ) → k < width → value (cell-of row k) ≤ value top) → Square (length d) d → (1 ≤ value top → value top + e .gain ≤ suc (e .loss)) → HandedAll (λ a. UsableFrom (Only e) a) number (e .from) (lent row width) d d m m
+  pub handed-idle : (top m : ℕ) → ((k : ℕ) → k < width → value (cell-of row k) ≤ suc top) → Square (length d) d → top + e .gain ≤ e .loss → HandedAll (λ a. UsableFrom (Only e) a) number (e .from) (lent row width) d d m m
   handed-idle top m tops S low =
       record { square = S; each = λ all anchor N k q. handed-still (λ v. refl) (λ v h. h) (λ t U B x o f. rw (o .0) (by t (anchor k) k U B (refl, λ l. o .1 (rw (o .0) l)) (below-or-not k width))); held = λ w few H. H }
     where
       some : (t : ℕ → ℕ) (a k : ℕ) → Under t (column d k) → Bounds (UsableFrom (Only e) a) (e .from) (lent row width k) t → UsableFrom (Only e) a e → k < width → (0 < lent row width k) ⊎ (lent row width k ≤ 0) → extend (lent row width k) (e .gain) (e .loss) ≤ column d k (e .to)
       some t a k U B o h (inl q) =
-          omega (arith, extend-some (lent row width k) (e .gain) (e .loss) q, lent-in row width k h, tops k h, low (omega (arith, q, lent-in row width k h, tops k h)), ends-live U B e o refl q)
+          omega (arith, extend-some (lent row width k) (e .gain) (e .loss) q, lent-in row width k h, tops k h, low, ends-live U B e o refl q)
       some t a k U B o h (inr q) = nothing k (column d k (e .to)) (omega arith)
 
       by : (t : ℕ → ℕ) (a k : ℕ) → Under t (column d k) → Bounds (UsableFrom (Only e) a) (e .from) (lent row width k) t → UsableFrom (Only e) a e → (k < width) ⊎ (width ≤ k) → extend (lent row width k) (e .gain) (e .loss) ≤ column d k (e .to)

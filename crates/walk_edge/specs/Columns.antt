@@ -49,7 +49,7 @@ pub record HandedAll (E : ℕ → Graph) (number : List ℕ) (u : ℕ) (x : ℕ 
   pub held : (w : ℕ) → ((k : ℕ) → x k ≤ suc w) → Held (w + most-gain) d → Held (w + most-gain) d′
 
 -- An edge along which a row that is made ready can be handed on.
-pub record Sendable (e : Edge) (width : ℕ) (top : ℤ) (row : List ℤ) (d : List (List ℤ)) : Type 0 where
+pub record Sendable (e : Edge) (width top : ℕ) (row : List ℤ) (d : List (List ℤ)) : Type 0 where
   pub target : Target (e .to) width d
   pub ready : Ready row width top
   pub light : e .gain ≤ most-gain

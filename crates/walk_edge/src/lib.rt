@@ -42,7 +42,7 @@ pub fn push_word(
     row: &[i32; 64],
     marks: u64,
     w: u64,
-    top: i32,
+    top: u32,
     number: &[u8; 64],
     width: usize,
 ) -> u64
@@ -53,7 +53,7 @@ pub fn push_word(
     let gain = edge_gain(w);
     let loss = edge_loss(w);
     let delta = walk_cells::delta(gain, loss);
-    if walk_cells::is_idle(top, delta) {
+    if walk_cells::is_idle(top, gain, loss) {
         return marks;
     }
     if is_late(w) {

@@ -1,3 +1,3 @@
+pub mod Bare
 pub mod FirstSweep
 pub mod Settled
-pub mod Spreading

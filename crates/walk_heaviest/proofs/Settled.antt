@@ -23,10 +23,9 @@ use Rattle.data_edges.proofs.Waiting.{wait-edges-has, wait-edges-only}
 use Rattle.laws.proofs.Bools.{and-join, and-split, both-ways}
 use Rattle.laws.proofs.Maps.{test-zero}
 use Rattle.data_relations.specs.Rows.{row-bit}
-use Rattle.walk_cells.specs.Cells.{value}
-use Rattle.walk_cells.specs.Tables.{Square, said}
+use Rattle.walk_cells.specs.Tables.{Square, read-by}
 use Rattle.walk_edge.specs.Columns.{Sought, WaitsFor, column}
-use Rattle.walk_cells.proofs.Tables.{said-at, square-then}
+use Rattle.walk_cells.proofs.Tables.{read-by-at, square-then}
 use Rattle.walk_seed.specs.Seeds.{Prepared}
 use Rattle.walk_sweep.specs.Graphs.{Both, SweptBy}
 use Rattle.theory.specs.Graphs.{Gains, Leasts, SheetLeasts, Well}
@@ -38,7 +37,7 @@ use Rattle.theory.proofs.Relaxation.{raise-length, rounds-length}
 use Rattle.theory.proofs.Sweeping.{offsets-seeded, offsets-settle, offsets-swept, sweeps-rest}
 use Rattle.theory.proofs.Usables.{forward-usable, members-usable, usable-members}
 use Rattle.theory.proofs.Walks.{counted-forward}
-use Rattle.walk_heaviest.specs.Settling.{Opened, Settled, SettledBy, SettlingBy, Spread, Supported}
+use Rattle.walk_heaviest.specs.Settling.{Opened, Settled, SettledBy, SettlingBy, Supported}
 
 -- A row of offsets has no cell at n or above.
 first-length : (n : ℕ) (es : List Edge) (a : ℕ) → length (first-row n es a) ≡ n
@@ -234,8 +233,8 @@ module _
     found : (v : ℕ) → column d′ k v ≡ t v
     found v = offsets-swept well posed a inside sown swept (done .under t sought .under .below) v
 
-    -- And so do the cells that are spread.
-    pub walks-found : {d″ : List (List ℤ)} → Spread number (λ w. w < n) (row-bit sets) d′ d″ → entry (said d″) v₀ a ≡ cell (offset-row n (graph es ++ wait-edges n least maps) a) v₀
-    walks-found {d″} S =
+    -- So what is read in the anchor's column is the offset.
+    pub walks-found : entry (read-by number d′) v₀ a ≡ cell (offset-row n (graph es ++ wait-edges n least maps) a) v₀
+    walks-found =
         let e : getD number a 0 % 64 ≡ k = omega (arith, there, begun .few) in
-        said-at d″ v₀ a ∙ ap value (S .here v₀ a b₀ (omega arith) member) ∙ ap (λ (x : ℕ). column d′ x v₀) e ∙ found v₀
+        read-by-at number d′ v₀ a (omega arith) ∙ ap (λ (x : ℕ). column d′ x v₀) e ∙ found v₀

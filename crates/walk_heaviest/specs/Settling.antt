@@ -1,8 +1,8 @@
--- Sweeps over a working table until nothing is left to hand on, and the way back from numbered columns. The terms are those of walk_edge's specs/Columns.antt.
+-- Sweeps over a working table until nothing is left to hand on, and what its numbered columns then say. The terms are those of walk_edge's specs/Columns.antt.
 use mathlib.Core.Path.{_≡_}
 use mathlib.Core.Bool.{Bool, true}
 use mathlib.Core.List.{List, _++_}
-use Prim.Native.Nat.{ℕ, _%_, _<_, _≤_}
+use Prim.Native.Nat.{ℕ, _<_, _≤_}
 use lib.Dec.{ltb}
 use lib.IntN.{ℤ}
 use lib.ListN.{length, getD}
@@ -17,9 +17,9 @@ use Rattle.data_edges.specs.Serial.{Within, wait-edges}
 use Rattle.data_edges.specs.Words.{EndsBelow, graph}
 use Rattle.walk_feasible.specs.Search.{rests}
 use Rattle.data_relations.specs.Rows.{row-bit}
-use Rattle.walk_cells.specs.Tables.{Square, cell-at, said}
+use Rattle.walk_cells.specs.Tables.{Square, read-by}
 use Rattle.walk_edge.specs.Columns.{Covered, Numbers, Sought, column}
-use Rattle.walk_seed.specs.Seeds.{Empty}
+use Rattle.walk_seed.specs.Seeds.{Blank, Empty}
 use Rattle.walk_sweep.specs.Graphs.{Both, SweptBy, visits}
 use Rattle.theory.specs.Graphs.{Gains, Rooted, Shape, SheetLeasts, Well}
 use Rattle.theory.specs.Sweeps.{Sweeps}
@@ -50,21 +50,9 @@ pub record Opened (es : List ℕ) (least : ℕ → ℕ) (waiting number : List �
   pub all : (v : ℕ) → test-bit marks v ≡ ltb v n
   pub swept : SweptBy es least waiting number width (λ v. v < n) (visits n) d d′ marks m
 
--- In the rows R the cells of the members M are those of the columns of those anchors; other rows stay.
-pub record Spread (number : List ℕ) (R : ℕ → Type 0) (M : ℕ → ℕ → Bool) (d d′ : List (List ℤ)) : Type 0 where
-  pub square : Square (length d) d′
-  pub here : (v a : ℕ) → R v → a < 64 → M v a ≡ true → cell-at d′ v a ≡ cell-at d v (getD number a 0 % 64)
-  pub other : (v : ℕ) → ¬ R v → (k : ℕ) → cell-at d′ v k ≡ cell-at d v k
-
 -- The members of a in sets are the steps that have an offset for a.
 abbrev pub Supported : ℕ → List Edge → List ℕ → ℕ → Type 0
 Supported n g sets a = (v : ℕ) → v < n → row-bit sets v a ≡ ltb 0 (cell (offset-row n g a) v)
-
--- Numbers of the members of a map, none above itself, and a table that has row v, for what the row's columns say.
-pub record Spreadable (map v : ℕ) (number : List ℕ) (d : List (List ℤ)) : Type 0 where
-  pub row : v < length d
-  pub square : Square (length d) d
-  pub low : (a : ℕ) → a < 64 → test-bit map a ≡ true → getD number a 0 ≤ a
 
 -- All sweeps, and whether 10 does not apply. It is known where a first sweep that leaves no mark says so.
 pub record SettledIf (es : List ℕ) (least : ℕ → ℕ) (waiting number : List ℕ) (width n : ℕ) (d d′ : List (List ℤ)) (r : Bool) : Type 0 where
@@ -72,20 +60,23 @@ pub record SettledIf (es : List ℕ) (least : ℕ → ℕ) (waiting number : Lis
   pub settled : r ≡ true → SettledBy es least waiting number width n d d′
   pub told : Shape n (members (graph es)) → Rooted n (members (graph es)) → ((d₁ : List (List ℤ)) (m : ℕ) → Opened es least waiting number width n d d₁ m → m ≡ 0 → rests n es ≡ true) → r ≡ rests n es
 
--- What heaviest walks are sought over: edges with their lists, and an empty table with a row for each step below n and each end.
-pub record Seekable (n : ℕ) (es lists : List ℕ) (d : List (List ℤ)) : Type 0 where
+-- What heaviest walks are sought over: edges with their lists, and an empty table with a row for each step below n and each end, of which no column has a number.
+pub record Seekable (n : ℕ) (es lists number : List ℕ) (d : List (List ℤ)) : Type 0 where
   pub given : WithLists n es lists
   pub inside : n ≤ length d
   pub bare : Empty d
+  pub blank : Blank number
   pub ends : EndsBelow es (length d)
 
 -- The edges with the waits that maps hold.
 abbrev pub waited : ℕ → List ℕ → (ℕ → ℕ) → List ℕ → List Edge
 waited n es least maps = graph es ++ wait-edges n least maps
 
--- What is found where 10 does not apply: at [v][a] the cell of step v for anchor a, over the edges and the waits, where a is a member of row v of sets; for an anchor whose members in sets are the steps that its walks reach.
-pub record Found (n : ℕ) (es : List ℕ) (least : ℕ → ℕ) (maps sets : List ℕ) (d d′ : List (List ℤ)) (r : Bool) : Type 0 where
+-- What is found where 10 does not apply: in row v and the column of anchor a the cell of step v for a, over the edges and the waits, where a is a member of row v of sets; for an anchor whose members in sets are the steps that its walks reach.
+-- The column of step 0, where it is a member at all, is the first.
+pub record Found (n : ℕ) (es : List ℕ) (least : ℕ → ℕ) (maps sets number : List ℕ) (d d′ : List (List ℤ)) (r : Bool) : Type 0 where
   pub square : Square (length d) d′
   pub cells : r ≡ true → Within n maps → SheetLeasts least (members (graph es)) → Well n (members (waited n es least maps)) → WellPosed (members (waited n es least maps)) → Gains (members (waited n es least maps)) most-gain → (a : ℕ) → a < n
-      → Supported n (waited n es least maps) sets a → (v : ℕ) → v < n → row-bit sets v a ≡ true → entry (said d′) v a ≡ cell (offset-row n (waited n es least maps) a) v
+      → Supported n (waited n es least maps) sets a → (v : ℕ) → v < n → row-bit sets v a ≡ true → entry (read-by number d′) v a ≡ cell (offset-row n (waited n es least maps) a) v
   pub told : Shape n (members (graph es)) → Rooted n (members (graph es)) → Gains (members (graph es)) most-gain → SheetLeasts least (members (graph es)) → ((v : ℕ) → v < n → row-bit sets v 0 ≡ true) → r ≡ rests n es
+  pub first : (v : ℕ) → v < n → row-bit sets v 0 ≡ true → getD number 0 0 ≡ 0

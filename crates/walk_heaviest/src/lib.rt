@@ -1,4 +1,4 @@
-// Heaviest walks for every anchor at once: the columns of the anchors are numbered and begun, steps hand on until nothing is left to hand on, and the columns go back to the places of their anchors.
+// Heaviest walks for every anchor at once: the columns of the anchors are numbered and begun, and steps hand on until nothing is left to hand on.
 use data_relations::transpose;
 use walk_feasible::feasible;
 use walk_seed::seed;
@@ -6,29 +6,17 @@ use walk_sweep::sweep;
 ghost use mathlib.Core.Path.{_≡_};
 ghost use mathlib.Core.Bool.{true};
 ghost use mathlib.Core.List.{List};
-ghost use Prim.Native.Nat.{ℕ, _-_, _<_, _≤_};
+ghost use Prim.Native.Nat.{_-_, _≤_};
 ghost use lib.IntN.{ℤ};
-ghost use lib.ListN.{getD};
 ghost use Rattle.data_lists.specs.Lists.{WithLists};
-ghost use Rattle.definitions.specs.Basics.{test-bit};
 ghost use Rattle.definitions.specs.Limits.{most-steps};
 ghost use Rattle.definitions.specs.Links.{members};
 ghost use Rattle.data_edges.specs.Serial.{leasts-in};
 ghost use Rattle.data_edges.specs.Words.{graph};
 ghost use Rattle.walk_feasible.specs.Search.{rests};
-ghost use Rattle.data_relations.specs.Rows.{row-bit};
-ghost use Rattle.walk_cells.specs.Tables.{Rows};
-ghost use Rattle.walk_seed.specs.Seeds.{Blank};
 ghost use Rattle.walk_sweep.specs.Graphs.{Sweepable};
 ghost use Rattle.theory.specs.Graphs.{Rooted, Shape};
-ghost use Rattle.walk_heaviest.specs.Settling.{Found, Opened, Seekable, SettledBy, SettledIf, SettlingBy, Spread, Spreadable};
-
-// Numbers of which no step has one.
-fn no_numbers() -> [u8; 64]
-    ensures { λ r. ⌜ Blank r ⌝ }
-{
-    [64u8; 64]
-}
+ghost use Rattle.walk_heaviest.specs.Settling.{Found, Opened, Seekable, SettledBy, SettledIf, SettlingBy};
 
 // The places of the steps of an order. They decide speed alone, so nothing is promised.
 fn places(order: &[u8; 64], n: usize) -> [u8; 64]
@@ -174,36 +162,11 @@ fn settle(
     true
 }
 
-// Row v has at each member of a map what it has in the member's column. No number is above its step, so the highest member goes first and nothing is lost. Other cells are left over from columns.
-fn spread_row(d: &mut [[i32; 64]], number: &[u8; 64], map: u64, v: usize)
-    requires { ⌜ Spreadable map v (now number) (now d) ⌝ }
-    ensures { λ r. ⌜ Spread (now (number .entry)) (λ w. w ≡ v) (λ w a. test-bit map a) (now (d .entry)) (now (d .exit)) ⌝ }
-{
-    let mut left = map;
-    while left != 0 {
-        let a = data_bits::highest(left);
-        let k = data_indices::place(number[a]);
-        let c = d[v][k];
-        d[v][a] = c;
-        left = data_bits::remove(left, a);
-    }
-}
-
-// The same for every row below n.
-fn spread_rows(d: &mut [[i32; 64]], number: &[u8; 64], sets: &[u64; 64], n: usize)
-    requires { ⌜ Rows n (now d) × ((v a : ℕ) → v < n → a < 64 → row-bit (now sets) v a ≡ true → getD (now number) a 0 ≤ a) ⌝ }
-    ensures { λ r. ⌜ Spread (now (number .entry)) (λ w. w < n) (row-bit (now (sets .entry))) (now (d .entry)) (now (d .exit)) ⌝ }
-{
-    let mut v = 0;
-    while v < n {
-        spread_row(d, number, sets[v], v);
-        v += 1;
-    }
-}
-
 // The heaviest walks, as Found says (specs/Settling.antt), where no closed walk over the edges weighs more than 0; else false, refusal 10. The order decides speed alone.
+// The numbers of the columns come blank.
 pub fn walks_if_possible(
     d: &mut [[i32; 64]],
+    number: &mut [u8; 64],
     es: &[u64],
     lists: &[u16],
     leasts: &[u16; 64],
@@ -212,16 +175,11 @@ pub fn walks_if_possible(
     order: &[u8; 64],
     n: usize,
 ) -> bool
-    requires { ⌜ Seekable n (now es) (now lists) (now d) ⌝ }
-    ensures { λ r. ⌜ Found n (now (es .entry)) (leasts-in (now (leasts .entry))) (now (maps .entry)) (now (sets .entry)) (now (d .entry)) (now (d .exit)) r ⌝ }
+    requires { ⌜ Seekable n (now es) (now lists) (now number) (now d) ⌝ }
+    ensures { λ r. ⌜ Found n (now (es .entry)) (leasts-in (now (leasts .entry))) (now (maps .entry)) (now (sets .entry)) (now (number .exit)) (now (d .entry)) (now (d .exit)) r ⌝ }
 {
     let mut waiting = [0u64; 64];
     transpose(maps, n, &mut waiting);
-    let mut number = no_numbers();
-    let width = seed(d, &mut number, es, leasts, sets, n);
-    if !settle(d, es, lists, leasts, &waiting, order, &number, width, n) {
-        return false;
-    }
-    spread_rows(d, &number, sets, n);
-    true
+    let width = seed(d, number, es, leasts, sets, n);
+    settle(d, es, lists, leasts, &waiting, order, number, width, n)
 }

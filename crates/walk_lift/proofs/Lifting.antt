@@ -5,16 +5,21 @@ use mathlib.Core.Logic.{_⊎_, inl, inr, _≢_}
 use mathlib.Core.List.{List, []}
 use Prim.Native.Nat.{ℕ, _+_, _<_}
 use native.Mathlib.Omega.{arith}
+use lib.Bits.{bitOr}
 use lib.Dec.{eqb}
-use lib.IntN.{ℤ}
+use lib.IntN.{ℤ, pos}
 use lib.ListN.{length, getD, set}
+use mir.Syntax.{w32}
+use mir.Val.{SFits, ofZ}
 use borrow.Author.Tests.{eq-eqb}
 use Rattle.definitions.specs.Basics.{test-bit}
 use Rattle.laws.proofs.Bools.{both-ways, or-left, same-or-not}
+use Rattle.laws.proofs.Maps.{or-above}
 use Rattle.walk_cells.specs.Cells.{Risen}
 use Rattle.walk_cells.specs.Tables.{Square, Target, cell-at, cell-of}
+use Rattle.walk_cells.proofs.Heights.{no-bits}
 use Rattle.walk_cells.proofs.Tables.{square-own, square-stored, square-then, stored-beside, stored-here, stored-other}
-use Rattle.walk_lift.specs.Lifts.{Liftable, Lifted, Raised, Still}
+use Rattle.walk_lift.specs.Lifts.{Liftable, LiftableCell, Lifted, Raised, Still}
 
 -- One cell is stored to, risen to what moves there.
 module _ (to k : ℕ) (delta new : ℤ) (row : List ℤ) (d : List (List ℤ)) (T : Target to (k + 1) d) where
@@ -44,25 +49,37 @@ pub lifted-start : (to : ℕ) (delta : ℤ) (row : List ℤ) (d : List (List ℤ
 lifted-start to delta row d S =
     record { square = S; lifts = λ k l. absurd (omega arith); keeps = λ k o. refl; other = λ v k o. refl }
 
-pub lifted-turn : {to : ℕ} {delta : ℤ} {k : ℕ} {row : List ℤ} {d₀ d d′ : List (List ℤ)} → Lifted (λ j. j < k) to delta row d₀ d → Lifted (λ j. j ≡ k) to delta row d d′ → Lifted (λ j. j < k + 1) to delta row d₀ d′
-lifted-turn {to} {delta} {k} {row} {d₀} {d} {d′} L C = record {
+pub lifted-turn : {to : ℕ} {delta : ℤ} {k : ℕ} {row : List ℤ} {d₀ d d′ : List (List ℤ)} (next : ℕ) → next ≡ k + 1 → Lifted (λ j. j < k) to delta row d₀ d → Lifted (λ j. j ≡ k) to delta row d d′ → Lifted (λ j. j < next) to delta row d₀ d′
+lifted-turn {to} {delta} {k} {row} {d₀} {d} {d′} next is L C = record {
   square = square-then (L .square) (C .square);
   lifts = λ j l. lifts j l (same-or-not j k);
   keeps = λ j o. C .keeps j (λ e. o (omega arith)) ∙ L .keeps j (λ l. o (omega arith));
   other = λ v j o. C .other v j o ∙ L .other v j o;
 }
   where
-    lifts : (j : ℕ) → j < k + 1 → (j ≡ k) ⊎ (j ≢ k) → Risen (cell-at d₀ to j) (cell-of row j) delta (cell-at d′ to j)
+    lifts : (j : ℕ) → j < next → (j ≡ k) ⊎ (j ≢ k) → Risen (cell-at d₀ to j) (cell-of row j) delta (cell-at d′ to j)
     lifts j l (inl e) = rw (← L .keeps j (λ q. omega arith)) (C .lifts j e)
     lifts j l (inr o) = rw (C .keeps j o) (L .lifts j (omega (arith, o)))
 
 -- The next column of a table that was lifted so far.
-pub liftable-turn : {to width : ℕ} {delta : ℤ} {On : ℕ → Type 0} {row : List ℤ} {d₀ d : List (List ℤ)} (k : ℕ) → k < width → Liftable to width delta row d₀ → Lifted On to delta row d₀ d → Liftable to (k + 1) delta row d
+pub liftable-turn : {to width : ℕ} {delta : ℤ} {On : ℕ → Type 0} {row : List ℤ} {d₀ d : List (List ℤ)} (k : ℕ) → k < width → Liftable to width delta row d₀ → Lifted On to delta row d₀ d → LiftableCell to k delta row d
 liftable-turn k b T L = record {
   target = record { row = omega (arith, T .target .row, L .square .rows); few = omega (arith, T .target .few); square = square-own (L .square) };
-  movable = record { long = T .movable .long; each = λ j l. T .movable .each j (omega arith) };
+  long = T .movable .long;
+  movable = T .movable .each k b;
   small = T .small;
 }
+
+-- How cells changed is gathered: where nothing is, nothing was before, and the row stayed. Four such gatherings are put together at the end.
+pub none-noted : {A : Type 0} (g : ℕ) {c : ℤ} → SFits w32 c → (c ≡ pos 0 → A) → bitOr g (ofZ w32 c) ≡ 0 → (g ≡ 0) × A
+none-noted g {c} f still e = let above = or-above g (ofZ w32 c) in (omega arith, still (no-bits f (omega arith)))
+
+pub all-none : {A : Type 0} (g₀ g₁ g₂ g₃ : ℕ) → bitOr (bitOr (bitOr g₀ g₁) g₂) g₃ ≡ 0 → (g₀ ≡ 0 → g₁ ≡ 0 → g₂ ≡ 0 → g₃ ≡ 0 → A) → A
+all-none g₀ g₁ g₂ g₃ e known =
+    let first = or-above g₀ g₁ in
+    let second = or-above (bitOr g₀ g₁) g₂ in
+    let third = or-above (bitOr (bitOr g₀ g₁) g₂) g₃ in
+    known (omega arith) (omega arith) (omega arith) (omega arith)
 
 -- Marks: a row that has one may change,
 pub raised-marked : {On : ℕ → Type 0} {to : ℕ} {delta : ℤ} {row : List ℤ} {d d′ : List (List ℤ)} {m : ℕ} → test-bit m to ≡ true → Lifted On to delta row d d′ → Raised On to delta row d d′ m m

@@ -3,7 +3,7 @@ use mathlib.Core.Path.{_≡_}
 use mathlib.Core.Bool.{true, false, cond}
 use mathlib.Core.Logic.{_≢_}
 use mathlib.Core.List.{List}
-use Prim.Native.Nat.{ℕ, _≤_, _<_}
+use Prim.Native.Nat.{ℕ, suc, _+_, _%_, _≤_, _<_}
 use lib.Dec.{ltb}
 use lib.IntN.{ℤ}
 use lib.ListN.{length}
@@ -11,16 +11,16 @@ use Rattle.definitions.specs.Basics.{test-bit}
 use Rattle.walk_cells.specs.Cells.{Movable, Risen, Small, value}
 use Rattle.walk_cells.specs.Tables.{Square, Target, cell-at, cell-of}
 
--- The first `width` cells of a row of 64 can be moved.
+-- The first `width` cells of a row of 64 can be moved, four at a time.
 pub record Movables (row : List ℤ) (width : ℕ) : Type 0 where
   pub long : length row ≡ 64
+  pub fours : width % 4 ≡ 0
   pub each : (k : ℕ) → k < width → Movable (cell-of row k)
 
--- They are made ready to be handed on: none says more than the cell `top`.
-pub record Ready (row : List ℤ) (width : ℕ) (top : ℤ) : Type 0 where
+-- They are made ready to be handed on: none weighs more than `top`.
+pub record Ready (row : List ℤ) (width top : ℕ) : Type 0 where
   pub movable : Movables row width
-  pub tops : (k : ℕ) → k < width → value (cell-of row k) ≤ value top
-  pub heaviest : Movable top
+  pub tops : (k : ℕ) → k < width → value (cell-of row k) ≤ suc top
 
 -- What they say; those beyond hand on nothing.
 abbrev pub lent : List ℤ → ℕ → ℕ → ℕ
@@ -47,4 +47,11 @@ pub record Raised (On : ℕ → Type 0) (to : ℕ) (delta : ℤ) (row : List ℤ
 pub record Liftable (to width : ℕ) (delta : ℤ) (row : List ℤ) (d : List (List ℤ)) : Type 0 where
   pub target : Target to width d
   pub movable : Movables row width
+  pub small : Small delta
+
+-- The same for the cell in column k alone.
+pub record LiftableCell (to k : ℕ) (delta : ℤ) (row : List ℤ) (d : List (List ℤ)) : Type 0 where
+  pub target : Target to (k + 1) d
+  pub long : length row ≡ 64
+  pub movable : Movable (cell-of row k)
   pub small : Small delta

@@ -1,25 +1,26 @@
 // A row of cells taken in by another row, all numbered columns at once: see specs/Lifts.antt. The loops over a row have no branch, so that the compiler makes vectors of them.
+use walk_cells::change;
 use walk_cells::larger;
 use walk_cells::moved;
-use walk_cells::rises;
 ghost use mathlib.Core.Path.{_≡_};
 ghost use mathlib.Core.Bool.{false};
-ghost use Prim.Native.Nat.{_+_, _<_};
-ghost use Rattle.walk_lift.specs.Lifts.{Liftable, Lifted, Raised, Still};
+ghost use Prim.Native.Nat.{_<_};
+ghost use lib.IntN.{pos};
+ghost use Rattle.walk_lift.specs.Lifts.{Liftable, LiftableCell, Lifted, Raised, Still};
 
-// The cell of row `to` in column k takes in what moves there. 0 where it did not rise.
-fn lift_cell(d: &mut [[i32; 64]], row: &[i32; 64], to: usize, delta: i32, k: usize) -> u32
-    requires { ⌜ Liftable to (k + 1) delta (now row) (now d) ⌝ }
-    ensures { λ r. ⌜ Lifted (λ j. j ≡ k) to delta (now (row .entry)) (now (d .entry)) (now (d .exit)) × (r ≡ 0 → Still to (now (d .entry)) (now (d .exit))) ⌝ }
+// The cell of row `to` in column k takes in what moves there. How it changed: 0 where it did not.
+fn lift_cell(d: &mut [[i32; 64]], row: &[i32; 64], to: usize, delta: i32, k: usize) -> i32
+    requires { ⌜ LiftableCell to k delta (now row) (now d) ⌝ }
+    ensures { λ r. ⌜ Lifted (λ j. j ≡ k) to delta (now (row .entry)) (now (d .entry)) (now (d .exit)) × (r ≡ pos 0 → Still to (now (d .entry)) (now (d .exit))) ⌝ }
 {
     let c = moved(row[k], delta);
     let old = d[to][k];
     let new = larger(old, c);
     d[to][k] = new;
-    rises(old, c)
+    change(old, new)
 }
 
-// The first columns of the row.
+// The first columns of the row, four at a time: so many make a vector.
 fn lift(d: &mut [[i32; 64]], row: &[i32; 64], to: usize, delta: i32, width: usize)
     requires { ⌜ Liftable to width delta (now row) (now d) ⌝ }
     ensures { λ r. ⌜ Lifted (λ k. k < width) to delta (now (row .entry)) (now (d .entry)) (now (d .exit)) ⌝ }
@@ -27,23 +28,31 @@ fn lift(d: &mut [[i32; 64]], row: &[i32; 64], to: usize, delta: i32, width: usiz
     let mut k = 0;
     while k < width {
         lift_cell(d, row, to, delta, k);
-        k += 1;
+        lift_cell(d, row, to, delta, k + 1);
+        lift_cell(d, row, to, delta, k + 2);
+        lift_cell(d, row, to, delta, k + 3);
+        k += 4;
     }
 }
 
-// The same; whether a cell changed.
+// The same; whether a cell changed. What changed is gathered by the places of a vector.
 fn lift_noting(d: &mut [[i32; 64]], row: &[i32; 64], to: usize, delta: i32, width: usize) -> bool
     requires { ⌜ Liftable to width delta (now row) (now d) ⌝ }
     ensures { λ r. ⌜ Lifted (λ k. k < width) to delta (now (row .entry)) (now (d .entry)) (now (d .exit)) × (r ≡ false → Still to (now (d .entry)) (now (d .exit))) ⌝ }
 {
-    let mut grown = 0u32;
+    let mut g0 = 0i32;
+    let mut g1 = 0i32;
+    let mut g2 = 0i32;
+    let mut g3 = 0i32;
     let mut k = 0;
     while k < width {
-        let rose = lift_cell(d, row, to, delta, k);
-        grown = grown | rose;
-        k += 1;
+        g0 = g0 | lift_cell(d, row, to, delta, k);
+        g1 = g1 | lift_cell(d, row, to, delta, k + 1);
+        g2 = g2 | lift_cell(d, row, to, delta, k + 2);
+        g3 = g3 | lift_cell(d, row, to, delta, k + 3);
+        k += 4;
     }
-    grown != 0
+    (g0 | g1 | g2 | g3) != 0
 }
 
 // The same with marks. Where `to` has one nothing needs to be noted, as in most cases.

@@ -148,7 +148,7 @@ swept-none S none = record { square = S; each = λ anchor N k q. swept-idle none
 
 -- A visit: the edges out of u, and then what waits for it, with the cells that row u had.
 module _
-    (es : List ℕ) (least : ℕ → ℕ) (waiting number : List ℕ) (row : List ℤ) (u own width : ℕ) (top : ℤ) (d d′ d″ : List (List ℤ)) (m rest m′ m″ : ℕ) (trim : Trimmed (getD d u []) width own)
+    (es : List ℕ) (least : ℕ → ℕ) (waiting number : List ℕ) (row : List ℤ) (u own width top : ℕ) (d d′ d″ : List (List ℤ)) (m rest m′ m″ : ℕ) (trim : Trimmed (getD d u []) width own)
     (take : Taken (getD d u []) row own top) (bits : (v : ℕ) → test-bit rest v ≡ (test-bit m v && not (eqb v u)))
     (H : HandedAll (λ a. UsableFrom (members (graph es)) a) number u (lent row own) d d′ rest m′)
     (K : HandedAll (λ a. WaitsFor (least u) u (getD waiting u 0)) number u (lent row own) d′ d″ m′ m″) where

@@ -34,7 +34,7 @@ pub record Network (es lists waiting : List ℕ) (d : List (List ℤ)) : Type 0 
   pub waits : Within (length d) waiting
 
 -- A row of step u, made ready, can go along its edges.
-pub record Pushable (u width : ℕ) (top : ℤ) (es lists : List ℕ) (row : List ℤ) (d : List (List ℤ)) : Type 0 where
+pub record Pushable (u width top : ℕ) (es lists : List ℕ) (row : List ℤ) (d : List (List ℤ)) : Type 0 where
   pub below : u < most-steps
   pub few : width ≤ 64
   pub linked : Linked es lists d
@@ -56,9 +56,12 @@ pub record Visitable (u width : ℕ) (es lists waiting : List ℕ) (row : List �
   pub held : Held most-weight d
   pub long : length row ≡ 64
 
--- The visits of one sweep: by the order so many that mostly nothing is left, and then one of each step. More by the order cost more than they bring where returns are many.
+-- The visits of one sweep: by the order so many, some of them spare, that mostly nothing is left, and then one of each step. More by the order cost more than they bring where returns are many.
+abbrev pub spare-visits : ℕ
+spare-visits = 96
+
 abbrev pub visits : ℕ → ℕ
-visits n = n + (n + 16)
+visits n = n + (n + spare-visits)
 
 abbrev pub most-visits : ℕ
 most-visits = visits most-steps

@@ -15,6 +15,9 @@ ghost use Rattle.walk_lift.specs.Lifts.{Liftable, Raised, lent};
 ghost use Rattle.walk_edge.specs.Columns.{HandedAll, WaitsFor};
 ghost use Rattle.walk_sweep.specs.Graphs.{Next, Pushable, Sweepable, SweptBy, Tellable, Visitable, visits};
 
+// The visits of a sweep by the order, beyond one of each step.
+const SPARE_VISITS: usize = 96;
+
 // The edges out of u hand on a row.
 fn push_row(
     d: &mut [[i32; 64]],
@@ -23,7 +26,7 @@ fn push_row(
     es: &[u64],
     lists: &[u16],
     u: usize,
-    top: i32,
+    top: u32,
     number: &[u8; 64],
     width: usize,
 ) -> u64
@@ -148,7 +151,7 @@ fn rest_of(m: u64) -> u64 {
     }
 }
 
-// Steps hand on until no mark is left, or for long enough that each step below n has done so: by n + 16 visits, and then one of each step. A step that gets a mark comes into the hint by its
+// Steps hand on until no mark is left, or for long enough that each step below n has done so: by n and some spare visits, and then one of each step. A step that gets a mark comes into the hint by its
 // place. What hint, order and places are decides only how many visits there are. At first every step has a mark, so the marks are the hint.
 pub fn sweep(
     d: &mut [[i32; 64]],
@@ -169,7 +172,7 @@ pub fn sweep(
     let mut row = [walk_cells::NONE; 64];
     let mut left = marks;
     let mut hint = marks;
-    let mut k = n + (n + 16);
+    let mut k = n + (n + SPARE_VISITS);
     while k != 0 {
         if left == 0 {
             return left;

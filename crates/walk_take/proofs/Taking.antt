@@ -3,61 +3,74 @@ use mathlib.Core.Path.{_≡_, _∙_}
 use mathlib.Core.Bool.{false}
 use mathlib.Core.Logic.{_⊎_, inl, inr, _≢_}
 use mathlib.Core.List.{List}
-use Prim.Native.Nat.{ℕ, suc, _+_, _-_, _≤_, _<_}
-use native.Mathlib.Decide.{decLe}
+use Prim.Native.Nat.{ℕ, suc, _+_, _-_, _%_, _≤_, _<_}
 use native.Mathlib.Omega.{arith}
+use lib.Bits.{bitOr}
 use lib.Dec.{ltb}
-use lib.IntN.{ℤ, pos}
+use lib.IntN.{ℤ}
 use lib.ListN.{length, set, length-set}
 use lib.Seq.{getD-set-same, getD-set-other}
 use borrow.Author.Tests.{ltb-false}
 use Rattle.laws.proofs.Bools.{same-or-not}
-use Rattle.walk_cells.specs.Cells.{Clear, Larger, Movable, height, most-weight, none, value}
+use Rattle.laws.proofs.Maps.{or-above}
+use Rattle.walk_cells.specs.Cells.{Clear, Movable, most-weight, none, value}
 use Rattle.walk_cells.specs.Tables.{cell-of}
-use Rattle.walk_cells.proofs.Heights.{value-height}
-use Rattle.walk_cells.proofs.Values.{larger-value, value-pos, walk-clear}
-use Rattle.walk_lift.specs.Lifts.{Ready}
-use Rattle.walk_take.specs.Rows.{Taken, Trimmed}
+use Rattle.walk_take.specs.Rows.{CopiedCell, Taken, Trimmed}
 
--- The loop that makes a row ready: so far nothing, below the weight 0,
-pub taken-start : (cells row : List ℤ) → length row ≡ 64 → Taken cells row 0 (pos 0)
-taken-start cells row long = record {
-  ready = record { movable = record { long = long; each = λ j l. absurd (omega arith) }; tops = λ j l. absurd (omega arith); heaviest = record { clear = walk-clear (pos 0) (omega (arith, value-pos 0)); low = omega (arith, value-pos 0) } };
-  same = λ j l. absurd (omega arith);
-}
+-- The cells below n are made ready.
+pub record Copied (cells row : List ℤ) (n : ℕ) : Type 0 where
+  pub long : length row ≡ 64
+  pub each : (j : ℕ) → j < n → Movable (cell-of row j)
+  pub same : (j : ℕ) → j < n → value (cell-of row j) ≡ value (cell-of cells j)
 
--- and a turn stores one more cell, which says what the table's cell says.
-module _ (cells row : List ℤ) (k : ℕ) (top : ℤ) (T : Taken cells row k top) where
-  pub taken-turn : (c top′ : ℤ) → k < 64 → value (cell-of cells k) ≤ suc most-weight → Clear c → value c ≡ value (cell-of cells k) → Larger top c top′ → Taken cells (set row k c) (k + 1) top′
-  taken-turn c top′ b low clear says larger = record {
-    ready = record { movable = record { long = length-set row k c ∙ T .ready .movable .long; each = λ j l. each j l (same-or-not j k) }; tops = λ j l. tops j l (same-or-not j k); heaviest = heaviest (decLe (height c) (height top)) };
-    same = λ j l. same j l (same-or-not j k);
-  }
+-- None of them weighs more than b.
+abbrev pub Bound : List ℤ → ℕ → ℕ → Type 0
+Bound cells n b = (j : ℕ) → j < n → value (cell-of cells j) ≤ suc b
+
+-- One cell is stored, which says what the table's cell says.
+module _ (cells row : List ℤ) (k : ℕ) (long : length row ≡ 64) (b : k < 64) where
+  pub copied-cell : (c : ℤ) {w : ℕ} → value (cell-of cells k) ≤ suc most-weight → Clear c → value c ≡ value (cell-of cells k) → w ≡ value c - 1 → CopiedCell cells row (set row k c) k w
+  copied-cell c low clear says weighs =
+      let here : cell-of (set row k c) k ≡ c = getD-set-same row k c none (omega arith) in
+      record {
+        long = length-set row k c ∙ long;
+        movable = rw here (record { clear = clear; low = omega arith });
+        same = rw here says;
+        weighs = omega arith;
+        keeps = λ j o. getD-set-other row k j c none o;
+      }
+
+-- The loop: so far nothing, and a turn makes one more cell ready.
+pub copied-start : (cells row : List ℤ) → length row ≡ 64 → Copied cells row 0
+copied-start cells row long = record { long = long; each = λ j l. absurd (omega arith); same = λ j l. absurd (omega arith) }
+
+module _ {cells row row′ : List ℤ} {k w : ℕ} (next : ℕ) (is : next ≡ k + 1) (C : CopiedCell cells row row′ k w) where
+  pub copied-turn : Copied cells row k → Copied cells row′ next
+  copied-turn T = record { long = C .long; each = λ j l. each j l (same-or-not j k); same = λ j l. same j l (same-or-not j k) }
     where
-      here : cell-of (set row k c) k ≡ c
-      here = getD-set-same row k c none (omega (arith, T .ready .movable .long))
+      each : (j : ℕ) → j < next → (j ≡ k) ⊎ (j ≢ k) → Movable (cell-of row′ j)
+      each j l (inl e) = rw e (C .movable)
+      each j l (inr o) = rw (C .keeps j o) (T .each j (omega (arith, o)))
 
-      beside : (j : ℕ) → j ≢ k → cell-of (set row k c) j ≡ cell-of row j
-      beside j o = getD-set-other row k j c none o
+      same : (j : ℕ) → j < next → (j ≡ k) ⊎ (j ≢ k) → value (cell-of row′ j) ≡ value (cell-of cells j)
+      same j l (inl e) = rw e (C .same)
+      same j l (inr o) = rw (C .keeps j o) (T .same j (omega (arith, o)))
 
-      new : Movable c
-      new = record { clear = clear; low = omega arith }
+  pub bound-turn : (b : ℕ) → w ≤ b → Bound cells k b → Bound cells next b
+  bound-turn b few B j l = by (same-or-not j k)
+    where
+      by : (j ≡ k) ⊎ (j ≢ k) → value (cell-of cells j) ≤ suc b
+      by (inl e) = rw e (omega (arith, C .weighs))
+      by (inr o) = B j (omega (arith, o))
 
-      each : (j : ℕ) → j < k + 1 → (j ≡ k) ⊎ (j ≢ k) → Movable (cell-of (set row k c) j)
-      each j l (inl e) = rw (e, here) new
-      each j l (inr o) = rw (beside j o) (T .ready .movable .each j (omega (arith, o)))
-
-      tops : (j : ℕ) → j < k + 1 → (j ≡ k) ⊎ (j ≢ k) → value (cell-of (set row k c) j) ≤ value top′
-      tops j l (inl e) = rw (e, here) (omega (arith, larger-value larger))
-      tops j l (inr o) = rw (beside j o) (omega (arith, larger-value larger, T .ready .tops j (omega (arith, o))))
-
-      heaviest : Dec (height c ≤ height top) → Movable top′
-      heaviest (yes h) = rw (larger .kept h) (T .ready .heaviest)
-      heaviest (no h) = rw (larger .taken (omega arith)) new
-
-      same : (j : ℕ) → j < k + 1 → (j ≡ k) ⊎ (j ≢ k) → value (cell-of (set row k c) j) ≡ value (cell-of cells j)
-      same j l (inl e) = rw (e, here) says
-      same j l (inr o) = rw (beside j o) (T .same j (omega (arith, o)))
+-- Its end: what was gathered in four numbers is put together.
+pub taken-end : {cells row : List ℤ} {n : ℕ} (t₀ t₁ t₂ t₃ : ℕ) → n % 4 ≡ 0 → Copied cells row n → ((b : ℕ) → t₀ ≤ b → t₁ ≤ b → t₂ ≤ b → t₃ ≤ b → Bound cells n b) → Taken cells row n (bitOr (bitOr (bitOr t₀ t₁) t₂) t₃)
+taken-end t₀ t₁ t₂ t₃ fours T most =
+    let first = or-above t₀ t₁ in
+    let second = or-above (bitOr t₀ t₁) t₂ in
+    let third = or-above (bitOr (bitOr t₀ t₁) t₂) t₃ in
+    let tops = most (bitOr (bitOr (bitOr t₀ t₁) t₂) t₃) (omega arith) (omega arith) (omega arith) (omega arith) in
+    record { ready = record { movable = record { long = T .long; fours = fours; each = T .each }; tops = λ j l. omega (arith, tops j l, T .same j l) }; same = T .same }
 
 -- A column whose cell holds no walk is left out.
 pub trimmed-turn : (cells : List ℤ) (width w : ℕ) → Trimmed cells width w → 1 ≤ w → ltb 0 (value (cell-of cells (w - 1))) ≡ false → Trimmed cells width (w - 1)

@@ -1,10 +1,11 @@
 -- The first cells of a row, made ready to be handed on, and how many of them are worth it.
 use mathlib.Core.Path.{_≡_}
+use mathlib.Core.Logic.{_≢_}
 use mathlib.Core.List.{List, []}
 use Prim.Native.Nat.{ℕ, suc, _≤_, _<_}
 use lib.IntN.{ℤ}
 use lib.ListN.{length, getD}
-use Rattle.walk_cells.specs.Cells.{most-weight, value}
+use Rattle.walk_cells.specs.Cells.{Movable, most-weight, value}
 use Rattle.walk_cells.specs.Tables.{Target, cell-of}
 use Rattle.walk_lift.specs.Lifts.{Ready}
 
@@ -24,7 +25,15 @@ pub record Takeable (u width : ℕ) (d : List (List ℤ)) (row : List ℤ) : Typ
   pub low : (k : ℕ) → value (cell-of (getD d u []) k) ≤ suc most-weight
   pub long : length row ≡ 64
 
--- The cells of `row` below `width` are made ready and say what the cells of a row of the table say; none says more than `top`.
-pub record Taken (cells row : List ℤ) (width : ℕ) (top : ℤ) : Type 0 where
+-- The cell in column k of a row is made ready and says what that of a row of the table says, which weighs no more than w; no other changed.
+pub record CopiedCell (cells row row′ : List ℤ) (k w : ℕ) : Type 0 where
+  pub long : length row′ ≡ 64
+  pub movable : Movable (cell-of row′ k)
+  pub same : value (cell-of row′ k) ≡ value (cell-of cells k)
+  pub weighs : value (cell-of cells k) ≤ suc w
+  pub keeps : (j : ℕ) → j ≢ k → cell-of row′ j ≡ cell-of row j
+
+-- The cells of `row` below `width` are made ready and say what the cells of a row of the table say; none weighs more than `top`.
+pub record Taken (cells row : List ℤ) (width top : ℕ) : Type 0 where
   pub ready : Ready row width top
   pub same : (k : ℕ) → k < width → value (cell-of row k) ≡ value (cell-of cells k)

@@ -14,13 +14,13 @@ use Rattle.data_edges.specs.Serial.{leasts-in}
 use Rattle.data_edges.specs.Words.{graph}
 use Rattle.data_edges.proofs.Places.{ends-below-64}
 use Rattle.walk_cells.specs.Tables.{Square, said}
-use Rattle.walk_heaviest.proofs.Spreading.{empty-found}
+use Rattle.walk_heaviest.proofs.Bare.{blank-found, empty-found}
 use Rattle.laws.proofs.Bools.{both-ways}
 use Rattle.walk_settled.specs.Settled.{handed-on}
 use Rattle.walk_cells.proofs.Tables.{read-says}
 use Rattle.theory.specs.Graphs.{SheetLeasts, Well}
 use Rattle.theory.proofs.Feasibility.{stable-nonpositive-iff}
-use Rattle.judge_serial.proofs.Trying.{Offsets, edges-waited, maps-within, settled-feasible, sole-source, untried-infeasible, walks-offsets}
+use Rattle.judge_serial.proofs.Trying.{Offsets, edges-waited, first-column, maps-within, settled-feasible, sole-source, untried-infeasible, walks-offsets}
 use borrow.Author.Needs.{needs}
 use Rattle.judge_serial.proofs.leaves_times.Statement.{statement}
 use Rattle.judge_serial.proofs.leaves_times.Tie as tie
@@ -30,9 +30,9 @@ abbrev walked : tie.Else1 → tie.After-walks-if-possible
 walked s = s .before .before
 
 abbrev start : tie.After-walks-if-possible → tie.Start
-start s = s .before .before .before .before .before
+start s = s .before .before .before .before .before .before
 
--- What the table then says, and that it holds the source's offsets over the edges and the waits.
+-- What the table then says, and that its first column holds the source's offsets over the edges and the waits.
 abbrev table : tie.Else1 → List (List ℕ)
 table s = said (walked s .walks-if-possible .last .0)
 
@@ -46,7 +46,11 @@ abbrev least : tie.Else1 → ℕ → ℕ
 least s = leasts-in (start (walked s) .args .leasts .now)
 
 offsets : (s : tie.Else1) → Well (steps s) (members (edges s)) → SheetLeasts (least s) (members (edges s)) → start (walked s) .args .maps .now ≡ wait-maps (steps s) (edges s) → Offsets (steps s) (serialized (steps s) (least s) (edges s)) (replicate 64 1) (table s)
-offsets s well leasts waits = walks-offsets (least s) (start (walked s) .pre .few) (well .shape) waits (replicate 64 1) (table s) (λ within. walked s .walks-if-possible .ensures .cells (not-false _ (s .if1 .left)) within leasts)
+offsets s well leasts waits =
+    let w = walked s .walks-if-possible in
+    let few = start (walked s) .pre .few in
+    walks-offsets (least s) few (well .shape) waits (replicate 64 1) (table s)
+    (λ within. first-column (w .last .1 .0) (w .last .0) few (w .ensures .first 0 (well .some) (sole-source 0 (omega arith))) (w .ensures .cells (not-false _ (s .if1 .left)) within leasts))
 
 -- Whether it says nothing of the source itself.
 none-told : (s : tie.After-is-none) → s .is-none .result ≡ eqb (entry (table (s .before .before)) 0 0) 0
@@ -60,9 +64,9 @@ slice-aggregate-walks-if-possible c = search needs
 
 walks-if-possible-requires : tie.Need-walks-if-possible-requires
 walks-if-possible-requires c κs =
-    let s = c .before .before .before .before in
+    let s = c .before .before .before .before .before in
     let p = s .pre in
-    record { given = p; inside = search needs; bare = empty-found 64; ends = λ k b. omega (arith, ends-below-64 (s .args .es .now) k b) }
+    record { given = p; inside = search needs; bare = empty-found 64; blank = blank-found; ends = λ k b. omega (arith, ends-below-64 (s .args .es .now) k b) }
 
 returns : tie.Need-returns
 returns c = λ well gains leasts waits no-circle.

@@ -1,35 +1,19 @@
--- `judge_waits::hold_up` meets its contract: a forward edge holds nothing up, and a return those that reach its start, may use it and are not in its end's set.
-use mathlib.Core.Path.{sym, _∙_}
-use borrow.Author.Tests.{not-false, not-true}
+-- `judge_waits::hold_up` meets its contract: a return holds up those that reach its start, may use it and are not in its end's set.
 use Rattle.data_edges.specs.Words.{unpack}
-use Rattle.judge_waits.proofs.Waiting.{held-none, held-store}
+use Rattle.judge_waits.proofs.Waiting.{held-store}
 use borrow.Author.Needs.{needs}
 use Rattle.judge_waits.proofs.hold_up.Statement.{statement}
 use Rattle.judge_waits.proofs.hold_up.Tie as tie
 
--- Places: from where the map is made, those that may use the edge; from there its ends; from there, where it was seen that it is a return, that test, and the start.
+-- Places: from where the map is made, those that may use the edge; from there its ends; from there the start.
 abbrev users : tie.After-union → tie.After-usable-by
 users s = s .before .before .before .before
 
 abbrev ends : tie.After-usable-by → tie.After-edge-to
 ends s = s .before .before
 
-abbrev taken : tie.After-edge-to → tie.Else1
-taken s = s .before .before
-
-abbrev asked : tie.After-edge-to → tie.After-is-back
-asked s = taken s .before
-
 abbrev start : tie.After-edge-to → tie.Start
-start s = asked s .before
-
-is-back-requires : tie.Need-is-back-requires
-is-back-requires c κs = search needs
-
-returns : tie.Need-returns
-returns c =
-    let s = c .before .before in
-    held-none (s .args .reach .now) (s .args .sets .now) _ (unpack (s .args .w)) (s .pre) (sym (c .before .is-back .ensures) ∙ not-true _ (c .if1 .taken))
+start s = s .before .before
 
 edge-from-requires : tie.Need-edge-from-requires
 edge-from-requires c κs = search needs
@@ -70,20 +54,17 @@ mul-maps c = search needs
 element-write-maps : tie.Need-element-write-maps
 element-write-maps c = search needs
 
-returns-2 : tie.Need-returns-2
-returns-2 c =
+returns : tie.Need-returns
+returns c =
     let e = ends (users c) in
     let s = start e in
     let to = e .edge-to .ensures in
-    let back = sym (asked e .is-back .ensures) ∙ not-false _ (taken e .if1 .left) in
-    held-store (s .args .reach .now) (s .args .sets .now) _ (unpack (s .args .w)) (s .pre) _ _ _ _ _ (to .0) (to .1) (e .before .edge-from .ensures .0) back (users c .usable-by .ensures) (c .before .before .minus .ensures) (c .union .ensures)
+    held-store (s .args .reach .now) (s .args .sets .now) _ (unpack (s .args .w)) (s .pre .0) _ _ _ _ _ (to .0) (to .1) (e .before .edge-from .ensures .0) (s .pre .1) (users c .usable-by .ensures) (c .before .before .minus .ensures) (c .union .ensures)
 
 pub hold-up-spec : {M : Type 1} → statement M
 hold-up-spec =
     tie.close
     (tie.spec
-    is-back-requires
-    returns
     edge-from-requires
     edge-to-requires
     mul-usable-by
@@ -97,4 +78,4 @@ hold-up-spec =
     union-requires
     mul-maps
     element-write-maps
-    returns-2)
+    returns)

@@ -21,7 +21,7 @@ strip-requires : tie.Need-strip-requires Inv-loop μ-loop
 strip-requires c κs = search needs
 
 push-returns-requires : tie.Need-push-returns-requires Inv-loop μ-loop
-push-returns-requires c κs = c .before .strip .ensures .long
+push-returns-requires c κs = record { listed = c .before .before .before .before .before .pre .listed; long = c .before .strip .ensures .long }
 
 loop-holds : tie.Need-loop-holds Inv-loop μ-loop
 loop-holds c =

@@ -1,11 +1,9 @@
 -- `plan_answer::answer_edges` meets its contract: there is room for the lists of few edges, and for those of any.
 use borrow.Author.Needs.{needs}
 use native.Mathlib.Omega.{arith}
-use Prim.Native.Nat.{_+_}
 use lib.ListN.{length-replicate}
 use Rattle.data_lists.proofs.Linking.{zeros-empty}
-use Rattle.definitions.specs.Limits.{most-edges, most-steps}
-use Rattle.plan_answer.specs.Sizes.{few-edges}
+use Rattle.plan_answer.specs.Sizes.{few-listed, most-listed}
 use Rattle.plan_answer.proofs.answer_edges.Statement.{statement}
 use Rattle.plan_answer.proofs.answer_edges.Tie as tie
 
@@ -15,7 +13,7 @@ slice-aggregate-answer-listed c = search needs
 answer-listed-requires : tie.Need-answer-listed-requires
 answer-listed-requires c κs =
     let p = c .before .before .before .before .before .before .before .pre in
-    (record { sheet = p .0; room = simp length-replicate (omega arith); empty = zeros-empty (most-steps + few-edges) (omega arith) }, p .1)
+    (record { sheet = p .0; room = simp length-replicate (omega arith); empty = zeros-empty few-listed (omega arith) }, p .1)
 
 same-length : tie.Need-same-length
 same-length c = search needs
@@ -29,7 +27,7 @@ slice-aggregate-answer-listed-2 c = search needs
 answer-listed-requires-2 : tie.Need-answer-listed-requires-2
 answer-listed-requires-2 c κs =
     let p = c .before .before .before .before .before .before .before .pre in
-    (record { sheet = p .0; room = simp length-replicate (omega (arith, p .0 .edges)); empty = zeros-empty (most-steps + most-edges) (omega arith) }, p .1)
+    (record { sheet = p .0; room = simp length-replicate (omega (arith, p .0 .edges)); empty = zeros-empty most-listed (omega arith) }, p .1)
 
 same-length-2 : tie.Need-same-length-2
 same-length-2 c = search needs

@@ -5,7 +5,7 @@ use Rattle.data_edges.proofs.Places.{graph-at}
 use borrow.Author.Needs.{needs}
 use denote.Ref.{now}
 use Rattle.definitions.specs.Limits.{most-steps}
-use Rattle.walk_heaviest.proofs.Spreading.{empty-found}
+use Rattle.walk_heaviest.proofs.Bare.{empty-found}
 use Rattle.plan_answer.specs.Sizes.{few-steps, some-steps}
 use Rattle.plan_answer.proofs.Writing.{judged-responds}
 use Rattle.plan_answer.proofs.answer_listed.Statement.{statement}

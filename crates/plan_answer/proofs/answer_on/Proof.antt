@@ -6,6 +6,7 @@ use mathlib.Core.Bool.{true}
 use borrow.Author.Tests.{not-true, not-false}
 use denote.Ref.{now}
 use Rattle.definitions.specs.Numbers.{verdict-of}
+use Rattle.walk_heaviest.proofs.Bare.{blank-found}
 use Rattle.plan_deciding.proofs.Laws.{member-below}
 use Rattle.data_numbers.specs.Codes.{is-given}
 use Rattle.plan_answer.proofs.Writing.{fitting, given-written, list-right, outcome-of, refused-stays}
@@ -14,7 +15,7 @@ use Rattle.plan_answer.proofs.answer_on.Tie as tie
 
 -- Places on the way: the start, from where the edges are tabulated; that place, from where the verdict is checked; and this, from where it accepts.
 abbrev start : tie.After-tabulate → tie.Start
-start s = s .before .before .before .before .before .before .before .before
+start s = s .before .before .before .before .before .before .before .before .before
 
 abbrev tabulated : tie.After-checked → tie.After-tabulate
 tabulated s = s .before .before
@@ -27,8 +28,8 @@ accepts s = sym (s .before .accepted .ensures) ∙ not-false _ (s .if1 .left)
 
 tabulate-requires : tie.Need-tabulate-requires
 tabulate-requires c κs =
-    let p = c .before .before .before .before .before .before .before .pre in
-    (p .0, record { rows = search needs; maps = p .1 })
+    let p = c .before .before .before .before .before .before .before .before .pre in
+    (p .0, record { rows = search needs; maps = p .1; numbers = blank-found })
 
 checked-requires : tie.Need-checked-requires
 checked-requires c κs = start (c .before) .pre .0 .sheet .few
@@ -54,7 +55,7 @@ returns c os o =
 
 write-requires : tie.Need-write-requires
 write-requires c κs =
-    let e = c .before .before .before in
+    let e = c .before .before .before .before in
     let k = check e in
     let held = tabulated k .tabulate .ensures .held (k .checked .ensures .accepted (accepts e)) in
     record {
@@ -72,7 +73,7 @@ same-length-3 c = search needs
 returns-2 : tie.Need-returns-2
 returns-2 c os o =
     let w = c .before .before in
-    let e = w .before .before .before .before in
+    let e = w .before .before .before .before .before in
     let k = check e in
     let st = start (tabulated k) in
     let args = st .args in

@@ -1,9 +1,9 @@
--- The invariant: those left are members, and what is kept, less what the members left leave out, is the deciding set. The measure is the map of the members left. Assumes nothing.
+-- The invariant: those left are members, and what is kept, less what the members left leave out, is the deciding set. At the end step 0 alone may be left, which leaves nobody out. The measure is the map of the members left. Assumes nothing.
 use mathlib.Core.Path.{_≡_, sym, _∙_}
 use mathlib.Core.Bool.{true}
 use Prim.Native.Nat.{ℕ}
 use Rattle.definitions.specs.Basics.{test-bit}
-use Rattle.walk_cells.specs.Tables.{said}
+use Rattle.walk_cells.specs.Tables.{read-by}
 use Rattle.plan_deciding.specs.Working.{Orderly, member}
 use Rattle.plan_deciding.proofs.Laws.{Sieving, all-left-out, part-of, sieving-less, sieving-start, sieving-turn}
 use borrow.Author.Needs.{needs}
@@ -12,10 +12,10 @@ use Rattle.plan_deciding.proofs.deciding_set.Statement.{statement}
 use Rattle.plan_deciding.proofs.deciding_set.Tie as tie
 
 abbrev Inv-loop : tie.InvT-loop
-Inv-loop d sets v kept₀ left₀ kept left = ((b : ℕ) → test-bit left b ≡ true → member sets v b ≡ true) × (Orderly (said d) sets v → Sieving (said d) sets v kept left)
+Inv-loop d number sets v kept₀ left₀ kept left = ((b : ℕ) → test-bit left b ≡ true → member sets v b ≡ true) × (Orderly (read-by number d) sets v → Sieving (read-by number d) sets v kept left)
 
 abbrev μ-loop : tie.MeasureT-loop
-μ-loop d sets v kept₀ left₀ kept left = left
+μ-loop d number sets v kept₀ left₀ kept left = left
 
 mul-kept : tie.Need-mul-kept Inv-loop μ-loop
 mul-kept c = search needs
@@ -59,7 +59,7 @@ loop-again c =
     )
 
 returns : tie.Need-returns Inv-loop μ-loop
-returns c T a = sym (all-left-out _ _ _ _ (c .before .loop .left) _ (omega arith)) ∙ c .before .loop .inv .1 T .same a
+returns c T a = sym (all-left-out _ _ _ T _ (c .before .loop .left) _ (omega arith)) ∙ c .before .loop .inv .1 T .same a
 
 pub deciding-set-spec : {M : Type 1} → statement M
 deciding-set-spec =

@@ -1,57 +1,55 @@
--- The weight of the cell, without the least. Assumes nothing.
-use mathlib.Core.Path.{_≡_}
-use Prim.Native.Nat.{_-_}
-use native.Mathlib.Omega.{arith}
+-- The weight of the cell in the anchor's column, without the least. Assumes nothing.
 use borrow.Author.Needs.{needs}
-use Rattle.definitions.specs.Rounds.{entry}
-use Rattle.walk_cells.specs.Tables.{said}
-use Rattle.walk_cells.proofs.Tables.{read-says}
+use Rattle.walk_cells.proofs.Tables.{read-by-says}
 use Rattle.plan_deciding.proofs.offset_at.Statement.{statement}
 use Rattle.plan_deciding.proofs.offset_at.Tie as tie
 
-mul-weight : tie.Need-mul-weight
-mul-weight c = search needs
+element-copy-out-place : tie.Need-element-copy-out-place
+element-copy-out-place c = search needs
 
-mul-weight-2 : tie.Need-mul-weight-2
-mul-weight-2 c = search needs
+place-requires : tie.Need-place-requires
+place-requires c κs = search needs
 
-index-1-weight : tie.Need-index-1-weight
-index-1-weight c = search needs
+mul-weight-past : tie.Need-mul-weight-past
+mul-weight-past c = search needs
 
-index-2-weight : tie.Need-index-2-weight
-index-2-weight c = search needs
+mul-weight-past-2 : tie.Need-mul-weight-past-2
+mul-weight-past-2 c = search needs
 
-weight-requires : tie.Need-weight-requires
-weight-requires c κs = search needs
+index-1-weight-past : tie.Need-index-1-weight-past
+index-1-weight-past c = search needs
 
-mul-past-least : tie.Need-mul-past-least
-mul-past-least c = search needs
+index-2-weight-past : tie.Need-index-2-weight-past
+index-2-weight-past c = search needs
 
-element-copy-out-past-least : tie.Need-element-copy-out-past-least
-element-copy-out-past-least c = search needs
+mul-weight-past-3 : tie.Need-mul-weight-past-3
+mul-weight-past-3 c = search needs
 
-past-least-requires : tie.Need-past-least-requires
-past-least-requires c κs = search needs
+element-copy-out-weight-past : tie.Need-element-copy-out-weight-past
+element-copy-out-weight-past c = search needs
+
+weight-past-requires : tie.Need-weight-past-requires
+weight-past-requires c κs = search needs
 
 returns : tie.Need-returns
 returns c =
-    let weighed = c .before .before in
-    let copied = weighed .before in
-    let s = copied .before in
-    let cell = read-says (s .args .d .now) (s .pre .0 .square) (s .pre .0 .inside) (s .pre .1) (copied .weight-arg .given) in
-    let told : weighed .weight .result ≡ entry (said (s .args .d .now)) (s .args .v) (s .args .a) - 1 = rw cell at (weighed .weight .ensures) in
-    omega (arith, told)
+    let copied = c .before .before in
+    let placed = copied .before in
+    let s = placed .before .before in
+    let k = placed .place in
+    rw (read-by-says (s .args .d .now) (s .pre .0 .square) (s .pre .0 .inside) (k .ensures .1) (s .args .number .now) (s .pre .1) (k .ensures .0) (copied .weight-past-arg .given)) at (c .weight-past .ensures)
 
 pub offset-at-spec : {M : Type 1} → statement M
 offset-at-spec =
     tie.close
     (tie.spec
-    mul-weight
-    mul-weight-2
-    index-1-weight
-    index-2-weight
-    weight-requires
-    mul-past-least
-    element-copy-out-past-least
-    past-least-requires
+    element-copy-out-place
+    place-requires
+    mul-weight-past
+    mul-weight-past-2
+    index-1-weight-past
+    index-2-weight-past
+    mul-weight-past-3
+    element-copy-out-weight-past
+    weight-past-requires
     returns)

@@ -5,7 +5,7 @@ use Prim.Native.Nat.{ℕ, _≤_}
 use Rattle.definitions.specs.Basics.{test-bit}
 use Rattle.laws.proofs.Maps.{removed-lt}
 use Rattle.definitions.specs.Rounds.{entry}
-use Rattle.walk_cells.specs.Tables.{said}
+use Rattle.walk_cells.specs.Tables.{read-by}
 use Rattle.plan_deciding.specs.Working.{Full}
 use Rattle.plan_deciding.proofs.Laws.{kept-of, left-of, one-compared, all-compared}
 use native.Mathlib.Omega.{arith}
@@ -13,10 +13,10 @@ use Rattle.plan_deciding.proofs.without_reached.Statement.{statement}
 use Rattle.plan_deciding.proofs.without_reached.Tie as tie
 
 abbrev Inv-loop : tie.InvT-loop
-Inv-loop d v b map given kept₀ left₀ kept left = ((a : ℕ) → test-bit left a ≡ true → test-bit given a ≡ true) × (1 ≤ entry (said d) v b → Full (said d) v given → Full (said d) b given → (a : ℕ) → kept-of (said d) v b kept left a ≡ kept-of (said d) v b map given a)
+Inv-loop d number v b map given kept₀ left₀ kept left = ((a : ℕ) → test-bit left a ≡ true → test-bit given a ≡ true) × (1 ≤ entry (read-by number d) v b → Full (read-by number d) v given → Full (read-by number d) b given → (a : ℕ) → kept-of (read-by number d) v b kept left a ≡ kept-of (read-by number d) v b map given a)
 
 abbrev μ-loop : tie.MeasureT-loop
-μ-loop d v b map given kept₀ left₀ kept left = left
+μ-loop d number v b map given kept₀ left₀ kept left = left
 
 loop-holds : tie.Need-loop-holds Inv-loop μ-loop
 loop-holds c = (λ a h. h, λ p f g a. refl)

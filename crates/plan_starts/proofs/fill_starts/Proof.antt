@@ -11,10 +11,10 @@ use Rattle.plan_starts.proofs.fill_starts.Statement.{statement}
 use Rattle.plan_starts.proofs.fill_starts.Tie as tie
 
 abbrev Inv-loop : tie.InvT-loop
-Inv-loop d leasts sets n list out₀ row v₀ out v = (v ≤ n) × (length out ≡ length out₀) × (out ≡ laid (cell row) v out₀)
+Inv-loop d number leasts sets n list out₀ row v₀ out v = (v ≤ n) × (length out ≡ length out₀) × (out ≡ laid (cell row) v out₀)
 
 abbrev μ-loop : tie.MeasureT-loop
-μ-loop d leasts sets n list out₀ row v₀ out v = n - v
+μ-loop d number leasts sets n list out₀ row v₀ out v = n - v
 
 turns-requires : tie.Need-turns-requires Inv-loop μ-loop
 turns-requires c κs = search needs

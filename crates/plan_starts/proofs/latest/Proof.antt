@@ -4,7 +4,7 @@ use mathlib.Core.Bool.{false}
 use Prim.Native.Nat.{ℕ}
 use Rattle.definitions.specs.Basics.{largest, test-bit}
 use Rattle.laws.proofs.Maps.{removed-lt, test-zero}
-use Rattle.walk_cells.specs.Tables.{said}
+use Rattle.walk_cells.specs.Tables.{read-by}
 use Rattle.plan_starts.specs.Times.{term}
 use Rattle.plan_starts.proofs.Laws.{latest-of, none-taken, one-taken, all-taken}
 use borrow.Author.Needs.{needs}
@@ -13,10 +13,10 @@ use Rattle.plan_starts.proofs.latest.Statement.{statement}
 use Rattle.plan_starts.proofs.latest.Tie as tie
 
 abbrev Inv-loop : tie.InvT-loop
-Inv-loop d leasts members n list old v most₀ left₀ most left = latest-of (said d) leasts list old v n most left ≡ largest (test-bit members) (term (said d) leasts list old v) n
+Inv-loop d number leasts members n list old v most₀ left₀ most left = latest-of (read-by number d) leasts list old v n most left ≡ largest (test-bit members) (term (read-by number d) leasts list old v) n
 
 abbrev μ-loop : tie.MeasureT-loop
-μ-loop d leasts members n list old v most₀ left₀ most left = left
+μ-loop d number leasts members n list old v most₀ left₀ most left = left
 
 loop-holds : tie.Need-loop-holds Inv-loop μ-loop
 loop-holds c = none-taken _ _ _ _ _ _ _

@@ -2,7 +2,7 @@
 use mathlib.Core.Path.{_≡_}
 use Prim.Native.Nat.{_-_, _≤_}
 use lib.ListN.{length, length-set, replicate}
-use Rattle.walk_cells.specs.Tables.{said}
+use Rattle.walk_cells.specs.Tables.{read-by}
 use Rattle.plan_starts.specs.Times.{start-at, next-row}
 use Rattle.laws.proofs.Fronts.{laid, laid-none, laid-more}
 use borrow.Author.Needs.{needs}
@@ -11,10 +11,10 @@ use Rattle.plan_starts.proofs.turn.Statement.{statement}
 use Rattle.plan_starts.proofs.turn.Tie as tie
 
 abbrev Inv-loop : tie.InvT-loop
-Inv-loop d leasts sets n list old row₀ v₀ row v = (v ≤ n) × (length row ≡ 64) × (row ≡ laid (start-at (said d) leasts sets n list old) v row₀)
+Inv-loop d number leasts sets n list old row₀ v₀ row v = (v ≤ n) × (length row ≡ 64) × (row ≡ laid (start-at (read-by number d) leasts sets n list old) v row₀)
 
 abbrev μ-loop : tie.MeasureT-loop
-μ-loop d leasts sets n list old row₀ v₀ row v = n - v
+μ-loop d number leasts sets n list old row₀ v₀ row v = n - v
 
 loop-holds : tie.Need-loop-holds Inv-loop μ-loop
 loop-holds c = (omega arith, search needs, laid-none _ _)

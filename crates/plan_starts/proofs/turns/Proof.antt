@@ -1,7 +1,7 @@
 -- The invariant: the row after k turns. A turn that changes nothing ends them all. The measure is the number of turns that are left. Assumes nothing.
 use mathlib.Core.Path.{_≡_, sym, _∙_}
 use Prim.Native.Nat.{_-_, _≤_}
-use Rattle.walk_cells.specs.Tables.{said}
+use Rattle.walk_cells.specs.Tables.{read-by}
 use Rattle.plan_starts.specs.Times.{row-after}
 use Rattle.plan_starts.proofs.Laws.{row-after-none, row-after-more, row-after-stop}
 use borrow.Author.Needs.{needs}
@@ -10,10 +10,10 @@ use Rattle.plan_starts.proofs.turns.Statement.{statement}
 use Rattle.plan_starts.proofs.turns.Tie as tie
 
 abbrev Inv-loop : tie.InvT-loop
-Inv-loop d leasts sets n list row₀ k₀ row k = (k ≤ n) × (row ≡ row-after (said d) leasts sets n list k)
+Inv-loop d number leasts sets n list row₀ k₀ row k = (k ≤ n) × (row ≡ row-after (read-by number d) leasts sets n list k)
 
 abbrev μ-loop : tie.MeasureT-loop
-μ-loop d leasts sets n list row₀ k₀ row k = n - k
+μ-loop d number leasts sets n list row₀ k₀ row k = n - k
 
 loop-holds : tie.Need-loop-holds Inv-loop μ-loop
 loop-holds c = (omega arith, row-after-none _ _ _ _ _)

@@ -6,7 +6,7 @@ use mathlib.Core.List.{List, _++_}
 use Prim.Native.Nat.{ℕ, _+_, _*_, _-_, _≤_, _<_}
 use lib.ListN.{length, drop, length-take, length-drop}
 use Rattle.definitions.specs.Limits.{longest-table}
-use Rattle.walk_cells.specs.Tables.{said}
+use Rattle.walk_cells.specs.Tables.{read-by}
 use Rattle.plan_deciding.specs.Working.{Orderly}
 use Rattle.plan_table.specs.Rows.{first-rows}
 use Rattle.laws.proofs.Counts.{row-end, square-small}
@@ -15,10 +15,10 @@ use Rattle.plan_table.proofs.fill_plan.Statement.{statement}
 use Rattle.plan_table.proofs.fill_plan.Tie as tie
 
 abbrev Inv-loop : tie.InvT-loop
-Inv-loop d leasts sets n table₀ v₀ table v = (v ≤ n) × (length table ≡ length table₀) × (((u : ℕ) → u < n → Orderly (said d) sets u) → table ≡ first-rows (said d) leasts sets n v ++ drop (v * n) table₀)
+Inv-loop d number leasts sets n table₀ v₀ table v = (v ≤ n) × (length table ≡ length table₀) × (((u : ℕ) → u < n → Orderly (read-by number d) sets u) → table ≡ first-rows (read-by number d) leasts sets n v ++ drop (v * n) table₀)
 
 abbrev μ-loop : tie.MeasureT-loop
-μ-loop d leasts sets n table₀ v₀ table v = n - v
+μ-loop d number leasts sets n table₀ v₀ table v = n - v
 
 -- Places: the start, and where the table is cleared, from the loop.
 abbrev start : tie.At-loop Inv-loop μ-loop → tie.Start Inv-loop μ-loop
@@ -69,7 +69,7 @@ fill-row-requires : tie.Need-fill-row-requires Inv-loop μ-loop
 fill-row-requires c κs =
     let l = c .before in
     let p = start (l .before) .pre in
-    (record { own = record { below = omega (arith, p .rows .few); inside = omega (arith, p .rows .inside); square = p .rows .square }; members = λ a. p .members _ a (omega arith) }, simp (length-take, length-drop) (omega (arith, in-table l)))
+    (record { own = record { below = omega (arith, p .rows .few); inside = omega (arith, p .rows .inside); square = p .rows .square }; members = λ a. p .members _ a (omega arith) }, record { few = p .rows .few; fits = simp (length-take, length-drop) (omega (arith, in-table l)) })
 
 add-v : tie.Need-add-v Inv-loop μ-loop
 add-v c = search needs

@@ -14,7 +14,7 @@ same-length : tie.Need-same-length
 same-length c = search needs
 
 returns : tie.Need-returns
-returns c T clear = row-filled _ _ _ _ _ _ _ _ (c .before .before .before .before .deciding-set .ensures T) (c .before .before .before .before .before .before .pre .1) clear (c .before .before .put-offsets .ensures)
+returns c T clear = row-filled _ _ _ _ _ _ _ _ (c .before .before .before .before .deciding-set .ensures T) (c .before .before .before .before .before .before .pre .1 .fits) clear (c .before .before .put-offsets .ensures)
 
 pub fill-row-spec : {M : Type 1} → statement M
 fill-row-spec = tie.close (tie.spec deciding-set-requires put-offsets-requires same-length returns)

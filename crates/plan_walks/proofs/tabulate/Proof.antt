@@ -19,7 +19,7 @@ abbrev analysed : tie.Else1 → tie.After-judge-assuming-feasible
 analysed s = s .before .before
 
 abbrev sorted : tie.After-fill → tie.Else1
-sorted s = s .before .before .before .before .before
+sorted s = s .before .before .before .before .before .before
 
 -- What is told of 10.
 told : (s : tie.After-fill) → s .fill .result ≡ feasible (start (analysed (sorted s)) .args .n) (graph (now (start (analysed (sorted s)) .args .es)))
@@ -44,7 +44,7 @@ returns c =
     record { listed = presumed .unsorted unsorted; held = λ h. absurd (both-ways h (unsorted-refused presumed unsorted)) }
 
 fill-requires : tie.Need-fill-requires
-fill-requires c κs = start (analysed (c .before .before .before .before)) .pre .0
+fill-requires c κs = let p = start (analysed (c .before .before .before .before .before)) .pre in (p .0, p .1 .numbers)
 
 same-length : tie.Need-same-length
 same-length c = search needs

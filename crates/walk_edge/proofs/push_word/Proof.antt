@@ -2,13 +2,12 @@
 use mathlib.Core.List.{List}
 use mathlib.Core.Path.{sym, _∙_}
 use mathlib.Core.Logic.{_⊎_}
-use Prim.Native.Nat.{ℕ, suc, _+_, _≤_, _<_}
+use Prim.Native.Nat.{ℕ, _+_, _<_}
 use lib.IntN.{ℤ}
 use native.Mathlib.Omega.{arith}
 use Rattle.definitions.specs.Links.{UsableFrom}
 use Rattle.data_edges.specs.Words.{unpack}
-use Rattle.walk_cells.specs.Cells.{Delta, ground, height, value}
-use Rattle.walk_cells.proofs.Heights.{value-height}
+use Rattle.walk_cells.specs.Cells.{Delta}
 use Rattle.walk_lift.specs.Lifts.{Liftable, Raised, lent}
 use Rattle.walk_edge.specs.Columns.{HandedAll, Only}
 use Rattle.walk_edge.proofs.Handing.{Uses, handed-idle, handed-row, late-columns, late-on, timely-columns, timely-on}
@@ -16,6 +15,7 @@ use mir.Facts.{toZ-ofZ}
 use mir.Syntax.{w32}
 use mir.Val.{SFits}
 use borrow.Author.Needs.{needs, sfits-of}
+use borrow.Author.Tests.{leb-true}
 use Rattle.walk_edge.proofs.push_word.Statement.{statement}
 use Rattle.walk_edge.proofs.push_word.Tie as tie
 
@@ -75,15 +75,15 @@ delta-requires : tie.Need-delta-requires
 delta-requires c κs = search needs
 
 is-idle-requires : tie.Need-is-idle-requires
-is-idle-requires c κs = rw (toZ-ofZ (start c .fits .top), toZ-ofZ (delta-fits c)) (start c .pre .ready .heaviest, c .delta .ensures .1)
+is-idle-requires c κs = search needs
 
 returns : tie.Need-returns
 returns c =
     let tested = c .before in
     let s = tested .before in
     let a = start s .args in
-    let idle : height (a .top) + height (s .delta .result) ≤ ground + ground = rw (toZ-ofZ (start s .fits .top), toZ-ofZ (delta-fits s)) at (tested .is-idle .ensures (c .if1 .taken)) in
-    handed-idle (unpack (a .w)) _ (a .row .now) (a .width) (start s .pre .ready .movable) _ (a .top) _ (start s .pre .ready .tops) (start s .pre .target .square) (λ some. omega (arith, idle, by-edge s .sum, value-height (a .top)))
+    let idle = leb-true (a .top + gaining s .edge-gain .result) (losing s .edge-loss .result) (sym (tested .is-idle .ensures) ∙ c .if1 .taken) in
+    handed-idle (unpack (a .w)) _ (a .row .now) (a .width) (start s .pre .ready .movable) _ (a .top) _ (start s .pre .ready .tops) (start s .pre .target .square) (omega (arith, idle, gaining s .edge-gain .ensures .0, losing s .edge-loss .ensures .0))
 
 is-late-requires : tie.Need-is-late-requires
 is-late-requires c κs = search needs

@@ -1,10 +1,9 @@
--- `walk_heaviest::walks_if_possible` meets its contract: what the columns begin with, all sweeps, and the columns spread to the places of their anchors.
+-- `walk_heaviest::walks_if_possible` meets its contract: what the columns begin with, and all sweeps.
 use borrow.Author.Needs.{needs}
-use mathlib.Core.Path.{_≡_, refl, sym, _∙_}
+use mathlib.Core.Path.{_≡_}
 use mathlib.Core.Bool.{true}
 use Prim.Native.Nat.{ℕ, _<_}
 use native.Mathlib.Omega.{arith}
-use borrow.Author.Tests.{not-true, not-false}
 use Rattle.definitions.specs.Limits.{most-gain}
 use Rattle.definitions.specs.Links.{members}
 use Rattle.data_edges.specs.Serial.{leasts-in}
@@ -12,7 +11,6 @@ use Rattle.data_edges.specs.Words.{graph}
 use Rattle.walk_feasible.specs.Search.{rests}
 use Rattle.data_relations.specs.Rows.{row-bit}
 use Rattle.theory.specs.Graphs.{Gains, Rooted, Shape, SheetLeasts}
-use Rattle.laws.proofs.Bools.{both-ways}
 use Rattle.walk_cells.proofs.Tables.{square-own, square-then}
 use Rattle.walk_heaviest.proofs.FirstSweep.{rest-stable}
 use Rattle.walk_heaviest.proofs.Settled.{turned-within, walks-found}
@@ -24,7 +22,7 @@ abbrev start : tie.After-transpose → tie.Start
 start s = s .before .before .before .before
 
 abbrev turned : tie.After-seed → tie.After-transpose
-turned s = s .before .before .before .before
+turned s = s .before .before .before
 
 abbrev seeded : tie.After-settle → tie.After-seed
 seeded s = s .before .before .before .before .before
@@ -46,9 +44,6 @@ told w shape rooted gains leasts sources =
 
 transpose-requires : tie.Need-transpose-requires
 transpose-requires c κs = search needs
-
-no-numbers-requires : tie.Need-no-numbers-requires
-no-numbers-requires c κs = search needs
 
 seed-requires : tie.Need-seed-requires
 seed-requires c κs = search needs
@@ -80,52 +75,20 @@ same-length c = search needs
 
 returns : tie.Need-returns
 returns c =
-    let w = c .before .before in
-    record {
-      square = square-then (seeded w .seed .ensures .square) (w .settle .ensures .square);
-      cells = λ q. absurd (both-ways q refl);
-      told = λ shape rooted gains leasts sources. sym (not-true _ (c .if1 .taken)) ∙ told w shape rooted gains leasts sources;
-    }
-
-spread-rows-requires : tie.Need-spread-rows-requires
-spread-rows-requires c κs =
-    let w = c .before .before .before .before in
-    let sown = seeded w in
-    let p = start (turned sown) .pre in
-    let S = w .settle .ensures .square in
-    (record { few = p .given .few; inside = omega (arith, p .inside, sown .seed .ensures .square .rows, S .rows); square = square-own S }, sown .seed .ensures .low)
-
-same-length-2 : tie.Need-same-length-2
-same-length-2 c = search needs
-
-returns-2 : tie.Need-returns-2
-returns-2 c =
-    let tested = c .before .before .before .before in
-    let w = tested .before .before in
+    let w = c .before in
     let sown = seeded w in
     let t = turned sown in
     let s = start t in
     let a = s .args in
-    let possible = not-false _ (tested .if1 .left) in
-    let spread = c .before .spread-rows .ensures in
     record {
-      square = square-then (sown .seed .ensures .square) (square-then (w .settle .ensures .square) (spread .square));
+      square = square-then (sown .seed .ensures .square) (w .settle .ensures .square);
       cells = λ q within leasts well posed gains x inside support v b member.
           walks-found (a .es .now) (leasts-in (a .leasts .now)) (a .maps .now) (t .transpose .last .1 .1 .0) (a .sets .now) (a .n) (s .pre .given .few) within (t .transpose .ensures) well posed gains leasts
-          (sown .seed .ensures) (w .settle .ensures .settled possible) x inside support v b member spread;
-      told = λ shape rooted gains leasts sources. sym possible ∙ told w shape rooted gains leasts sources;
+          (sown .seed .ensures) (w .settle .ensures .settled q) x inside support v b member;
+      told = told w;
+      first = λ v b h. omega (arith, sown .seed .ensures .low v 0 b (omega arith) h);
     }
 
 pub walks-if-possible-spec : {M : Type 1} → statement M
 walks-if-possible-spec =
-    tie.close
-    (tie.spec
-    transpose-requires
-    no-numbers-requires
-    seed-requires
-    settle-requires
-    same-length
-    returns
-    spread-rows-requires
-    same-length-2
-    returns-2)
+    tie.close (tie.spec transpose-requires seed-requires settle-requires same-length returns)

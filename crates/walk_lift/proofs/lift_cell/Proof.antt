@@ -1,6 +1,6 @@
--- `walk_lift::lift_cell` meets its contract: the cell becomes the larger of itself and the sum, and one that is not below the sum stays.
+-- `walk_lift::lift_cell` meets its contract: the cell becomes the larger of itself and the sum, and where it does not change the row stays.
 use mathlib.Core.List.{[]}
-use mathlib.Core.Path.{_≡_, _∙_}
+use mathlib.Core.Path.{_≡_, sym, _∙_}
 use native.Mathlib.Omega.{arith}
 use lib.IntN.{pos}
 use lib.ListN.{getD}
@@ -9,7 +9,7 @@ use mir.Syntax.{w32}
 use mir.Val.{SFits}
 use borrow.Author.Needs.{needs, sfits-of}
 use Rattle.walk_cells.specs.Tables.{cell-at, cell-of}
-use Rattle.walk_cells.proofs.Heights.{risen-back, still-back}
+use Rattle.walk_cells.proofs.Heights.{risen-back}
 use Rattle.walk_cells.proofs.Tables.{cell-in}
 use Rattle.walk_lift.proofs.Lifting.{lifted-cell, still-cell}
 use Rattle.walk_lift.proofs.lift_cell.Statement.{statement}
@@ -26,10 +26,10 @@ handed-fits : (s : tie.After-moved-arg) → SFits w32 (getD (s .before .args .ro
 handed-fits s = sfits-of (s .moved-arg .given)
 
 handed-in : (s : tie.After-moved-arg) → getD (s .before .args .row .now) (s .before .args .k) (pos 0) ≡ cell-of (s .before .args .row .now) (s .before .args .k)
-handed-in s = let p = s .before .pre in cell-in (s .before .args .row .now) (s .before .args .k) (omega (arith, p .movable .long, p .target .few))
+handed-in s = let p = s .before .pre in cell-in (s .before .args .row .now) (s .before .args .k) (omega (arith, p .long, p .target .few))
 
 moved-requires : tie.Need-moved-requires
-moved-requires c κs = rw (toZ-ofZ (handed-fits c), toZ-ofZ (c .before .fits .delta), handed-in c) (c .before .pre .movable .each _ (omega arith), c .before .pre .small)
+moved-requires c κs = rw (toZ-ofZ (handed-fits c), toZ-ofZ (c .before .fits .delta), handed-in c) (c .before .pre .movable, c .before .pre .small)
 
 mul-old : tie.Need-mul-old
 mul-old c = search needs
@@ -58,8 +58,8 @@ index-1-new c = search needs
 index-2-new : tie.Need-index-2-new
 index-2-new c = search needs
 
-rises-requires : tie.Need-rises-requires
-rises-requires c κs = search needs
+change-requires : tie.Need-change-requires
+change-requires c κs = search needs
 
 same-length : tie.Need-same-length
 same-length c = search needs
@@ -84,7 +84,7 @@ returns c =
     let moved = sfits-of (sum .moved .ok) in
     let rises = risen-back (old-fits read) (handed-fits (sum .before)) (start .fits .delta) moved new (sum .moved .ensures) (told .larger .ensures) in (
       lifted-cell (start .args .to) (start .args .k) (start .args .delta) _ (start .args .row .now) (start .args .d .now) (start .pre .target) (rw (old-in read, handed-in (sum .before)) at rises),
-      λ z. still-cell (start .args .to) (start .args .k) (start .args .delta) _ (start .args .row .now) (start .args .d .now) (start .pre .target) (still-back (old-fits read) moved new (told .larger .ensures) (c .rises .ensures z) ∙ old-in read),
+      λ z. still-cell (start .args .to) (start .args .k) (start .args .delta) _ (start .args .row .now) (start .args .d .now) (start .pre .target) (c .change .ensures (sym (toZ-ofZ (sfits-of (c .change .ok))) ∙ z) ∙ toZ-ofZ (old-fits read) ∙ old-in read),
     )
 
 pub lift-cell-spec : {M : Type 1} → statement M
@@ -103,6 +103,6 @@ lift-cell-spec =
     mul-new-2
     index-1-new
     index-2-new
-    rises-requires
+    change-requires
     same-length
     returns)

@@ -6,10 +6,7 @@ use Rattle.definitions.specs.Basics.{test-bit}
 use Rattle.data_edges.specs.Serial.{leasts-in}
 use Rattle.walk_cells.proofs.Tables.{square-own}
 use Rattle.walk_sweep.proofs.Sweeping.{swept-none, visited}
-use mir.Facts.{toZ-ofZ}
-use mir.Syntax.{w32}
-use mir.Val.{SFits}
-use borrow.Author.Needs.{needs, sfits-of}
+use borrow.Author.Needs.{needs}
 use Rattle.walk_sweep.proofs.hand_on.Statement.{statement}
 use Rattle.walk_sweep.proofs.hand_on.Tie as tie
 
@@ -25,10 +22,6 @@ extent s = s .before .before .before
 
 abbrev taken : tie.After-push-row → tie.After-take
 taken s = s .before .before .before
-
--- The cell that says as much as any of the row fits.
-top-fits : (s : tie.After-take) → SFits w32 (s .take .result)
-top-fits s = sfits-of (s .take .ok)
 
 has-requires : tie.Need-has-requires
 has-requires c κs = search needs
@@ -54,13 +47,13 @@ take-requires : tie.Need-take-requires
 take-requires c κs =
     let e = c .before .before in
     let s = e .before .before .before .before .before .before .before in
-    record { target = record { row = s .pre .inside; few = e .extent .ensures .fits; square = s .pre .network .linked .square }; low = λ k. s .pre .held .most (s .args .u) k; long = s .pre .long }
+    (record { target = record { row = s .pre .inside; few = e .extent .ensures .0 .fits; square = s .pre .network .linked .square }; low = λ k. s .pre .held .most (s .args .u) k; long = s .pre .long }, e .extent .ensures .1)
 
 push-row-requires : tie.Need-push-row-requires
 push-row-requires c κs =
     let t = c .before .before in
     let p = start t .pre in
-    rw (toZ-ofZ (top-fits t)) (record { below = p .below; few = extent t .extent .ensures .fits; linked = p .network .linked; ready = t .take .ensures .ready })
+    record { below = p .below; few = extent t .extent .ensures .0 .fits; linked = p .network .linked; ready = t .take .ensures .ready }
 
 mul-push-waits : tie.Need-mul-push-waits
 mul-push-waits c = search needs
@@ -80,7 +73,7 @@ push-waits-requires c κs =
     let t = taken p in
     let s = start t in
     let S = p .push-row .ensures .square in
-    record { few = extent t .extent .ensures .fits; inside = λ i h. omega (arith, s .pre .network .waits (s .args .u) i h, S .rows); square = square-own S; movable = t .take .ensures .ready .movable }
+    record { few = extent t .extent .ensures .0 .fits; inside = λ i h. omega (arith, s .pre .network .waits (s .args .u) i h, S .rows); square = square-own S; movable = t .take .ensures .ready .movable }
 
 same-length : tie.Need-same-length
 same-length c = search needs
@@ -90,7 +83,7 @@ returns-2 c =
     let p = c .before .before .before .before .before .before .before in
     let t = taken p in
     let took = t .take .ensures in
-    (visited _ (leasts-in (start t .args .leasts .now)) (start t .args .waiting .now) _ _ _ _ _ _ _ _ _ _ _ _ _ (extent t .extent .ensures) took (removed t .remove .ensures) (p .push-row .ensures) (c .before .push-waits .ensures _ _), took .ready .movable .long)
+    (visited _ (leasts-in (start t .args .leasts .now)) (start t .args .waiting .now) _ _ _ _ _ _ _ _ _ _ _ _ _ (extent t .extent .ensures .0) took (removed t .remove .ensures) (p .push-row .ensures) (c .before .push-waits .ensures _ _), took .ready .movable .long)
 
 pub hand-on-spec : {M : Type 1} → statement M
 hand-on-spec =

@@ -7,7 +7,6 @@ use Rattle.data_lists.proofs.Following.{following-end, following-less, followin
 use Rattle.walk_cells.proofs.Tables.{square-own}
 use Rattle.walk_lift.specs.Lifts.{lent}
 use Rattle.walk_sweep.proofs.Handing.{Listing, listed-as, listed-more, listed-none}
-use mir.Facts.{toZ-ofZ}
 use borrow.Author.Needs.{needs}
 use Rattle.walk_sweep.proofs.push_row.Statement.{statement}
 use Rattle.walk_sweep.proofs.push_row.Tie as tie
@@ -63,11 +62,11 @@ push-word-requires c κs =
     let t = c .before .before .before in
     let p = entry t .pre in
     let S = t .loop .inv .been .square in
-    rw (toZ-ofZ (entry t .fits .top)) (record {
+    record {
       target = record { row = omega (arith, p .linked .ends (t .loop .k - 1) (omega (arith, t .loop .inv .few)), S .rows); few = p .few; square = square-own S };
       ready = p .ready;
       light = p .linked .listed .light (t .loop .k - 1) (omega (arith, t .loop .inv .few));
-    })
+    }
 
 add-index : tie.Need-add-index Inv-loop μ-loop
 add-index c = let t = turn (c .before) in omega (arith, t .loop .inv .few, entry t .pre .linked .listed .few)

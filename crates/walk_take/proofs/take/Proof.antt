@@ -1,54 +1,83 @@
--- `walk_take::take` meets its contract. Invariant: the cells below k are made ready, and none of them says more than the top. What falls: the cells that are left.
+-- `walk_take::take` meets its contract. Invariant: the cells below k, a multiple of four, are made ready, and a number that none of the four gathered ones is above bounds their weights. What falls: the cells that are left.
 use mathlib.Core.List.{List, []}
 use mathlib.Core.Path.{_≡_}
-use Prim.Native.Nat.{ℕ, _-_, _≤_, _<_}
+use Prim.Native.Nat.{ℕ, _+_, _-_, _%_, _≤_, _<_}
 use native.Mathlib.Omega.{arith}
-use lib.IntN.{ℤ, pos}
+use lib.IntN.{ℤ}
 use lib.ListN.{getD}
-use mir.Facts.{toZ-ofZ}
-use mir.Syntax.{w32}
-use mir.Val.{SFits, toZ}
-use borrow.Author.Needs.{needs, sfits-of}
-use Rattle.walk_cells.specs.Cells.{Clear, value}
-use Rattle.walk_cells.specs.Tables.{cell-of}
-use Rattle.walk_cells.proofs.Tables.{cell-in}
-use Rattle.walk_take.specs.Rows.{Taken}
-use Rattle.walk_take.proofs.Taking.{taken-start, taken-turn}
+use borrow.Author.Needs.{needs}
+use Rattle.laws.proofs.Maps.{or-above}
+use Rattle.walk_take.specs.Rows.{Takeable}
+use Rattle.walk_take.proofs.Taking.{Bound, Copied, bound-turn, copied-start, copied-turn, taken-end}
 use Rattle.walk_take.proofs.take.Statement.{statement}
 use Rattle.walk_take.proofs.take.Tie as tie
 
 abbrev Inv-loop : tie.InvT-loop
-Inv-loop d u row₀ width top₀ k₀ row top k = (k ≤ width) × Taken (getD d u []) row k (toZ w32 top)
+Inv-loop d u row₀ width t0₀ t1₀ t2₀ t3₀ k₀ row t0 t1 t2 t3 k = (k ≤ width) × (k % 4 ≡ 0) × Copied (getD d u []) row k × ((b : ℕ) → t0 ≤ b → t1 ≤ b → t2 ≤ b → t3 ≤ b → Bound (getD d u []) k b)
 
 abbrev μ-loop : tie.MeasureT-loop
-μ-loop d u row₀ width top₀ k₀ row top k = width - k
+μ-loop d u row₀ width t0₀ t1₀ t2₀ t3₀ k₀ row t0 t1 t2 t3 k = width - k
+
+-- The row of the table; that a turn has room for four cells; and that the next of them can be copied.
+abbrev cells-of : tie.At-loop Inv-loop μ-loop → List ℤ
+cells-of s = getD (s .before .args .d .now) (s .before .args .u) []
+
+four : (s : tie.In-loop Inv-loop μ-loop) → s .before .loop .k + 4 ≤ s .before .before .args .width
+four s = omega (arith, s .loop-test .taken, s .before .loop .inv .0, s .before .loop .inv .1, s .before .before .pre .1)
+
+ready : (s : tie.At-loop Inv-loop μ-loop) {n : ℕ} {row : List ℤ} (k : ℕ) → k < s .before .args .width → Copied (cells-of s) row n → Takeable (s .before .args .u) (k + 1) (s .before .args .d .now) row
+ready s k b C =
+    let p = s .before .pre .0 in
+    record { target = record { row = p .target .row; few = omega (arith, p .target .few); square = p .target .square }; low = p .low; long = C .long }
+
+-- The turn, and what is copied, from where one, two, three and four of its cells are.
+abbrev turn : tie.After-copy-cell Inv-loop μ-loop → tie.In-loop Inv-loop μ-loop
+turn s = s .before .before
+
+abbrev turn-2 : tie.After-copy-cell2 Inv-loop μ-loop → tie.In-loop Inv-loop μ-loop
+turn-2 s = turn (s .before .before)
+
+abbrev turn-3 : tie.After-copy-cell3 Inv-loop μ-loop → tie.In-loop Inv-loop μ-loop
+turn-3 s = turn-2 (s .before .before)
+
+abbrev turn-4 : tie.After-copy-cell4 Inv-loop μ-loop → tie.In-loop Inv-loop μ-loop
+turn-4 s = turn-3 (s .before .before)
+
+copied : (s : tie.After-copy-cell Inv-loop μ-loop) → Copied (cells-of (turn s .before)) (s .copy-cell .last .1 .1 .0) (turn s .before .loop .k + 1)
+copied s = copied-turn _ (omega arith) (s .copy-cell .ensures) (turn s .before .loop .inv .2)
+
+copied-2 : (s : tie.After-copy-cell2 Inv-loop μ-loop) → Copied (cells-of (turn-2 s .before)) (s .copy-cell2 .last .1 .1 .0) (turn-2 s .before .loop .k + 2)
+copied-2 s = copied-turn _ (omega arith) (s .copy-cell2 .ensures) (copied (s .before .before))
+
+copied-3 : (s : tie.After-copy-cell3 Inv-loop μ-loop) → Copied (cells-of (turn-3 s .before)) (s .copy-cell3 .last .1 .1 .0) (turn-3 s .before .loop .k + 3)
+copied-3 s = copied-turn _ (omega arith) (s .copy-cell3 .ensures) (copied-2 (s .before .before))
+
+copied-4 : (s : tie.After-copy-cell4 Inv-loop μ-loop) → Copied (cells-of (turn-4 s .before)) (s .copy-cell4 .last .1 .1 .0) (turn-4 s .before .loop .k + 4)
+copied-4 s = copied-turn _ (omega arith) (s .copy-cell4 .ensures) (copied-3 (s .before .before))
 
 loop-holds : tie.Need-loop-holds Inv-loop μ-loop
-loop-holds c = (omega arith, taken-start _ _ (c .pre .long))
+loop-holds c = (omega arith, omega arith, copied-start _ _ (c .pre .0 .long), λ b l₀ l₁ l₂ l₃ j q. absurd (omega arith))
 
-mul-clean : tie.Need-mul-clean Inv-loop μ-loop
-mul-clean c = search needs
+copy-cell-requires : tie.Need-copy-cell-requires Inv-loop μ-loop
+copy-cell-requires c κs = let s = c .before in ready (s .before) _ (omega (arith, four s)) (s .before .loop .inv .2)
 
-mul-clean-2 : tie.Need-mul-clean-2 Inv-loop μ-loop
-mul-clean-2 c = search needs
+add-copy-cell : tie.Need-add-copy-cell Inv-loop μ-loop
+add-copy-cell c = search needs
 
-index-1-clean : tie.Need-index-1-clean Inv-loop μ-loop
-index-1-clean c = search needs
+copy-cell-requires-2 : tie.Need-copy-cell-requires-2 Inv-loop μ-loop
+copy-cell-requires-2 c κs = let s = turn (c .before) in ready (s .before) _ (omega (arith, four s)) (copied (c .before))
 
-index-2-clean : tie.Need-index-2-clean Inv-loop μ-loop
-index-2-clean c = search needs
+add-copy-cell-2 : tie.Need-add-copy-cell-2 Inv-loop μ-loop
+add-copy-cell-2 c = search needs
 
-clean-requires : tie.Need-clean-requires Inv-loop μ-loop
-clean-requires c κs = search needs
+copy-cell-requires-3 : tie.Need-copy-cell-requires-3 Inv-loop μ-loop
+copy-cell-requires-3 c κs = let s = turn-2 (c .before) in ready (s .before) _ (omega (arith, four s)) (copied-2 (c .before))
 
-mul-c : tie.Need-mul-c Inv-loop μ-loop
-mul-c c = search needs
+add-copy-cell-3 : tie.Need-add-copy-cell-3 Inv-loop μ-loop
+add-copy-cell-3 c = search needs
 
-element-set-from-c : tie.Need-element-set-from-c Inv-loop μ-loop
-element-set-from-c c = search needs
-
-larger-requires : tie.Need-larger-requires Inv-loop μ-loop
-larger-requires c κs = search needs
+copy-cell-requires-4 : tie.Need-copy-cell-requires-4 Inv-loop μ-loop
+copy-cell-requires-4 c κs = let s = turn-3 (c .before) in ready (s .before) _ (omega (arith, four s)) (copied-3 (c .before))
 
 add-k : tie.Need-add-k Inv-loop μ-loop
 add-k c = search needs
@@ -56,42 +85,32 @@ add-k c = search needs
 loop-less : tie.Need-loop-less Inv-loop μ-loop
 loop-less c = search needs
 
--- A turn, from where the table's cell has been read: the start, what the turn begins with, and that the cell fits and is the table's.
-abbrev start : tie.After-clean-arg Inv-loop μ-loop → tie.Start Inv-loop μ-loop
-start s = s .before .before .before
-
-abbrev k-of : tie.After-clean-arg Inv-loop μ-loop → ℕ
-k-of s = s .before .before .loop .k
-
-abbrev cells-of : tie.After-clean-arg Inv-loop μ-loop → List ℤ
-cells-of s = getD (start s .args .d .now) (start s .args .u) []
-
-cell-fits : (s : tie.After-clean-arg Inv-loop μ-loop) → SFits w32 (getD (cells-of s) (k-of s) (pos 0))
-cell-fits s = sfits-of (s .clean-arg .given)
-
-inside : (s : tie.After-clean-arg Inv-loop μ-loop) → k-of s < 64
-inside s = omega (arith, s .before .loop-test .taken, start s .pre .target .few)
-
-cell-read : (s : tie.After-clean-arg Inv-loop μ-loop) → getD (cells-of s) (k-of s) (pos 0) ≡ cell-of (cells-of s) (k-of s)
-cell-read s =
-    let p = start s .pre .target in
-    cell-in (cells-of s) (k-of s) (omega (arith, inside s, p .square .cells (start s .args .u) (p .row)))
-
 loop-again : tie.Need-loop-again Inv-loop μ-loop
 loop-again c =
-    let cleaned = c .before in
-    let s = cleaned .before in
-    let fits : SFits w32 (cleaned .clean .result) = sfits-of (cleaned .clean .ok) in
-    let rose : SFits w32 (c .larger .result) = sfits-of (c .larger .ok) in
-    let clear : Clear (cleaned .clean .result) × (value (cleaned .clean .result) ≡ value (cell-of (cells-of s) (k-of s))) = rw (toZ-ofZ (cell-fits s), cell-read s) at (cleaned .clean .ensures) in
-    let larger = rw (toZ-ofZ fits) at (c .larger .ensures) in (
-      omega (arith, s .before .loop-test .taken),
-      rw (toZ-ofZ fits, toZ-ofZ rose)
-          (taken-turn (cells-of s) _ (k-of s) _ (s .before .before .loop .inv .1) (cleaned .clean .result) (c .larger .result) (inside s) (start s .pre .low (k-of s)) (clear .0) (clear .1) larger),
+    let third = c .before .before in
+    let second = third .before .before in
+    let first = second .before .before in
+    let s = turn first in
+    let b = s .before .loop in (
+      four s,
+      omega (arith, b .inv .1),
+      copied-4 c,
+      λ most l₀ l₁ l₂ l₃.
+          let a₀ = or-above (b .t0) (first .copy-cell .result) in
+          let a₁ = or-above (b .t1) (second .copy-cell2 .result) in
+          let a₂ = or-above (b .t2) (third .copy-cell3 .result) in
+          let a₃ = or-above (b .t3) (c .copy-cell4 .result) in
+          let b₀ = bound-turn (b .k + 1) (omega arith) (first .copy-cell .ensures) most (omega arith) (b .inv .3 most (omega arith) (omega arith) (omega arith) (omega arith)) in
+          let b₁ = bound-turn (b .k + 2) (omega arith) (second .copy-cell2 .ensures) most (omega arith) b₀ in
+          let b₂ = bound-turn (b .k + 3) (omega arith) (third .copy-cell3 .ensures) most (omega arith) b₁ in
+          bound-turn _ (omega arith) (c .copy-cell4 .ensures) most (omega arith) b₂,
     )
 
 returns : tie.Need-returns Inv-loop μ-loop
-returns c = let s = c .before in let e : s .loop .k ≡ s .before .args .width = omega arith in rw e at (s .loop .inv .1)
+returns c =
+    let s = c .before in
+    let e : s .loop .k ≡ s .before .args .width = omega arith in
+    rw e at (taken-end _ _ _ _ (s .loop .inv .1) (s .loop .inv .2) (s .loop .inv .3))
 
 pub take-spec : {M : Type 1} → statement M
 take-spec =
@@ -100,14 +119,13 @@ take-spec =
     Inv-loop
     μ-loop
     loop-holds
-    mul-clean
-    mul-clean-2
-    index-1-clean
-    index-2-clean
-    clean-requires
-    mul-c
-    element-set-from-c
-    larger-requires
+    copy-cell-requires
+    add-copy-cell
+    copy-cell-requires-2
+    add-copy-cell-2
+    copy-cell-requires-3
+    add-copy-cell-3
+    copy-cell-requires-4
     add-k
     loop-less
     loop-again
