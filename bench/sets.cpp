@@ -158,20 +158,34 @@ Draft worst(Random &rng) {
     }
 }
 
+// One limit more: below what other links ask for, by time (10), or over an open step (11).
+void spoil(Draft &d, Random &rng, bool by_time) {
+    const std::vector<int> start = starts(d);
+    for (;;) {
+        const int i = rng.from(1, 63), j = rng.from(1, 63);
+        if (i == j || (by_time ? start[j] < start[i] + 60 : d.ticks[i] >= 0)) continue;
+        const Draft before = d;
+        d.records[{i, j}].at_most = by_time ? rng.below(40) : 60000;
+        if (judged(d.bytes()) == (by_time ? 256 + 10 : 256 + 11)) return;
+        d = before;
+    }
+}
+
+// An impossible sheet of 64 steps and 512 records.
+Draft clash(Random &rng, bool by_time) {
+    for (;;) {
+        Draft d = accepted(rng, 64, 511, 15, 90);
+        spoil(d, rng, by_time);
+        if (d.records.size() == 512) return d;
+    }
+}
+
 // Parts of a large impossible sheet, as a search for a small impossible part asks for them: one record after the other is left out, and put back where
 // the rest is no longer impossible. A run of such parts, from anywhere in the search.
 void parts(Random &rng, Set &out, size_t sheets) {
     Draft d = accepted(rng, 64, 511, 15, 90);
     const bool by_time = rng.chance(50);
-    const std::vector<int> start = starts(d);
-    for (;;) {                                       // one limit more: below what other links ask for (10), or over an open step (11)
-        const int i = rng.from(1, 63), j = rng.from(1, 63);
-        if (i == j || (by_time ? start[j] < start[i] + 60 : d.ticks[i] >= 0)) continue;
-        const Draft before = d;
-        d.records[{i, j}].at_most = by_time ? rng.below(40) : 60000;
-        if (judged(d.bytes()) == (by_time ? 256 + 10 : 256 + 11)) break;
-        d = before;
-    }
+    spoil(d, rng, by_time);
     std::vector<std::pair<int, int>> left;
     for (const auto &record : d.records) left.push_back(record.first);
     for (size_t k = left.size() - 1; k > 0; k--) std::swap(left[k], left[rng.below(int(k) + 1)]);
@@ -204,6 +218,8 @@ Set make(const std::string &kind, uint64_t seed, size_t sheets) {
             set.push_back(worst(rng).bytes());
         } else if (kind == "l14") {
             parts(rng, set, sheets);
+        } else if (kind == "clash") {
+            set.push_back(clash(rng, 2 * set.size() < sheets).bytes());
         } else {
             std::fprintf(stderr, "no kind %s\n", kind.c_str());
             std::exit(2);

@@ -14,7 +14,7 @@ Set load(const std::string &path);                   // ends the program where t
 void store(const std::string &path, const Set &set);
 std::string facts(const Set &set);                   // one line
 
-// kind: small, medium, large, worst or l14.
+// kind: small, medium, large, worst, l14 or clash.
 Set make(const std::string &kind, uint64_t seed, size_t sheets);
 
 // Accepted sheets of n steps and r link records, or as many as there is room for.

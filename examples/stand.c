@@ -1,4 +1,5 @@
 /* Judges, plans and runs a sheet, each of its open steps lasting TICKS ticks, or its least duration where that is more: stand SHEET TICKS
+ * Of an impossible sheet it prints the few records that clash.
  *
  *     tools/library && cc -std=c11 -I include examples/stand.c target/staticlib/libstandplan.a -o target/stand
  */
@@ -12,7 +13,7 @@
 enum { MOST = STANDPLAN_MAX_STEPS };
 
 static uint8_t sheet[STANDPLAN_MAX_SHEET + 1]; /* a byte more than the longest sheet: what is longer is refused */
-static uint32_t table[STANDPLAN_MAX_TABLE], list[MOST], starts[MOST];
+static uint32_t table[STANDPLAN_MAX_TABLE], list[MOST], starts[MOST], records[STANDPLAN_MAX_RECORDS];
 static uint16_t leasts[MOST];
 static standplan_run run;
 
@@ -52,7 +53,18 @@ int main(int argc, char **argv) {
     fclose(file);
 
     /* Judge, waits allowed. Planning and working out starts judge too; this call is for who wants the verdict alone. */
-    printf("verdict %u\n", taken(standplan_judge(sheet, length, true)));
+    uint32_t verdict = standplan_judge(sheet, length, true), refusal = standplan_refused(verdict);
+
+    /* Where no times keep every link: the few records that clash, by their numbers. */
+    if (refusal == STANDPLAN_NEVER_KEPT || refusal == STANDPLAN_NOT_ALWAYS_KEPT) {
+        size_t few;
+        taken(standplan_clashes(sheet, length, records, STANDPLAN_MAX_RECORDS, &few));
+        printf("records that clash");
+        for (size_t k = 0; k < few; k++)
+            printf(" %u", records[k]);
+        printf("\n");
+    }
+    printf("verdict %u\n", taken(verdict));
 
     /* What a run is begun with: N, the map of the open steps, step 0 among them, and the least durations. The list has what open steps last here. */
     size_t n;

@@ -1,4 +1,5 @@
 """Judges, plans and runs a sheet, each of its open steps lasting TICKS ticks, or its least duration where that is more: stand.py SHEET TICKS
+Of an impossible sheet it prints the few records that clash.
 
     tools/library && PYTHONPATH=bindings/python python3 examples/stand.py examples/stand.sheet 10
 
@@ -15,7 +16,13 @@ def words(numbers):
 
 def show(sheet, ticks):
     # Judge, waits allowed. Planning and working out starts judge too; this call is for who wants the verdict alone.
-    print("verdict", standplan.judge(sheet, True))
+    try:
+        print("verdict", standplan.judge(sheet, True))
+    except standplan.Refused as refusal:
+        # Where no times keep every link: the few records that clash, by their numbers.
+        if refusal.number in (10, 11):
+            print("records that clash", words(standplan.clashes(sheet)))
+        raise
 
     # What a run is begun with: N, the open steps, step 0 among them, and the least durations. The list has what open steps last here.
     n, open_steps, leasts = standplan.steps(sheet)

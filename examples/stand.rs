@@ -1,9 +1,10 @@
 //! Judges, plans and runs a sheet, each of its open steps lasting TICKS ticks, or its least duration where that is more: stand SHEET TICKS
+//! Of an impossible sheet it prints the few records that clash.
 //!
 //!     tools/library && cargo run --manifest-path bindings/rust/Cargo.toml --target-dir target/rust --example stand examples/stand.sheet 10
 //!
 //! The crate `standplan` is bindings/rust: safe wrappers around the functions of include/standplan.h.
-use standplan::{judge, plan, starts, steps, waits, Refusal, Run, Steps};
+use standplan::{clashes, judge, plan, starts, steps, waits, Refusal, Run, Steps};
 use std::{env, fs, process::exit};
 
 fn words<T: ToString>(items: impl IntoIterator<Item = T>, between: &str) -> String {
@@ -17,7 +18,13 @@ fn members(map: u64) -> String {
 /// Judges, plans and runs the sheet; what is refused ends it.
 fn show(sheet: &[u8], ticks: u32) -> Result<(), Refusal> {
     // Judge, waits allowed. Planning and working out starts judge too; this call is for who wants the verdict alone.
-    println!("verdict {}", judge(sheet, true)?.number());
+    let verdict = judge(sheet, true);
+
+    // Where no times keep every link: the few records that clash, by their numbers.
+    if let Err(Refusal::NeverKept | Refusal::NotAlwaysKept) = verdict {
+        println!("records that clash {}", words(clashes(sheet)?, " "));
+    }
+    println!("verdict {}", verdict?.number());
 
     // What a run is begun with: N, the map of the open steps, step 0 among them, and the least durations. The list has what open steps last here.
     let Steps { n, open, leasts } = steps(sheet)?;

@@ -1,8 +1,8 @@
 /* The verified stand planner, for C and C++ (x86-64 Linux). tools/library builds what it is linked with: libstandplan.a and libstandplan.so in
  * target/staticlib; docs/GUIDE.md has the commands, examples/stand.c uses every call.
  *
- * A call returns a verdict, one number: 0, the sheet is sound, or the call of the runner is done; 1, the sheet is sound with waits;
- * 256 + k, refused by refusal k (docs/REFUSALS.md). Every input is answered. On a refusal nothing that is lent changes.
+ * A call returns a verdict, one number: 0, the sheet is sound, or, of steps, clashes and the runner, the call is done; 1, the sheet is sound with
+ * waits; 256 + k, refused by refusal k (docs/REFUSALS.md). Every input is answered. On a refusal nothing that is lent changes.
  *
  * Memory is lent by a pointer and a count of elements. A pointer is aligned and not null, also where the count is 0;
  * what a call writes to overlaps nothing else that it is lent. No call allocates, keeps a pointer, or has a state of its own.
@@ -10,7 +10,7 @@
  * Threads: calls are safe from several threads at once, unless one writes to memory that another has lent at that time. So a plan may be
  * shared by any number of runs; a run is held by one thread at a time.
  *
- * Stack, measured on x86-64 Linux (docs/GUIDE.md has the command), at most: judge and waits 78 kB, plan and starts 80 kB, steps 18 kB, begin, tick and finish 4 kB.
+ * Stack, measured on x86-64 Linux (docs/GUIDE.md has the command), at most: judge and waits 78 kB, plan and starts 80 kB, steps 18 kB, clashes 64 kB, begin, tick and finish 4 kB.
  * STANDPLAN_STACK bytes are enough for any call; the least stack that a thread may have (PTHREAD_STACK_MIN) is not.
  *
  * Version 2.0.0 changed the runner's calls (request L6): standplan_begin is lent the least durations, the state has them, and standplan_steps is new; it gives
@@ -28,9 +28,9 @@
 extern "C" {
 #endif
 
-#define STANDPLAN_VERSION "2.1.0"
+#define STANDPLAN_VERSION "2.2.0"
 #define STANDPLAN_VERSION_MAJOR 2
-#define STANDPLAN_VERSION_MINOR 1
+#define STANDPLAN_VERSION_MINOR 2
 #define STANDPLAN_VERSION_PATCH 0
 
 /* The most that there can be: steps and link records of a sheet, bytes of a sheet, numbers of a plan, ticks in a list of durations. */
@@ -72,7 +72,8 @@ enum standplan_refusal {
     STANDPLAN_CLOCK_END = 18,
     STANDPLAN_TOO_EARLY = 20,
     STANDPLAN_LIMIT_WITHOUT_AFTER = 26,
-    STANDPLAN_WAITS_CLASH = 28
+    STANDPLAN_WAITS_CLASH = 28,
+    STANDPLAN_NOT_IMPOSSIBLE = 31
 };
 
 /* The compiler warns where what a call returned is not looked at: on a refusal there is no answer, and nothing that was lent has changed. */
@@ -112,6 +113,7 @@ static inline const char *standplan_sentence(uint32_t verdict) {
     case STANDPLAN_TOO_EARLY: return "Finish at a tick below its start tick plus its least duration";
     case STANDPLAN_LIMIT_WITHOUT_AFTER: return "a link map with bit 4, at most from the finish, and without bit 0, after";
     case STANDPLAN_WAITS_CLASH: return "the waits close a circle of forward links, or leave no start times with each open step at its least";
+    case STANDPLAN_NOT_IMPOSSIBLE: return "the sheet is not refused as 10 or 11";
     default: return "a number that no call returns";
     }
 }
@@ -135,6 +137,13 @@ STANDPLAN_CHECKED uint32_t standplan_starts(const uint8_t *sheet, size_t sheet_l
  * durations, 0 for a step without one; the rest stays as lent. A sheet that judging would refuse 8, 10 to 12 or 28 is answered too.
  * On a refusal, 1 to 7, 26 or 14 (fewer than N numbers are lent), all stay as lent. STANDPLAN_MAX_STEPS numbers are enough for any sheet. */
 STANDPLAN_CHECKED uint32_t standplan_steps(const uint8_t *sheet, size_t sheet_len, size_t *n, uint64_t *open, uint16_t *leasts, size_t leasts_len);
+
+/* The few records that clash (request L14), of a sheet that judging refuses as 10 or 11: from the last link record to the first each one is dropped whose loss leaves the sheet
+ * still refused as 10 or 11. What stays is itself refused so, and without any one of its records it is not. Its record numbers, counted from 0, rising, are
+ * written to the front of numbers, and *count becomes how many they are; the rest stays as lent. Returns 0.
+ * On a refusal, 1 to 8, 26, 31 (the sheet is not refused as 10 or 11) or 14 (the list is shorter than the report), numbers and count stay as lent.
+ * STANDPLAN_MAX_RECORDS numbers are enough for any sheet. */
+STANDPLAN_CHECKED uint32_t standplan_clashes(const uint8_t *sheet, size_t sheet_len, uint32_t *numbers, size_t numbers_len, size_t *count);
 
 /* The runner. Its state is held by the caller, in memory of fixed size.
  * words: the step count, the map of open steps, the map of steps that have started, the map of those that have finished.

@@ -11,6 +11,8 @@
     run.begin(steps.open, steps.leasts)                 # [0, 1, 2]: these steps start now
     run.tick()                                          # []
     run.finish(2)                                       # [3]
+    late = sheet[:-2] + bytes([1, 0])                   # the limit of the last record is 1 in the place of 2: refused 10
+    standplan.clashes(late)                             # [4]: that record alone cannot be kept
 
 `allow` says whether waits are allowed. What is refused raises Refused, with its number and sentence (docs/REFUSALS.md), and changes nothing.
 The functions of the library are proved; this module is not: it lends them memory.
@@ -27,9 +29,9 @@ from functools import cache
 from pathlib import Path
 from typing import NamedTuple
 
-__version__ = "2.1.0"
+__version__ = "2.2.0"
 __all__ = ["SOUND", "SOUND_WITH_WAITS", "UNDECIDED", "MAX_STEPS", "MAX_RECORDS", "MAX_SHEET", "MAX_TABLE", "MAX_DURATION", "STACK", "SENTENCES",
-           "Refused", "NoLibrary", "Plan", "Steps", "Run", "judge", "waits", "plan", "starts", "steps"]
+           "Refused", "NoLibrary", "Plan", "Steps", "Run", "judge", "waits", "plan", "starts", "clashes", "steps"]
 
 SOUND, SOUND_WITH_WAITS = 0, 1                          # the verdicts
 UNDECIDED = 4294967295                                  # the number in a plan where a step does not decide another
@@ -58,6 +60,7 @@ SENTENCES = {
     20: "Finish at a tick below its start tick plus its least duration",
     26: "a link map with bit 4, at most from the finish, and without bit 0, after",
     28: "the waits close a circle of forward links, or leave no start times with each open step at its least",
+    31: "the sheet is not refused as 10 or 11",
 }
 
 
@@ -87,6 +90,7 @@ _CALLS = {
     "plan": [*_SHEET, ctypes.c_bool, _U32, _SIZE],
     "starts": [*_SHEET, ctypes.c_bool, _U32, _SIZE, _U32, _SIZE],
     "steps": [*_SHEET, ctypes.POINTER(_SIZE), _U64, _U16, _SIZE],
+    "clashes": [*_SHEET, _U32, _SIZE, ctypes.POINTER(_SIZE)],
     "begin": [*_STATE, _SIZE, ctypes.c_uint64, _U16, _SIZE, _U32, _SIZE],
     "tick": [*_STATE, _U32, _SIZE],
     "finish": [*_STATE, _SIZE, _U32, _SIZE],
@@ -193,6 +197,14 @@ def starts(sheet: bytes, allow: bool, durations: Sequence[int]) -> list[int]:
     given, out = _numbers(durations), (ctypes.c_uint32 * MAX_STEPS)()
     _called("starts", data, size, allow, given, len(given), out, MAX_STEPS)
     return out[:data[0]]
+
+
+def clashes(sheet: bytes) -> list[int]:
+    """The few records that clash, of a sheet that is refused as 10 or 11: their numbers, counted from 0, rising. From the last link record to the first each one is
+    dropped whose loss leaves the sheet still refused so; without any one of those that stay the others are not. Refusals 1 to 8, 26 and 31."""
+    numbers, count = (ctypes.c_uint32 * MAX_RECORDS)(), _SIZE()
+    _called("clashes", *_lent(sheet), numbers, MAX_RECORDS, ctypes.byref(count))
+    return numbers[:count.value]
 
 
 # ---------------------------------------------------------------- the runner

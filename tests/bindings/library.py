@@ -17,7 +17,7 @@ HERE, BUILT = Path(__file__).parent, ROOT / "target/staticlib"
 HEADER = (ROOT / "include/standplan.h").read_text("ascii")
 CRATE = (ROOT / "bindings/rust/src/lib.rs").read_text("utf-8")
 RETIRED = "retired: no sheet is refused so"
-CALLS = {f"standplan_{call}" for call in ("judge", "waits", "plan", "starts", "steps", "begin", "tick", "finish")}
+CALLS = {f"standplan_{call}" for call in ("judge", "waits", "plan", "starts", "steps", "clashes", "begin", "tick", "finish")}
 
 
 def check(found, wanted, what):
@@ -59,7 +59,8 @@ def header():
             good, said = compiles(taken, f"-std={standard}", compiler=compiler, kind=kind)
             assert good, said
     lines = {"judge": "standplan_judge(s, 1, true)", "waits": "standplan_waits(s, 1, w, t)", "plan": "standplan_plan(s, 1, true, t, 1)",
-             "starts": "standplan_starts(s, 1, true, t, 1, t, 1)", "steps": "standplan_steps(s, 1, n, w, l, 1)", "begin": "standplan_begin(w, t, t, t, l, w, 1, 0, l, 1, t, 1)",
+             "starts": "standplan_starts(s, 1, true, t, 1, t, 1)", "steps": "standplan_steps(s, 1, n, w, l, 1)", "clashes": "standplan_clashes(s, 1, t, 1, n)",
+             "begin": "standplan_begin(w, t, t, t, l, w, 1, 0, l, 1, t, 1)",
              "tick": "standplan_tick(w, t, t, t, l, w, t, 1)", "finish": "standplan_finish(w, t, t, t, l, w, 1, t, 1)",
              "run_begin": "standplan_run_begin(r, 1, 0, l, 1, t, 1, w)", "run_tick": "standplan_run_tick(r, t, 1, w)", "run_finish": "standplan_run_finish(r, 1, t, 1, w)"}
     check({f"standplan_{call}" for call in lines}, CALLS | set(re.findall(r"standplan_run_\w+(?=\()", HEADER)), "calls that are tried")
@@ -137,12 +138,12 @@ def installed(place):
 
 
 def stack(place):
-    """The stack of each call, on 64 steps with waits, is not above what the header says."""
-    said = re.search(r"at most: judge and waits (\d+) kB, plan and starts (\d+) kB, steps (\d+) kB, begin, tick and finish (\d+) kB", HEADER)
+    """The stack of each call, on 64 steps with waits, and on parts of large impossible sheets, is not above what the header says."""
+    said = re.search(r"at most: judge and waits (\d+) kB, plan and starts (\d+) kB, steps (\d+) kB, clashes (\d+) kB, begin, tick and finish (\d+) kB", HEADER)
     assert said, "the header does not say how much stack each call needs"
-    most = dict(zip(("judge", "waits", "plan", "starts", "steps", "begin", "tick", "finish"), (int(said[group]) for group in (1, 1, 2, 2, 3, 4, 4, 4))))
+    most = dict(zip(("judge", "waits", "plan", "starts", "steps", "clashes", "begin", "tick", "finish"), (int(said[group]) for group in (1, 1, 2, 2, 3, 4, 5, 5, 5))))
     ran("cc", "-std=c11", "-O2", "-Wall", "-Wextra", "-I", ROOT / "include", HERE / "stack.c", BUILT / "libstandplan.a", "-o", place / "stack")
-    found = dict(line.split() for line in ran(place / "stack", ROOT / "bench/sets/small.bin", ROOT / "bench/sets/large.bin", ROOT / "bench/sets/worst.bin").splitlines())
+    found = dict(line.split() for line in ran(place / "stack", *(ROOT / f"bench/sets/{name}.bin" for name in ("small", "large", "worst", "l14"))).splitlines())
     check(list(found), list(most), "calls whose stack was measured")
     for call, needs in found.items():
         assert int(needs) <= 1000 * most[call], f"{call} needs {needs} bytes of stack; the header says {most[call]} kB"

@@ -34,7 +34,7 @@ def numbers(words):
 
 
 def answers():
-    """Refusal 14 of a table or of starts that are lent too short cannot come up here: the module lends enough."""
+    """Refusal 14 of a table, of starts or of records that are lent too short cannot come up here: the module lends enough."""
     sheet, seen, count = b"", set(), 0
     for line in (ROOT / "tests/rust/data/answers.txt").read_text("ascii").splitlines():
         (kind, *rest), *fields = [field.split() for field in line.split(";")]
@@ -53,6 +53,8 @@ def answers():
             count_, open_ = map(int, fields[1])
             given = count_, [v for v in range(64) if open_ >> v & 1], numbers(fields[2])[:n]
             check(answer(standplan.steps, sheet), wanted if refused else given, what)
+        elif kind == "clashes" and wanted != ("refused", 14):
+            check(answer(standplan.clashes, sheet), wanted if refused else numbers(fields[1])[:wanted], what)
         elif kind == "plan" and wanted != ("refused", 14):
             made = answer(standplan.plan, sheet, rest == ["1"])
             if not refused:
@@ -64,9 +66,9 @@ def answers():
             check(answer(standplan.starts, sheet, rest == ["1"], numbers(fields[1])), wanted if refused else numbers(fields[2])[:n], what)
         else:
             continue
-        seen.add(wanted)
+        seen.add(wanted if refused or kind != "clashes" else kind)
         count += 1
-    assert count > 700 and len(seen) == 17, (count, seen)     # both verdicts, refusals 1 to 8, 10 to 14, 26 and 28
+    assert count > 900 and len(seen) == 19, (count, seen)     # both verdicts, records that clash, refusals 1 to 8, 10 to 14, 26, 28 and 31
     return count
 
 
@@ -122,6 +124,12 @@ def raised(call, *arguments):
         return type(fault)
 
 
+def ring(links):
+    """A chain of so many steps of 1 tick each, and a limit from its first to its last that is one tick too short: no record can be left out. It is the second of them."""
+    return bytes([links + 2, links + 1, 0, 1]) + bytes([2, 1, 0]) * (links + 1) + bytes([1, 1, 2, 4, 1, links + 1, *(links - 1).to_bytes(2, "little")]) + \
+        b"".join(bytes([1, v, v + 1]) for v in range(2, links + 1))
+
+
 def borders():
     """Numbers that C would cut off, what is not bytes, and no library."""
     stand = (ROOT / "examples/stand.sheet").read_bytes()
@@ -132,6 +140,10 @@ def borders():
     check(raised(standplan.starts, stand, True, [0, 0, 0.5, 0, 0]), TypeError, "a half")
     for sheet in ("05", 5, None, [5, 5]):
         check(raised(standplan.judge, sheet, True), TypeError, f"{sheet!r}, no bytes")
+        check(raised(standplan.clashes, sheet), TypeError, f"{sheet!r}, no bytes")
+    late = stand[:-2] + bytes([1, 0])
+    check((answer(standplan.judge, late, True), standplan.clashes(bytearray(late)), answer(standplan.clashes, stand)), (("refused", 10), [4], ("refused", 31)), "records that clash")
+    check(standplan.clashes(ring(62)), list(range(63)), "a report of 63 records")
     check(raised(made.deciding, 5), IndexError, "a row that is not there")
     run = Run(made)
     check(answer(run.finish, 2), ("refused", 15), "no run")

@@ -8,15 +8,15 @@
 
 #include "standplan.h"
 
-enum { ROOM = 1 << 20, FILL = 0xa5, CALLS = 8 };
+enum { ROOM = 1 << 20, FILL = 0xa5, CALLS = 9 };
 
-static const char *const names[CALLS + 1] = {"judge", "waits", "plan", "starts", "steps", "begin", "tick", "finish", "nothing"};
+static const char *const names[CALLS + 1] = {"judge", "waits", "plan", "starts", "steps", "clashes", "begin", "tick", "finish", "nothing"};
 static _Alignas(64) unsigned char stack[ROOM];
 static uint8_t sheet[STANDPLAN_MAX_SHEET];
-static size_t length, steps;
+static size_t length, steps, few;
 static uint64_t maps[STANDPLAN_MAX_STEPS], map, open_map;
 static uint16_t leasts[STANDPLAN_MAX_STEPS];
-static uint32_t count, table[STANDPLAN_MAX_TABLE], list[STANDPLAN_MAX_STEPS], out[STANDPLAN_MAX_STEPS], verdict;
+static uint32_t count, table[STANDPLAN_MAX_TABLE], list[STANDPLAN_MAX_STEPS], out[STANDPLAN_MAX_STEPS], numbers[STANDPLAN_MAX_RECORDS], verdict;
 static standplan_run run;
 static ucontext_t here, there;
 static int called;
@@ -29,9 +29,10 @@ static void call(void) {
     case 2: verdict = standplan_plan(sheet, length, true, table, STANDPLAN_MAX_TABLE); break;
     case 3: verdict = standplan_starts(sheet, length, true, list, n, out, n); break;
     case 4: verdict = standplan_steps(sheet, length, &steps, &open_map, leasts, STANDPLAN_MAX_STEPS); break;
-    case 5: memset(&run, 0, sizeof run); verdict = standplan_run_begin(&run, n, UINT64_MAX, leasts, n, table, n * n, &map); break;
-    case 6: verdict = standplan_run_tick(&run, table, n * n, &map); break;
-    case 7: verdict = standplan_run_finish(&run, 1, table, n * n, &map); break;
+    case 5: verdict = standplan_clashes(sheet, length, numbers, STANDPLAN_MAX_RECORDS, &few); break;
+    case 6: memset(&run, 0, sizeof run); verdict = standplan_run_begin(&run, n, UINT64_MAX, leasts, n, table, n * n, &map); break;
+    case 7: verdict = standplan_run_tick(&run, table, n * n, &map); break;
+    case 8: verdict = standplan_run_finish(&run, 1, table, n * n, &map); break;
     }
 }
 

@@ -1,6 +1,7 @@
 """tools/explain on stored sheets of each verdict, with gaps and without, with loose steps and without, with leasts and without, beside the reference planner (tests/reference): what is
-said is of the sheet's verdict; the records that clash are refused still, and not without any one of them; a circle is one, with a step that hangs from the
-start where it leads through there; plans are those of ./standplan, and each wait has a limit."""
+said is of the sheet's verdict; the records that clash are refused still, and not without any one of them, and of 10 and 11 they are those of request L14; a
+circle is one, with a step that hangs from the start where it leads through there; plans are those of ./standplan, and each wait has a limit. For 10 and 11 the
+library is asked once for the records, and judges no more than these few."""
 import importlib.machinery
 import importlib.util
 import re
@@ -60,6 +61,9 @@ def few(data, refused, said):
     assert records and len(set(records)) == len(records), said
     part = replace(sheet, links={pair: sheet.links[pair] for pair in records})
     assert number(part) in NUMBERS[refused], said
+    if refused != 28:
+        verdict, report = planner.clashes(data, [0] * len(sheet.links))
+        assert verdict == ("ok", len(records)) and records == [sorted(sheet.links)[k] for k in report[:len(records)]], (said, report)
     for pair in records:
         rest = replace(part, links={other: words for other, words in part.links.items() if other != pair})
         assert number(rest) not in NUMBERS[refused], (pair, said)
@@ -75,6 +79,26 @@ def few(data, refused, said):
         opens = [int(v) for v in re.findall(r"step (\d+)", said[-1])]
         assert number(part) == 11 and opens and all(v and sheet.steps[v] == "open" for v in opens) and " open and " in said[-1], said
     return len(records), len(hanging)
+
+
+def asked(data):
+    """How often the library is asked, for the records and for verdicts, while a sheet is explained; and what is said."""
+    calls, module = Counter(), tool.standplan
+    kept = {name: getattr(module, name) for name in ("clashes", "judge")}
+
+    def counted(name):
+        def call(*arguments):
+            calls[name] += 1
+            return kept[name](*arguments)
+        return call
+
+    for name in kept:
+        setattr(module, name, counted(name))
+    try:
+        return calls, tool.explained(data, [], True)
+    finally:
+        for name, call in kept.items():
+            setattr(module, name, call)
 
 
 def planned(data, said):
@@ -103,6 +127,11 @@ if __name__ == "__main__":
             continue
         seen[kind] += 1
         status, said = tool.explained(data, [], False)
+        if verdict in ("refused 10", "refused 11"):
+            calls, again = asked(data)
+            records = len(named(said)[0])
+            assert again == (status, said) and calls["clashes"] == 1 and calls["judge"] <= 3 + 4 * records, (calls, said)
+            counts["long"] += records < len(sheets.from_bytes(data).links) // 10
         if verdict == "0":
             assert status == 0, said
             counts["loose"] += planned(data, said)
@@ -118,6 +147,6 @@ if __name__ == "__main__":
             counts["loose"] += planned(data, said)
     assert {verdict for verdict, *_ in seen} == {"0", *(f"refused {k}" for k in (*range(1, 9), *range(10, 13), 26, 28))}, seen
     with_gaps, with_leasts = (sum(count for kind, count in seen.items() if kind[at]) for at in (1, 3))
-    assert with_gaps and with_leasts and counts["loose"] and counts["hanging"], (seen, counts)
+    assert with_gaps and with_leasts and counts["loose"] and counts["hanging"] and counts["long"], (seen, counts)
     print(f"{seen.total()} stored sheets explained, {with_gaps} of them with gaps, {with_leasts} with leasts; {counts['records']} records clash in {counts['sheets']} of them, "
           f"{counts['hanging']} of these by a step that hangs from the start; of plans {counts['loose']} such steps are named")

@@ -531,6 +531,24 @@ start 5 2 1     or 1 tick after right hand (2) ends,
 start 5 6 1     or 1 tick after third hand (6) ends, whichever is latest
 start 6 0 0   third hand (6) starts at tick 0
 """
+# 300 records: clamps that take 2 ticks, each after the five before it, and limits, one of which is too short for the clamps between.
+LONG = "step 0 open\n" + "".join(f"step {v} fixed 2 # {'left' if v % 2 else 'right'} clamp {(v + 1) // 2}\n" for v in range(1, 63)) + \
+    "".join(f"link {v} {w} after\n" for v in range(1, 63) for w in range(v + 1, min(v + 6, 63))) + \
+    "link 1 62 at-most 200\nlink 10 20 at-most 25\nlink 20 30 at-most 25\nlink 30 37 at-most 9\nlink 40 50 at-most 25\n"
+HANDFUL = "refused 10: with each open step at its least, no start times keep every link\n" + CLASH + """  line 209, link 30 31 after
+    left clamp 16 (31) starts after right clamp 15 (30) ends, which lasts 2 ticks
+  line 362, link 30 37 at-most 9
+    left clamp 19 (37) starts at most 9 ticks after right clamp 15 (30) starts
+  line 214, link 31 32 after
+    right clamp 16 (32) starts after left clamp 16 (31) ends, which lasts 2 ticks
+  line 219, link 32 33 after
+    left clamp 17 (33) starts after right clamp 16 (32) ends, which lasts 2 ticks
+  line 224, link 33 34 after
+    right clamp 17 (34) starts after left clamp 17 (33) ends, which lasts 2 ticks
+  line 231, link 34 37 after
+    left clamp 19 (37) starts after right clamp 17 (34) ends, which lasts 2 ticks
+Added up, 10 ticks are needed where 9 are allowed.
+"""
 
 
 def ran(*words, given=b""):
@@ -548,6 +566,8 @@ if __name__ == "__main__":
     for words, text, status, wanted in TEXTS:
         check(ran("-", *words, given=text.encode()), (status, wanted, ""), text)
     check(ran("-", given=WAITS.encode()), (0, ACCEPTED, ""), "waits")
+    check(LONG.count("\nlink"), 300, "records of a long sheet")
+    check(ran("-", given=LONG.encode()), (1, HANDFUL, ""), "the few of 300 records")
     check(ran("--no-waits", "-", given=WAITS.encode()),
           (1, "refused 12: waits are needed and the caller did not allow them\nIt is sound with these waits:\n" + LINES, ""), "waits that are not allowed")
     check({int(wanted.split()[1].rstrip(":")) for _, wanted in BYTES} | {int(wanted.split()[1].rstrip(":")) for *_, wanted in TEXTS if wanted.startswith("refused")} | {12},
@@ -568,4 +588,4 @@ if __name__ == "__main__":
     check(ran(ROOT / "tests"), (2, "", f"{ROOT / 'tests'}: Is a directory\n"), "a directory")
     check(ran("/none"), (2, "", "/none: No such file or directory\n"), "no file")
     check((ran()[:2], ran("-x")[:2], ran("--no-waits")[:2], ran("--help")[0]), ((2, ""), (2, ""), (2, ""), 0), "wrong use, help")
-    print(f"{len(BYTES) + len(TEXTS) + 2} sheets explained word for word")
+    print(f"{len(BYTES) + len(TEXTS) + 3} sheets explained word for word")

@@ -121,6 +121,32 @@ template <class Number> void need_rule(uint32_t verdict, const std::vector<Numbe
     need(std::equal(before.begin() + long(std::min(from, before.size())), before.end(), afterwards.begin() + long(std::min(from, before.size()))), "the second planner wrote outside its answer");
 }
 
+bool is_impossible(uint32_t verdict) { return verdict == 256 + 10 || verdict == 256 + 11; }
+
+// The promise of a report, parts judged as sheets of their own: the records that clash are impossible without the others, and no longer without any one of them.
+void need_clash(const Bytes &sheet, const Numbers &report) {
+    auto impossible = [&](const Numbers &records) {
+        const Bytes part = part_of(sheet, records);
+        return is_impossible(second_judge(part.data(), part.size(), true));
+    };
+    need(impossible(report), "the records of the second planner's report do not clash");
+    for (size_t k = 0; k < report.size(); k++) {
+        Numbers rest = report;
+        rest.erase(rest.begin() + long(k));
+        need(!impossible(rest), "the second planner reports a record that is not needed");
+    }
+}
+
+// The second planner's report of an impossible sheet.
+Numbers second_report(const Bytes &sheet) {
+    Numbers report(record_count(sheet));
+    size_t count = 0;
+    need(second_clashes(sheet.data(), sheet.size(), report.data(), report.size(), &count) == 0 && count <= report.size(), "the second planner reports no clash of an impossible sheet");
+    report.resize(count);
+    need_clash(sheet, report);
+    return report;
+}
+
 } // namespace
 
 void catch_faults() {
@@ -141,6 +167,28 @@ void case_begins(uint64_t seed, const char *kind, uint64_t number) {
     if (begun++ % 64 == 0) alarm(patience);
 }
 
+// One call on both sides, for a sheet that is lent; `tell` says what else it was lent.
+template <class Ours, class Look, class Tell> void Examiner::each_side(Call call, const char *name_of_call, const Bytes &sheet, uint32_t expected, Ours ours, Look look, Tell tell) {
+    met.verdicts[call][expected & 511]++;
+    for (Side &side : sides) {
+        try {
+            need_verdict(guarded([&] { return ours(side); }), expected);
+            look(side);
+            need_lent(side.sheet, sheet.data(), "sheet");
+        } catch (Failure &failure) {
+            throw Failure{std::string(name_of_call) + ": " + failure.what + "\n  guard page " + name(side.guard) + "\n  sheet " + hex(sheet.data(), sheet.size()) + "\n  " + tell()};
+        }
+    }
+}
+
+void Met::add_report(size_t count, size_t records) {
+    one_clash += count == 1;
+    some_clash += count > 1 && count < 40;
+    many_clash += count >= 40;
+    large_clash += records == most_links;
+    most_clash = std::max(most_clash, count);
+}
+
 void Examiner::sheet(const Bytes &bytes, Random &random) {
     const Current current(bytes);
     const uint8_t *const at = address(bytes);
@@ -148,26 +196,13 @@ void Examiner::sheet(const Bytes &bytes, Random &random) {
     const size_t n = length > 0 && bytes[0] >= 1 && bytes[0] <= 64 ? bytes[0] : random.below(65);
     for (Side &side : sides) lend(side.sheet, bytes);
 
-    // One call on both sides; `tell` says what it was lent.
-    auto each_side = [&](Call call, const char *name_of_call, uint32_t expected, auto ours, auto look, auto tell) {
-        met.verdicts[call][expected & 511]++;
-        for (Side &side : sides) {
-            try {
-                need_verdict(guarded([&] { return ours(side); }), expected);
-                look(side);
-                need_lent(side.sheet, at, "sheet");
-            } catch (Failure &failure) {
-                throw Failure{std::string(name_of_call) + ": " + failure.what + "\n  guard page " + name(side.guard) + "\n  sheet " + hex(at, length) + "\n  " + tell()};
-            }
-        }
-    };
     auto nothing = [](Side &) {};
 
     uint32_t allowed = 0;
     for (bool allow : {false, true}) {
         allowed = second_judge(at, length, allow);
         each_side(
-            judge, "judge", allowed, [&](Side &side) { return calls.judge(side.sheet.lent(), length, allow); }, nothing, [&] { return std::string("waits ") + (allow ? "allowed" : "not allowed"); });
+            judge, "judge", bytes, allowed, [&](Side &side) { return calls.judge(side.sheet.lent(), length, allow); }, nothing, [&] { return std::string("waits ") + (allow ? "allowed" : "not allowed"); });
     }
     if (allowed < 256) {
         const bool largest = n == 64 && bytes[1] == 0 && bytes[2] == 2, loose = loose_steps(bytes) != 0;
@@ -190,7 +225,7 @@ void Examiner::sheet(const Bytes &bytes, Random &random) {
         if (expected < 256) need(count == sum && (expected == 1) == (sum > 0), "the second planner's waits and their count differ");
         else need(maps == maps_before && count == count_before, "the second planner wrote waits on a refusal");
         each_side(
-            waits, "waits", expected,
+            waits, "waits", bytes, expected,
             [&](Side &side) {
                 side.maps.lend(maps_before.data(), sizeof maps_before);
                 side.count.lend(&count_before, sizeof count_before);
@@ -212,7 +247,7 @@ void Examiner::sheet(const Bytes &bytes, Random &random) {
             for (size_t k = 0; k < n * n; k++)
                 if (table[k] != STANDPLAN_UNDECIDED) met.heaviest = std::max(met.heaviest, table[k]);
         each_side(
-            plan, "plan", expected,
+            plan, "plan", bytes, expected,
             [&](Side &side) {
                 lend(side.table, before);
                 return calls.plan(side.sheet.lent(), length, allow, numbers_at(side.table), before.size());
@@ -227,7 +262,7 @@ void Examiner::sheet(const Bytes &bytes, Random &random) {
         need_rule(expected, before, out, n);
         met.below_least += expected == 256 + 13 && only_below_least(bytes, list);
         each_side(
-            starts, "starts", expected,
+            starts, "starts", bytes, expected,
             [&](Side &side) {
                 lend(side.list, list);
                 lend(side.out, before);
@@ -252,7 +287,7 @@ void Examiner::sheet(const Bytes &bytes, Random &random) {
         need_rule(expected, before, leasts, n);
         need(expected < 256 ? steps_n == n && open & 1 : steps_n == n_before && open == open_before, "the second planner's step count or open map is out of place");
         each_side(
-            steps, "steps", expected,
+            steps, "steps", bytes, expected,
             [&](Side &side) {
                 side.n.lend(&n_before, sizeof n_before);
                 side.open.lend(&open_before, sizeof open_before);
@@ -266,6 +301,41 @@ void Examiner::sheet(const Bytes &bytes, Random &random) {
             },
             [&] { return "leasts of " + std::to_string(before.size()) + "\n  expected " + list_of(leasts.data(), leasts.size()); });
     }
+
+    clashing_records(bytes, is_impossible(allowed), random);
+}
+
+// Which records clash. The call takes a judgement for each record: small sheets are tried with two lengths of what is lent, large ones with one, the largest now and then.
+void Examiner::clashing_records(const Bytes &bytes, bool impossible, Random &random) {
+    const size_t records = impossible ? record_count(bytes) : 0;
+    if (records > 256 && !random.chance(15)) return;
+    const Numbers report = impossible ? second_report(bytes) : Numbers();
+    for (int times = impossible && records <= 64 ? 2 : 1; times > 0; times--) lend_report(bytes, report, random);
+}
+
+// One call; the report that is expected, if there is room for it.
+void Examiner::lend_report(const Bytes &bytes, const Numbers &expected_report, Random &random) {
+    const size_t answer = expected_report.size(), count_before = size_t(random.next());
+    const Numbers before = draw_numbers(random, draw_report_length(random, answer));
+    Numbers report = before;
+    size_t count = count_before;
+    const uint32_t expected = second_clashes(address(bytes), bytes.size(), address(report), report.size(), &count);
+    need_rule(expected, before, report, answer);
+    if (expected == 0) need(count == answer && std::equal(expected_report.begin(), expected_report.end(), report.begin()), "the second planner gives another report");
+    else need(count == count_before, "the second planner counts records on a refusal");
+    if (expected == 0) met.add_report(count, record_count(bytes));
+    each_side(
+        clashes, "clashes", bytes, expected,
+        [&](Side &side) {
+            lend(side.report, before);
+            side.count.lend(&count_before, sizeof count_before);
+            return calls.clashes(side.sheet.lent(), bytes.size(), numbers_at(side.report), before.size(), size_at(side.count));
+        },
+        [&](Side &side) {
+            need_lent(side.report, report.data(), "report");
+            need_lent(side.count, &count, "count");
+        },
+        [&] { return "a report of " + std::to_string(before.size()) + "\n  expected " + list_of(expected_report.data(), answer); });
 }
 
 // A run as the second runner has it, and on each side as the library has it.

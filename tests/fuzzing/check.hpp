@@ -16,6 +16,7 @@ struct Calls {
     decltype(&standplan_plan) plan = standplan_plan;
     decltype(&standplan_starts) starts = standplan_starts;
     decltype(&standplan_steps) steps = standplan_steps;
+    decltype(&standplan_clashes) clashes = standplan_clashes;
     decltype(&standplan_begin) begin = standplan_begin;
     decltype(&standplan_tick) tick = standplan_tick;
     decltype(&standplan_finish) finish = standplan_finish;
@@ -26,7 +27,7 @@ struct Failure {
     std::string what;
 };
 
-enum Call { judge, waits, plan, starts, steps, begin, tick, finish, call_count };
+enum Call { judge, waits, plan, starts, steps, clashes, begin, tick, finish, call_count };
 
 // What was met.
 struct Met {
@@ -39,12 +40,19 @@ struct Met {
     uint64_t below_least = 0;  // lists refused by entries below their leasts alone
     size_t longest = 0;        // bytes of an accepted sheet
     uint32_t heaviest = 0;     // the largest offset of a plan
+    uint64_t one_clash = 0;    // reports of one record that clashes
+    uint64_t some_clash = 0;   // of several
+    uint64_t many_clash = 0;   // of 40 or more
+    uint64_t large_clash = 0;  // reports of sheets with R = 512
+    size_t most_clash = 0;     // records of the longest report
     uint64_t proper_runs = 0;  // runs of an accepted sheet's plan
     uint64_t least_runs = 0;   // those of a sheet with leasts above 0
     uint64_t just_long = 0;    // steps of theirs that finished at exactly their least above 0
     uint64_t ended_runs = 0;   // those in which every step started and every open one finished
     uint64_t started = 0;      // steps whose start was compared with the second planner's
     uint64_t fullest = 0;      // most calls in one run
+
+    void add_report(size_t count, size_t records);
 };
 
 // From now on a call that faults is a failure, and one that does not answer ends the program with the case that has begun.
@@ -55,6 +63,7 @@ class Examiner {
     struct Side {
         Guard guard;
         Lent sheet{guard, Lent::pages_for(longest_input)}, table{guard, Lent::pages_for(longest_table * sizeof(uint32_t))}, list{guard, 1}, out{guard, 1}, maps{guard, 1}, count{guard, 1}, leasts{guard, 1}, n{guard, 1}, open{guard, 1};
+        Lent report{guard, Lent::pages_for(longest_report * sizeof(uint32_t))};
         Lent words{guard, 1}, tick{guard, 1}, start{guard, 1}, finish{guard, 1}, least{guard, 1}, map{guard, 1};
     };
     class Run;
@@ -62,6 +71,9 @@ class Examiner {
     const Calls calls;
     std::array<Side, 2> sides{{{Guard::end}, {Guard::start}}};
 
+    template <class Ours, class Look, class Tell> void each_side(Call call, const char *name_of_call, const Bytes &sheet, uint32_t expected, Ours ours, Look look, Tell tell);
+    void clashing_records(const Bytes &sheet, bool impossible, Random &random);
+    void lend_report(const Bytes &sheet, const Numbers &expected_report, Random &random);
     void proper_run(Random &random);
     void any_run(Random &random);
 
@@ -70,7 +82,7 @@ public:
 
     explicit Examiner(const Calls &calls = {}) : calls(calls) {}
 
-    // Judges, lists the waits of, plans, works out starts of and says what begins a run of one input, on both sides of a guard page.
+    // Judges, lists the waits of, plans, works out starts of, says what begins a run of and which records clash in one input, on both sides of a guard page.
     void sheet(const Bytes &bytes, Random &random);
 
     // One run: of an accepted sheet's plan, or of states and tables from anywhere.

@@ -27,6 +27,7 @@ struct Link {
 struct Sheet {
     std::vector<Step> steps;
     std::map<std::pair<uint8_t, uint8_t>, Link> links;
+    std::vector<uint8_t> order; // of the steps that were drawn first: forward links run along it
     size_t odd_step = most_steps; // a step that gets another map than its own, with a field for each bit that has one
     uint8_t odd_map = 0;
 
@@ -177,7 +178,8 @@ Sheet draw_sheet(Random &random, const Aim &aim) {
     }
 
     // Forward links run along an order of the steps, step 0 first.
-    std::vector<uint8_t> order(n);
+    std::vector<uint8_t> &order = sheet.order;
+    order.resize(n);
     for (uint32_t v = 0; v < n; v++) order[v] = uint8_t(v);
     if (random.chance(50))
         for (uint32_t k = n - 1; k > 1; k--) std::swap(order[k], order[random.from(1, k)]);
@@ -331,6 +333,80 @@ void add_crossed_hands(Random &random, Sheet &sheet) {
     limit_finish(add_after(b, joint), few());
 }
 
+// So that nothing weighs anything and nothing is limited: what clashes is then what is added.
+void make_quiet(Random &random, Aim &aim) {
+    aim.heaviest = aim.widest = 0;
+    aim.leasts = aim.limits = 0;
+    aim.too_tight = aim.too_wide = aim.too_long = aim.circle = aim.into_start = 0;
+    aim.full = false;
+    if (random.chance(30)) aim.steps = random.from(40, most_steps);
+    if (random.chance(30)) aim.loose = 100;
+}
+
+// Steps of a clash, along the order: those with the lowest numbers, so that its records come first, those with the highest, or any.
+std::vector<uint8_t> draw_clash_steps(Random &random, const Sheet &sheet, uint32_t count) {
+    const uint32_t n = uint32_t(sheet.order.size()), where = random.below(3);
+    std::vector<uint8_t> steps;
+    uint32_t left = count;
+    for (uint32_t k = 0; k < n; k++) {
+        const uint8_t v = sheet.order[k];
+        if (where == 0 ? v < count : where == 1 ? v >= n - count : random.below(n - k) < left) steps.push_back(v), left--;
+    }
+    return steps;
+}
+
+// Puts the links of a clash into a sheet; where there is no room, others go.
+void put_links(Random &random, Sheet &sheet, const std::map<std::pair<uint8_t, uint8_t>, Link> &clash) {
+    for (const auto &[pair, added] : clash) {
+        Link &link = sheet.links[pair];
+        link.map |= added.map;
+        if (added.map & at_least) link.least = added.least;
+        if (added.map & at_most) link.most = added.most;
+        if (added.map & with_gap) link.gap = added.gap;
+        if (added.map & from_finish) link.finish = added.finish;
+    }
+    while (sheet.links.size() > most_links) {
+        auto other = std::next(sheet.links.begin(), random.below(uint32_t(sheet.links.size())));
+        if (!clash.count(other->first)) sheet.links.erase(other);
+    }
+}
+
+// Adds a chain of forward links and a limit over it that is too short, or that an open step of the chain breaks. The limit counts from the start of the first
+// step, from its finish, or from step 0: then what leads to the chain can go, for it hangs from the start by a link that is put in.
+void add_clash(Random &random, Sheet &sheet) {
+    const uint32_t n = uint32_t(sheet.order.size());
+    if (n < 2) return;
+    const std::vector<uint8_t> steps = draw_clash_steps(random, sheet, random.chance(n < 40 ? 20 : 60) ? n : random.from(2, std::min<uint32_t>(n, 8)));
+    const uint8_t first = steps.front(), last = steps.back();
+    std::map<std::pair<uint8_t, uint8_t>, Link> clash;
+    uint32_t length = 0;
+    bool hands = false; // whether an open step has to end before the last step starts
+    const bool finish = random.chance(30), afters = random.chance(60);
+    for (size_t k = 0; k + 1 < steps.size(); k++) {
+        const Step &step = sheet.steps[steps[k]];
+        Link &link = clash[{steps[k], steps[k + 1]}];
+        if (random.chance(afters ? 80 : 10)) {
+            link.map = after;
+            if (random.chance(85)) put_gap(link, random.from(1, 9));
+            length += link.gap + step.duration;
+            hands |= step.open && steps[k] != 0 && !(finish && k == 0);
+        } else {
+            link.map = at_least;
+            link.least = uint16_t(random.from(1, 9));
+            length += link.least;
+        }
+    }
+    const uint32_t lasts = finish ? sheet.steps[first].duration : 0;
+    const bool too_short = !hands || random.chance(50);
+    if (too_short && length <= lasts) return;
+    const uint32_t over = length > lasts ? length - lasts : 0;
+    const uint16_t limit = uint16_t(limited(too_short ? over - 1 - std::min(over - 1, random.below(3)) : over + random.below(10)));
+    Link &link = clash[{finish || random.chance(50) ? first : uint8_t(0), last}];
+    link.map |= finish ? after | from_finish : at_most;
+    (finish ? link.finish : link.most) = limit;
+    put_links(random, sheet, clash);
+}
+
 // Bytes that are often met in a sheet.
 uint8_t usual_byte(Random &random) {
     static const uint8_t usual[] = {0, 0, 0, 1, 1, 1, 1, 2, 2, 3, 3, 4, 5, 5, 6, 7, 8, 9, 9, 10, 11, 12, 13, 14, 15, 16, 17, 18, 19, 20, 21, 22, 23, 24, 25, 27, 29, 31, 63, 64, 65, 255};
@@ -364,7 +440,11 @@ Bytes draw_input(Random &random) {
         }
         return bytes;
     }
-    Sheet sheet = draw_sheet(random, draw_aim(random));
+    Aim aim = draw_aim(random);
+    const uint32_t clashes = random.chance(8) ? any_of(random, {1, 1, 1, 2, 3}) : 0;
+    if (clashes && random.chance(50)) make_quiet(random, aim);
+    Sheet sheet = draw_sheet(random, aim);
+    for (uint32_t k = 0; k < clashes; k++) add_clash(random, sheet);
     if (random.chance(4)) add_crossed_hands(random, sheet);
     if (kind >= 66 && kind < 69 && !sheet.links.empty()) { // a link map that is not allowed, all else whole
         Link &link = any_link(random, sheet);
@@ -431,6 +511,16 @@ std::vector<size_t> records_of(const Bytes &sheet) {
     return records;
 }
 
+Bytes part_of(const Bytes &sheet, const Numbers &records) {
+    std::vector<size_t> begins = records_of(sheet);
+    begins.push_back(sheet.size());
+    Bytes part(sheet.begin(), sheet.begin() + long(begins[0]));
+    for (uint32_t k : records) part.insert(part.end(), sheet.begin() + long(begins[k]), sheet.begin() + long(begins[k + 1]));
+    part[1] = uint8_t(records.size());
+    part[2] = uint8_t(records.size() >> 8);
+    return part;
+}
+
 uint64_t loose_steps(const Bytes &sheet) {
     uint64_t entered = 1;
     for (size_t at : records_of(sheet))
@@ -495,6 +585,16 @@ size_t draw_length(Random &random, size_t answer, size_t most) {
     if (kind >= 94) length = 0;
     if (kind >= 97) length = most;
     return std::min(length, most);
+}
+
+size_t draw_report_length(Random &random, size_t answer) {
+    switch (random.below(5)) {
+    case 0: return 0;
+    case 1: return answer > 0 ? answer - 1 : 0;
+    case 2: return answer;
+    case 3: return answer + random.from(1, 64);
+    default: return most_links;
+    }
 }
 
 Numbers draw_numbers(Random &random, size_t count) {

@@ -41,6 +41,7 @@ constexpr uint8_t step_field_bits = 6;               // of a step map: those wit
 constexpr size_t longest_table = most_steps * most_steps + 64;
 constexpr size_t longest_list = most_steps + 64;
 constexpr size_t longest_leasts = most_steps + 64;
+constexpr size_t longest_report = most_links + 64;
 constexpr uint32_t heaviest_field = 65535, longest_duration = 16777215;
 constexpr uint32_t largest_offset = heaviest_field + (most_steps - 2) * 2 * heaviest_field; // a gap after step 0, then a duration and a gap at each link
 
@@ -68,11 +69,20 @@ uint64_t loose_steps(const Bytes &sheet);
 // Where the link records of a sheet begin.
 std::vector<size_t> records_of(const Bytes &sheet);
 
+// How many link records a sheet says that it has.
+inline size_t record_count(const Bytes &sheet) { return sheet.size() < 3 ? 0 : sheet[1] | size_t(sheet[2]) << 8; }
+
+// A whole sheet with the link records of these numbers alone; they rise.
+Bytes part_of(const Bytes &sheet, const Numbers &records);
+
 // A list of durations for the sheet, mostly a good one, entries at, above and now and then below their leasts; all of it from anywhere where the sheet is not whole.
 Numbers draw_list(Random &random, const Bytes &sheet);
 
 // How many numbers are lent for an answer of `answer` numbers: mostly enough, at most `most`.
 size_t draw_length(Random &random, size_t answer, size_t most);
+
+// How many are lent for a report of `answer` records: none, one too few, exactly enough, more, or as many as any sheet needs.
+size_t draw_report_length(Random &random, size_t answer);
 
 // Numbers as they lie in lent memory before a call.
 Numbers draw_numbers(Random &random, size_t count);

@@ -124,6 +124,7 @@ const struct {
     {"plan", {1, 2, 3, 4, 26, 5, 6, 7, 8, 10, 11, 28, 12, 14}, true},
     {"starts", {1, 2, 3, 4, 26, 5, 6, 7, 8, 10, 11, 28, 12, 13, 14}, true},
     {"steps", {1, 2, 3, 4, 26, 5, 6, 7, 14}, false},
+    {"clashes", {1, 2, 3, 4, 26, 5, 6, 7, 8, 31, 14}, false},
     {"begin", {16, 2, 14}, false},
     {"tick", {15, 14, 18}, false},
     {"finish", {15, 14, 17, 20}, false},
@@ -151,9 +152,11 @@ bool report(const Met &met, bool all_sheets, bool all_runs) {
     }
     std::cout << "accepted sheets with N = 64 and R = 512: " << met.largest << ", with steps that follow nothing: " << met.loose << ", both: " << met.large_loose << "; the longest: " << met.longest << " bytes; the largest offset: " << met.heaviest << "\n";
     std::cout << "accepted sheets with leasts: " << met.leasts << ", of these with N = 64 and R = 512: " << met.large_leasts << "; lists refused 13 only by entries below their leasts: " << met.below_least << "\n";
+    std::cout << "reports of one record that clashes: " << met.one_clash << ", of several: " << met.some_clash << ", of 40 or more: " << met.many_clash << "; the longest: " << met.most_clash << "; of sheets with R = 512: " << met.large_clash << "\n";
     std::cout << "runs of a plan: " << met.proper_runs << ", with leasts: " << met.least_runs << ", steps of these that finished at exactly their least: " << met.just_long << "; to their end: " << met.ended_runs << ", starts compared: " << met.started << "; most calls in one run: " << met.fullest << "\n";
     if (all_sheets && (met.large_loose == 0 || met.longest != longest_sheet || met.heaviest != largest_offset)) all = false;
     if (all_sheets && (met.large_leasts == 0 || met.below_least == 0)) all = false;
+    if (all_sheets && (met.one_clash == 0 || met.some_clash == 0 || met.many_clash == 0 || met.large_clash == 0)) all = false;
     if (all_runs && (met.ended_runs == 0 || met.least_runs == 0 || met.just_long == 0)) all = false;
     return all;
 }
@@ -181,7 +184,7 @@ int fuzz(const Options &options) {
     std::cout << "seed " << options.seed;
     if (options.parts > 1) std::cout << ", part " << options.part << " of " << options.parts;
     std::cout << ": " << tried[sheet_kind] << " sheets and " << tried[run_kind] << " runs, each with the guard pages past the end and before the start: ";
-    std::cout << (all ? "no difference" : "no difference, but not every verdict, not the largest answers or nothing at a least was met");
+    std::cout << (all ? "no difference" : "no difference, but not every verdict, not the largest answers, not every kind of report or nothing at a least was met");
     std::cout << ", " << int(seconds() + 0.5) << " s" << std::endl;
     return all ? 0 : 1;
 }

@@ -56,18 +56,29 @@ bool can_finish(const uint64_t *words, size_t s, size_t table_len) {
 
 // The sheet without the records of forward links into step 0.
 Bytes without_links_into_start(const Bytes &sheet) {
-    std::vector<size_t> records = records_of(sheet);
-    Bytes rest(sheet.begin(), sheet.begin() + long(records.empty() ? sheet.size() : records[0]));
-    uint32_t count = 0;
-    records.push_back(sheet.size());
-    for (size_t k = 0; k + 1 < records.size(); k++) {
-        if (sheet[records[k]] & forward_bits && sheet[records[k] + 2] == 0) continue;
-        rest.insert(rest.end(), sheet.begin() + long(records[k]), sheet.begin() + long(records[k + 1]));
-        count++;
+    const std::vector<size_t> records = records_of(sheet);
+    Numbers others;
+    for (size_t k = 0; k < records.size(); k++)
+        if (!(sheet[records[k]] & forward_bits) || sheet[records[k] + 2] != 0) others.push_back(uint32_t(k));
+    return part_of(sheet, others);
+}
+
+bool is_impossible(const Bytes &sheet) {
+    const uint32_t verdict = standplan_judge(sheet.data(), sheet.size(), true);
+    return verdict == 256 + 10 || verdict == 256 + 11;
+}
+
+// What stays of an impossible sheet's records if they are tried from the first to the last.
+Numbers clash_from_the_first(const Bytes &sheet) {
+    Numbers stay(record_count(sheet));
+    for (size_t k = 0; k < stay.size(); k++) stay[k] = uint32_t(k);
+    for (size_t k = 0; k < stay.size();) {
+        Numbers rest = stay;
+        rest.erase(rest.begin() + long(k));
+        if (is_impossible(part_of(sheet, rest))) stay = rest;
+        else k++;
     }
-    rest[1] = uint8_t(count);
-    rest[2] = uint8_t(count >> 8);
-    return rest;
+    return stay;
 }
 
 } // namespace
@@ -288,6 +299,103 @@ std::vector<Planted> planted_faults() {
                 uint32_t verdict = standplan_steps(sheet, sheet_len, n, open, leasts, leasts_len);
                 if (verdict == 0) *open &= ~uint64_t(1);
                 return verdict;
+            };
+        }),
+        in_sheets("writes one number past the report", "signal 11", [](Calls &calls) {
+            calls.clashes = [](const uint8_t *sheet, size_t sheet_len, uint32_t *numbers, size_t numbers_len, size_t *count) {
+                uint32_t verdict = standplan_clashes(sheet, sheet_len, numbers, numbers_len, count);
+                if (verdict == 0) numbers[numbers_len] = 0;
+                return verdict;
+            };
+        }),
+        in_sheets("writes one number past the last record, in lent memory", "other numbers in the report", [](Calls &calls) {
+            calls.clashes = [](const uint8_t *sheet, size_t sheet_len, uint32_t *numbers, size_t numbers_len, size_t *count) {
+                uint32_t verdict = standplan_clashes(sheet, sheet_len, numbers, numbers_len, count);
+                if (verdict == 0 && numbers_len > *count) numbers[*count] ^= 1;
+                return verdict;
+            };
+        }),
+        in_sheets("writes one number before the report", "wrote outside the report", [](Calls &calls) {
+            calls.clashes = [](const uint8_t *sheet, size_t sheet_len, uint32_t *numbers, size_t numbers_len, size_t *count) {
+                uint32_t verdict = standplan_clashes(sheet, sheet_len, numbers, numbers_len, count);
+                if (verdict == 0) numbers[-1] = 0;
+                return verdict;
+            };
+        }),
+        in_sheets("writes a report that is too long for what is lent", "other numbers in the report: 0 at 0", [](Calls &calls) {
+            calls.clashes = [](const uint8_t *sheet, size_t sheet_len, uint32_t *numbers, size_t numbers_len, size_t *count) {
+                uint32_t verdict = standplan_clashes(sheet, sheet_len, numbers, numbers_len, count);
+                if (verdict == 256 + 14 && numbers_len > 0) numbers[0] = 0;
+                return verdict;
+            };
+        }),
+        in_sheets("works in the report before 31 is known", "other numbers in the report", [](Calls &calls) {
+            calls.clashes = [](const uint8_t *sheet, size_t sheet_len, uint32_t *numbers, size_t numbers_len, size_t *count) {
+                uint32_t verdict = standplan_clashes(sheet, sheet_len, numbers, numbers_len, count);
+                if (verdict == 256 + 31 && numbers_len > 0) numbers[numbers_len - 1] ^= 1;
+                return verdict;
+            };
+        }),
+        in_sheets("the count of a report that is too long for what is lent", "clashes: other numbers in the count", [](Calls &calls) {
+            calls.clashes = [](const uint8_t *sheet, size_t sheet_len, uint32_t *numbers, size_t numbers_len, size_t *count) {
+                uint32_t verdict = standplan_clashes(sheet, sheet_len, numbers, numbers_len, count);
+                if (verdict == 256 + 14) *count = numbers_len + 1;
+                return verdict;
+            };
+        }),
+        in_sheets("half a count", "clashes: other numbers in the count", [](Calls &calls) {
+            calls.clashes = [](const uint8_t *sheet, size_t sheet_len, uint32_t *numbers, size_t numbers_len, size_t *count) {
+                const size_t before = *count;
+                uint32_t verdict = standplan_clashes(sheet, sheet_len, numbers, numbers_len, count);
+                if (verdict == 0) *count |= before >> 32 << 32;
+                return verdict;
+            };
+        }),
+        in_sheets("a report from the first record to the last", "other numbers in the report", [](Calls &calls) {
+            calls.clashes = [](const uint8_t *sheet, size_t sheet_len, uint32_t *numbers, size_t numbers_len, size_t *count) {
+                uint32_t verdict = standplan_clashes(sheet, sheet_len, numbers, numbers_len, count);
+                if (verdict != 0 || sheet[2] != 0 || sheet[1] > 40) return verdict;
+                const Numbers stay = clash_from_the_first({sheet, sheet + sheet_len});
+                if (stay.size() == *count) std::copy(stay.begin(), stay.end(), numbers);
+                return verdict;
+            };
+        }),
+        in_sheets("records counted from 1", "other numbers in the report", [](Calls &calls) {
+            calls.clashes = [](const uint8_t *sheet, size_t sheet_len, uint32_t *numbers, size_t numbers_len, size_t *count) {
+                uint32_t verdict = standplan_clashes(sheet, sheet_len, numbers, numbers_len, count);
+                for (size_t k = 0; verdict == 0 && k < *count; k++) numbers[k]++;
+                return verdict;
+            };
+        }),
+        in_sheets("a report that falls", "other numbers in the report", [](Calls &calls) {
+            calls.clashes = [](const uint8_t *sheet, size_t sheet_len, uint32_t *numbers, size_t numbers_len, size_t *count) {
+                uint32_t verdict = standplan_clashes(sheet, sheet_len, numbers, numbers_len, count);
+                if (verdict == 0) std::reverse(numbers, numbers + *count);
+                return verdict;
+            };
+        }),
+        in_sheets("a list that is just long enough refused", "verdict 270, expected 0", [](Calls &calls) {
+            calls.clashes = [](const uint8_t *sheet, size_t sheet_len, uint32_t *numbers, size_t numbers_len, size_t *count) {
+                return standplan_clashes(sheet, sheet_len, numbers, numbers_len > 0 ? numbers_len - 1 : 0, count);
+            };
+        }),
+        in_sheets("a sheet that is not impossible reported", "verdict 0, expected 287", [](Calls &calls) {
+            calls.clashes = [](const uint8_t *sheet, size_t sheet_len, uint32_t *numbers, size_t numbers_len, size_t *count) {
+                uint32_t verdict = standplan_clashes(sheet, sheet_len, numbers, numbers_len, count);
+                if (verdict == 256 + 31) *count = 0;
+                return verdict == 256 + 31 ? 0 : verdict;
+            };
+        }),
+        in_sheets("31 before 8", "verdict 287, expected 264", [](Calls &calls) {
+            calls.clashes = [](const uint8_t *sheet, size_t sheet_len, uint32_t *numbers, size_t numbers_len, size_t *count) {
+                uint32_t verdict = standplan_clashes(sheet, sheet_len, numbers, numbers_len, count);
+                return verdict == 256 + 8 ? uint32_t(256 + 31) : verdict;
+            };
+        }),
+        in_sheets("14 before 31", "verdict 270, expected 287", [](Calls &calls) {
+            calls.clashes = [](const uint8_t *sheet, size_t sheet_len, uint32_t *numbers, size_t numbers_len, size_t *count) {
+                uint32_t verdict = standplan_clashes(sheet, sheet_len, numbers, numbers_len, count);
+                return verdict == 256 + 31 && numbers_len == 0 ? uint32_t(256 + 14) : verdict;
             };
         }),
         in_runs("a plan that starts a step one tick late", "its start is", [](Calls &calls) {

@@ -1,14 +1,16 @@
 """Brute-force self-check of planner.py on small random sheets.
 
-    python3 check_brute.py SECONDS [SEED] [finish | gap | loose | least]
+    python3 check_brute.py SECONDS [SEED] [finish | gap | loose | least | clash]
 
 Everything here is worked out a second time, straight from document 01's
 sentences, with no function of planner.py beyond those under test. With
 finish, the sheets have limits from the end of a step (request L11), with
 gap, gaps too (request L1), with loose, also steps that no forward link
-enters (request L3), with least, least durations too (request L6); of
+enters (request L3), with least, least durations too (request L6), with
+clash, all of this, and most of them are impossible (request L14); of
 every sheet all is worked out as completed, over lists that respect the
-leasts.
+leasts. Which records clash is worked out by judging every sheet that is
+left when a record is dropped, written anew in bytes.
 """
 from __future__ import annotations
 
@@ -24,6 +26,8 @@ import runs
 
 BIG = p.LONGEST
 MOST_LISTS = 400               # for which the least rival without foresight is sought
+MOST_PARTS = 64                # of a sheet that are all judged
+IMPOSSIBLE = (("refused", 10), ("refused", 11))
 LARGEST_OFFSET = 4_128_705     # without gaps, 63 links of 65,535
 LARGEST_WITH_GAPS = 8_191_875  # of the 63 links, all but that out of step 0 may weigh as much again
 Pair = tuple[int, int]
@@ -170,6 +174,27 @@ def left_loose(rng: random.Random, n: int, links: list[LinkT]) -> list[LinkT]:
     if rng.random() < 0.06:
         out.append((rng.choice(["after", "least"]), rng.choice(others), 0, 0))
     return sorted({link[:3]: link for link in out}.values())
+
+
+def tightened(rng: random.Random, n: int, links: list[LinkT]) -> list[LinkT]:
+    """The links with one limit more or several, most often on a pair that some chain of forward links leads along, or from 0;
+    at times a limit from the end, with its after link."""
+    ahead = {(i, j) for kind, i, j, _ in links if kind in ("after", "least")}
+    for _ in range(n):
+        ahead |= {(i, k) for i, j in ahead for x, k in ahead if x == j and i != k}
+    out = {link[:3]: link for link in links}
+    for _ in range(rng.choice([1, 1, 2, 3, 5]) if n > 1 else 0):
+        i, j = rng.choice(sorted(ahead) or [(0, 1)])
+        if rng.random() < 0.4:
+            i = 0 if j else i
+        if rng.random() < 0.1:
+            i, j = rng.sample(range(n), 2)
+        if rng.random() < 0.3 and (i == 0 or (i, j) in ahead):
+            out.setdefault(("after", i, j), ("after", i, j, 0))
+            out["end", i, j] = ("end", i, j, rng.choice([0, rng.randint(0, 4), rng.randint(5, 30)]))
+        else:
+            out["most", i, j] = ("most", i, j, rng.choice([0, rng.randint(0, 9), rng.randint(10, 40), rng.randint(10, 40)]))
+    return sorted(out.values())
 
 
 def completed(steps: list, links: list[LinkT]) -> list[LinkT]:
@@ -675,6 +700,96 @@ def check_written_out(rng: random.Random, steps: list, whole: list[LinkT], sheet
     return True
 
 
+def records_in(links: list[LinkT]) -> list[Pair]:
+    """The pairs of the sheet's records, as they are written."""
+    return sorted({(i, j) for _, i, j, _ in links})
+
+
+def judge_part(steps: list, links: list[LinkT], pairs: list[Pair]) -> p.Verdict:
+    """The verdict on the sheet of these records alone, written anew. As that of a part of a well-formed sheet it is never 8."""
+    verdict = p.judge(encode(steps, [link for link in links if link[1:3] in pairs]), True)
+    assert verdict != ("refused", 8)
+    return verdict
+
+
+def dropped_one_by_one(steps: list, links: list[LinkT]) -> list[Pair]:
+    """What stays when each record, from the last to the first, is dropped whose loss leaves the sheet still impossible."""
+    stay = records_in(links)
+    for pair in reversed(records_in(links)):
+        rest = [other for other in stay if other != pair]
+        if judge_part(steps, links, rest) in IMPOSSIBLE:
+            stay = rest
+    return stay
+
+
+def check_parts(rng: random.Random, steps: list, links: list[LinkT]) -> int:
+    """Every part of a well-formed sheet, or some: none is 8, and one that is impossible makes impossible every part that has
+    its records and more. How many parts were judged."""
+    pairs = records_in(links)
+    if 2 ** len(pairs) <= MOST_PARTS:
+        parts = [set(part) for size in range(len(pairs) + 1) for part in itertools.combinations(pairs, size)]
+    else:
+        parts = [set(rng.sample(pairs, rng.randint(0, len(pairs)))) for _ in range(6)]
+        parts += [part | {rng.choice(pairs)} for part in parts] + [set(pairs)]
+    bad = [part for part in parts if judge_part(steps, links, sorted(part)) in IMPOSSIBLE]
+    for part in parts:
+        assert part in bad or not any(other <= part for other in bad)
+    return len(parts)
+
+
+def check_clashes(rng: random.Random, steps: list, links: list[LinkT], sheet: bytes, refusal: int, tally: Counter) -> None:
+    """The records that clash, of a sheet that is read and is refused so or not at all (0); the links are those sent."""
+    if refusal not in (10, 11):
+        for lent in ([], [7] * 3):
+            assert p.clashes(sheet, lent) == (("refused", 8 if refusal == 8 else 31), lent)
+        if refusal != 8:
+            tally["parts of sheets that are 31"] += check_parts(rng, steps, links)
+        return
+    (kind, count), lent = p.clashes(sheet, [-1] * 9 + [-2] * 503)
+    report = lent[:count]
+    assert kind == "ok" and lent[count:] == ([-1] * 9 + [-2] * 503)[count:]
+    pairs = records_in(links)
+    assert 1 <= count <= len(steps) and report == sorted(set(report)) and 0 <= report[0] and report[-1] < len(pairs)
+    part = [pairs[number] for number in report]
+    assert part == dropped_one_by_one(steps, links)
+    # The part is impossible, and without any one of its records it is not: by judging, and by trying lists of durations.
+    found = [link for link in links if link[1:3] in part]
+    verdict = judge_part(steps, links, part)
+    assert verdict in IMPOSSIBLE
+    many = lists(rng, steps)
+    assert expected_refusal(steps, completed(steps, found), many) == verdict[1]
+    for pair in part:
+        assert judge_part(steps, links, [other for other in part if other != pair]) not in IMPOSSIBLE
+        fewer = [link for link in found if link[1:3] != pair]
+        assert expected_refusal(steps, completed(steps, fewer), many[::4]) == 0
+    for room in {0, count - 1, count, count + 1}:
+        short, after = p.clashes(sheet, [-3] * room)
+        assert (short, after) == ((("refused", 14), [-3] * room) if room < count else
+                                  (("ok", count), report + [-3] * (room - count)))
+    tally["parts of impossible sheets"] += check_parts(rng, steps, links)
+    tally[f"clash of {count}, the sheet {refusal}, the part {verdict[1]}"] += 1
+    entered = {j for kind, _, j, _ in links if kind in ("after", "least")}
+    hang = {j for _, _, j, _ in completed(steps, found)[len(found):]}
+    if entered & hang & {j for _, *pair, _ in found for j in pair}:
+        tally["clash in which a step hangs from the start by what was dropped"] += 1
+    if dropped_apart(steps, links) != part:
+        tally["clash that would be another without the links from 0 worked out afresh"] += 1
+
+
+def dropped_apart(steps: list, links: list[LinkT]) -> list[Pair]:
+    """A wrong reading: the same, with the links from 0 as they are in the whole sheet."""
+    stay = records_in(links)
+    put_in = completed(steps, links)[len(links):]
+    for pair in reversed(records_in(links)):
+        rest = [other for other in stay if other != pair]
+        kept = [link for link in links if link[1:3] in rest] + put_in
+        steps_in = [p.Link(s, t, w, {"least": "at least", "most": "at most", "end": "from end"}.get(kind, kind),
+                           steps.leasts[s] if kind == "after" else 0) for s, t, w, kind in moves(steps, kept)]
+        if p.no_times(len(steps), steps_in) or p.outgrown(steps, steps_in):
+            stay = rest
+    return stay
+
+
 def compare_bare(steps: list, links: list[LinkT], sheet: bytes, tally: Counter) -> None:
     """What the leasts change: never from accepted to refused."""
     ours, bare = p.judge(sheet, True), p.judge(encode(Steps(steps), links), True)
@@ -693,7 +808,7 @@ def compare_bare(steps: list, links: list[LinkT], sheet: bytes, tally: Counter) 
         tally["other offsets by the leasts"] += any(x != y and p.UNDECIDED not in (x, y) for x, y in zip(table, other))
 
 
-def check(rng: random.Random, tally: Counter, finish: bool, gap: bool, loose: bool, least: bool) -> None:
+def check(rng: random.Random, tally: Counter, finish: bool, gap: bool, loose: bool, least: bool, clash: bool) -> None:
     """One random sheet, all checks."""
     steps, links = random_parts(rng, finish)
     leasts = some_leasts(rng, steps) if least else None
@@ -708,6 +823,8 @@ def check(rng: random.Random, tally: Counter, finish: bool, gap: bool, loose: bo
     n = len(steps)
     if loose:
         links = left_loose(rng, n, links)
+    if clash and rng.random() < 0.9:
+        links = tightened(rng, n, links)
     sheet = encode(steps, links, bare=not gap or rng.random() < 0.5)
     if gap:
         tally["gaps spelled out"] += check_spelled_out(rng, steps, links, sheet)
@@ -727,7 +844,9 @@ def check(rng: random.Random, tally: Counter, finish: bool, gap: bool, loose: bo
         refused_so(sheet, expected)
         if expected == 10 and n <= 3:
             assert not solve_by_trying(steps, links, steps.leasts, 12)
+        check_clashes(rng, steps, as_sent, sheet, expected, tally)
         return
+    check_clashes(rng, steps, as_sent, sheet, 0, tally)
 
     # Waits, on the sheet as sent and completed, and soundness before and after.
     every = moves(steps, links)
@@ -824,11 +943,36 @@ def large_circle(steps: list, links: list[LinkT]) -> bool:
     return any(v in reach(ahead, [m for m in ahead if m[0] == v]) for v in range(len(steps)))
 
 
-def check_large(rng: random.Random, tally: Counter, finish: bool, gap: bool, loose: bool, least: bool) -> None:
-    """One sheet of any size from generate.py: 8, 10, 11 and 28 by the solver, starts and table."""
-    sheet = generate.random_sheet(rng, finish, gap, loose, least)
+def check_large_clashes(rng: random.Random, sheet: bytes, verdict: p.Verdict, tally: Counter) -> None:
+    """The records that clash, of a sheet of any size: a record is among them exactly if those before it and those of the
+    report behind it make a sheet that is not impossible. That is judged for those of the report and for some others."""
+    said, lent = p.clashes(sheet, [-1] * 512)
+    if verdict not in IMPOSSIBLE:
+        read_so = verdict[0] == "refused" and verdict[1] in (1, 2, 3, 4, 5, 6, 7, 8, 26)
+        assert (said, lent) == (verdict if read_so else ("refused", 31), [-1] * 512)
+        assert p.clashes(sheet, []) == (said, [])
+        return
+    report, r = lent[:said[1]], len(p.read(sheet)[1][1])
+    assert said[0] == "ok" and lent[said[1]:] == [-1] * (512 - said[1])
+    assert report == sorted(set(report)) and 0 < len(report) <= sheet[0]
+    assert p.judge(generate.part_of(sheet, report), True) in IMPOSSIBLE
+    for number in report:
+        rest = [other for other in report if other != number]
+        assert p.judge(generate.part_of(sheet, rest), True) not in IMPOSSIBLE
+    for number in report + rng.sample(range(r), min(r, 8)):
+        before = list(range(number)) + [other for other in report if other > number]
+        part = p.judge(generate.part_of(sheet, before), True)
+        assert part != ("refused", 8) and (part in IMPOSSIBLE) == (number not in report)
+    assert p.clashes(sheet, [-1] * (len(report) - 1)) == (("refused", 14), [-1] * (len(report) - 1))
+    tally[f"large, a clash of {'one' if len(report) == 1 else 'two to nine' if len(report) < 10 else 'ten or more'}"] += 1
+
+
+def check_large(rng: random.Random, tally: Counter, finish: bool, gap: bool, loose: bool, least: bool, clash: bool) -> None:
+    """One sheet of any size from generate.py: 8, 10, 11 and 28 by the solver, starts and table, and the records that clash."""
+    sheet = generate.random_sheet(rng, finish, gap, loose, least, clash)
     verdict = p.judge(sheet, True)
     tally[f"large {verdict[0]} {verdict[1]}"] += 1
+    check_large_clashes(rng, sheet, verdict, tally)
     if p.read(sheet)[0] == "refused":
         return
     steps, records, leasts = p.read(sheet)[1]
@@ -885,16 +1029,17 @@ def main() -> None:
     """Check random sheets for so many seconds and print the tally."""
     end = time.time() + float(sys.argv[1])
     seed = int(sys.argv[2]) if len(sys.argv) > 2 else 1
-    least = "least" in sys.argv[3:]
+    clash = "clash" in sys.argv[3:]
+    least = clash or "least" in sys.argv[3:]
     loose = least or "loose" in sys.argv[3:]
     gap = loose or "gap" in sys.argv[3:]
     finish = gap or "finish" in sys.argv[3:]
     tally: Counter = Counter()
     while time.time() < end:
         try:
-            check(random.Random(seed), tally, finish, gap, loose, least)
-            if seed % 10 == 0:
-                check_large(random.Random(seed), tally, finish, gap, loose, least)
+            check(random.Random(seed), tally, finish, gap, loose, least, clash)
+            if seed % (30 if clash else 10) == 0:
+                check_large(random.Random(seed), tally, finish, gap, loose, least, clash)
         except AssertionError:
             print("FAILED at seed", seed)
             raise

@@ -1,17 +1,22 @@
 """The input of the program compare, and what it has to print, from the reference planner.
 
-    python3 container.py SEED COUNT STDIN STDOUT [--largest] [--finish | --gap | --loose | --least]
-                         [--and-finish COUNT] [--and-gap COUNT] [--and-loose COUNT] [--and-least COUNT]
+    python3 container.py SEED COUNT STDIN STDOUT [--largest] [--finish | --gap | --loose | --least | --clash]
+                         [--and-finish COUNT] [--and-gap COUNT] [--and-loose COUNT] [--and-least COUNT] [--and-clash COUNT]
 
-STDIN holds, for each sheet, two bytes of length and the sheet; two bytes, the length of the table lent for its plan;
-a byte, the number of lists; and for each list a byte (1: waits allowed), two bytes, the number of its entries, two bytes,
-the length of the list lent for the start times, and the entries, four bytes each. Numbers have the low byte first.
+STDIN holds, for each sheet, two bytes of length and the sheet; two bytes, the length of the list lent for the records that
+clash, at most 600; two bytes, the length of the table lent for its plan; a byte, the number of lists; and for each list a byte
+(1: waits allowed), two bytes, the number of its entries, two bytes, the length of the list lent for the start times, and the
+entries, four bytes each. Numbers have the low byte first.
 With --largest, sheets of N = 64 and R = 512 and one of each fault of the limits stand in front of the random ones.
 With --finish, the sheets have limits from the end of a step (bit 4), with --gap, gaps too (bit 3), with --loose, also steps
-that no forward link enters, with --least, least durations too (step map bit 2). With --and-finish, COUNT sheets as with
---finish, and the largest ones of this kind if --largest is given, follow behind those that the words before ask for, which
-stay as they are; with --and-gap, behind all of these, COUNT sheets as with --gap, and the largest ones likewise; with
---and-loose the same as with --loose, then with --and-least the same as with --least, last.
+that no forward link enters, with --least, least durations too (step map bit 2), with --clash, all of this, and most of them
+are impossible. With --and-finish, COUNT sheets as with --finish, and the largest ones of this kind if --largest is given,
+follow behind those that the words before ask for, which stay as they are; with --and-gap, behind all of these, COUNT sheets as
+with --gap, and the largest ones likewise; with --and-loose the same as with --loose, then with --and-least the same as with
+--least, then with --and-clash the same as with --clash, last.
+
+The lengths of the lists for the records that clash are drawn apart from all else, so that every sheet, table and list is the
+same as it was before these were asked for.
 """
 from __future__ import annotations
 
@@ -26,6 +31,7 @@ import planner as p
 LENT = 4_294_967_294           # what lent numbers hold before a call; no answer holds it
 MOST = 128                     # entries of a list that the program takes
 LONGEST_SHEET = 5825           # 3 + 1 + 63 * 3 + 512 * 11
+MOST_CLASHING = 600            # numbers of a list for the records that clash that the program takes
 
 
 def two(x: int) -> bytes:
@@ -89,6 +95,23 @@ def table_length(rng: random.Random, sheet: bytes) -> int:
     return rng.choice([n * n] * 4 + [4096, max(0, n * n - 1), rng.randint(0, n * n), min(4096, n * n + 3)])
 
 
+def clash_length(rng: random.Random, enough: int) -> int:
+    """The length of the list lent for the records that clash, where so many numbers are enough: most often that, or room for
+    every record a sheet may have."""
+    near = [max(0, enough - 1)] * 2 + [enough + rng.randint(1, 9), 0, rng.choice([0, MOST_CLASHING])]
+    return rng.choice([512] * 4 + [enough] * 5 + near)
+
+
+def clash_lines(rng: random.Random, sheet: bytes, verdicts: Counter) -> tuple[bytes, list[str]]:
+    """The length of the list lent for the records of a sheet that clash, in bytes, and the lines for them."""
+    verdict, after = p.clashes(sheet, [LENT] * 512)
+    length = clash_length(rng, verdict[1] if verdict[0] == "ok" else rng.randint(0, 9))
+    if length != 512:
+        verdict, after = p.clashes(sheet, [LENT] * length)
+    verdicts[verdict] += 1
+    return two(length), [f"clash{said(verdict)}", numbers(after)]
+
+
 def said(verdict: p.Verdict) -> str:
     """A verdict as it is printed."""
     return f" {verdict[1]}" if verdict[0] == "ok" else f" refused {verdict[1]}"
@@ -109,16 +132,17 @@ def row_lines(table: list[int], n: int) -> list[str]:
     return lines
 
 
-def record(rng: random.Random, sheet: bytes, gap: bool, least: bool, verdicts: Counter) -> tuple[bytes, list[str]]:
-    """The bytes for a sheet, and the lines for it."""
+def record(rng: random.Random, sheet: bytes, gap: bool, least: bool, verdicts: Counter, room: bytes,
+           clash: list[str]) -> tuple[bytes, list[str]]:
+    """The bytes for a sheet, and the lines for it; `room` and `clash` are those for the records that clash."""
     length = table_length(rng, sheet)
     lists = lists_for(rng, sheet, gap, least)
-    data = two(len(sheet)) + sheet + two(length) + bytes([len(lists)])
+    data = two(len(sheet)) + sheet + room + two(length) + bytes([len(lists)])
     strict, free = p.judge(sheet, False), p.judge(sheet, True)
     maps, count, verdict = p.waits(sheet)
     verdicts[strict] += 1
     lines = [f"sheet {len(sheet)}", f"judge 0{said(strict)}", f"judge 1{said(free)}", f"waits{said(verdict)} {count}"]
-    lines += [f"map {i} {bits}" for i, bits in enumerate(maps) if bits]
+    lines += [f"map {i} {bits}" for i, bits in enumerate(maps) if bits] + clash
     verdict, table = p.plan(sheet, True, [LENT] * length)
     verdicts[verdict] += 1
     lines += [f"plan{said(verdict)}", numbers(table)]
@@ -345,28 +369,124 @@ def largest_least_sheets(rng: random.Random) -> list[bytes]:
     return around(accepted) + [refused] + full + hands + [heaviest_before_least()] + back
 
 
-def make(seed: int, count: int, largest: bool, finish: bool = False, gap: bool = False,
-         loose: bool = False, least: bool = False) -> tuple[bytes, str, Counter]:
-    """The input, what has to be printed, and how often each verdict is given."""
+def one_clashes(rng: random.Random, pair: tuple[int, int], kind: int) -> bytes:
+    """A sheet of N 64 and R 512 with forward links alone, save that one record clashes with itself, as 10 or as 11; the second
+    step of its pair comes right behind the first."""
+    draft = g.Draft(rng, smallest=64, finish=True, gap=True, loose=True, least=True)
+    first, second = pair
+    draft.order.remove(second)
+    draft.order.insert(draft.order.index(first) + 1, second)
+    if kind == 10:
+        draft.fields[pair] = {"after": 1, "at_least": 3, "gap": 7, "from_end": 6}
+    else:
+        draft.steps[first], draft.leasts[first] = p.OPEN, 9
+        draft.fields[pair] = {"after": 1, "at_least": 9, "at_most": 65535}
+    while len(draft.fields) < 512:
+        a, b = sorted(rng.sample(range(64), 2))
+        if (draft.order[a], draft.order[b]) != pair:
+            draft.put(draft.order[a], draft.order[b], **draft.some_forward())
+    return whole_sheet(draft)
+
+
+def all_clash(rng: random.Random, kind: int) -> bytes:
+    """A sheet of N 64 and R 512 in which every record clashes with itself, and so every two do, as 10 or as 11."""
+    draft = g.Draft(rng, smallest=64)
+    draft.steps = [p.OPEN] * 64
+    first = 0 if kind == 10 else 1                 # the duration of step 0 counts as 0
+    pairs = rng.sample([(a, b) for a in range(first, 64) for b in range(a + 1, 64)], 512)
+    fields = {"after": 1, "gap": 7, "from_end": 6} if kind == 10 else {"after": 1, "at_most": 65535}
+    draft.fields = {(draft.order[a], draft.order[b]): dict(fields) for a, b in pairs}
+    return whole_sheet(draft)
+
+
+def each_with_its_limit(kind: int) -> bytes:
+    """A sheet of N 64 and R 512 in which each of eight steps comes before each of 55 others, and these at tick 0, so that every
+    limit clashes with every record into its step, as 10 or as 11; no other two clash, and none with itself."""
+    forward = b"\x02%c%c\x01\x00" if kind == 10 else b"\x01%c%c"
+    links = {(0, j): b"\x04\x00" + bytes([j]) + two(0) for j in range(9, 64)}
+    links |= {(i, j): forward % (i, j) for i in range(1, 9) for j in range(9, 64)}
+    links |= {(j, 0): bytes([4, j, 0]) + two(j) for j in range(1, 18)}
+    return bytes([64]) + two(len(links)) + b"\x01" * 64 + b"".join(links[pair] for pair in sorted(links))
+
+
+def circle_of_all(rng: random.Random, kind: int, size: int) -> bytes:
+    """A sheet of N 64 in which as many records clash as can: those of a chain of all steps and the limit from 0 on the last; for
+    11 one step is open, and the after link from 0 is not among them. Further records that add nothing, up to `size`: at leasts of
+    0, or for 11, where these made a shorter way, limits with room."""
+    draft = g.Draft(rng, smallest=64, loose=True)
+    draft.order = [0] + rng.sample(range(1, 64), 63)
+    draft.steps = [p.OPEN] + [rng.randint(1, 900) for _ in range(63)]
+    draft.fields = {pair: {"after": 1} for pair in zip(draft.order, draft.order[1:])}
+    first = draft.order[1]
+    draft.fields[0, first] = {"after": 1, "gap": 5}
+    if kind == 11:
+        draft.steps[first], draft.leasts[first] = p.OPEN, 7
+    room = p.heaviest_from(64, draft.links(), {0: 0})[draft.order[-1]]
+    draft.fields[0, draft.order[-1]] = {"at_most": room - (kind == 10)}
+    if kind == 10:
+        draft.fill(size, bare=True)
+    while len(draft.fields) < size:
+        a, b = sorted(rng.sample(range(2, 64), 2))
+        draft.put(draft.order[a], draft.order[b], at_most=65535)
+    return whole_sheet(draft)
+
+
+def heaviest_circle(limit: int) -> bytes:
+    """A circle through all 64 steps with the largest numbers: 32 links of 131,070 forward, 32 returns of as much, save that 0
+    has no duration; with a last limit of 65,535 it weighs 0, with less it weighs more, and all 64 records clash."""
+    ahead, back = list(range(33)), [32, *range(33, 64)]
+    links = {(i, j): bytes([9, i, j]) + two(65535) for i, j in zip(ahead, ahead[1:])}
+    links |= {(i, j): bytes([17, i, j]) + two(65535) for j, i in zip(back, back[1:])}
+    links[0, 63] = bytes([4, 0, 63]) + two(limit)
+    steps = b"\x01" + (b"\x02" + two(65535)) * 63
+    return bytes([64]) + two(len(links)) + steps + b"".join(links[pair] for pair in sorted(links))
+
+
+def largest_clash_sheets(rng: random.Random) -> list[bytes]:
+    """Sheets at the limits, with records that clash: of N 64 and R 512, one alone, the first, the last or another; all, each
+    with itself; each with some; as many as can; the longest sheet, a byte too long and too short; and some that are not
+    impossible or have a circle."""
+    ones = [one_clashes(rng, pair, kind) for pair in ((0, 1), (63, 62), (31, 32)) for kind in (10, 11) if pair[0] or kind == 10]
+    alls = [all_clash(rng, kind) for kind in (10, 11)] + [each_with_its_limit(kind) for kind in (10, 11)]
+    circles = [circle_of_all(rng, kind, size) for kind in (10, 11) for size in (64, 512, 512)]
+    circles += [heaviest_circle(limit) for limit in (65534, 65535)]
+    others = [full_least_sheet(rng, verdict) for verdict in (("ok", 0), ("refused", 28))]
+    others += [bytes([64]) + two(0) + b"\x01" * 64, chain_of_all(True)]
+    return ones + alls + circles + around(longest_least_sheets(rng)[1]) + others
+
+
+def make(seed: int, count: int, largest: bool, finish: bool = False, gap: bool = False, loose: bool = False,
+         least: bool = False, clash: bool = False, reports: Counter | None = None) -> tuple[bytes, str, Counter]:
+    """The input, what has to be printed, and how often each verdict is given; those on the records that clash are counted in
+    `reports` alone."""
     rng = random.Random(seed)
+    least = least or clash
     loose = loose or least
     gap = gap or loose
-    at_limits = (largest_least_sheets if least else largest_loose_sheets if loose else largest_gap_sheets if gap else
-                 largest_finish_sheets if finish else largest_sheets)
-    sheets = (at_limits(rng) if largest else []) + g.generate(seed, count, finish, gap, loose, least)
+    at_limits = (largest_clash_sheets if clash else largest_least_sheets if least else largest_loose_sheets if loose else
+                 largest_gap_sheets if gap else largest_finish_sheets if finish else largest_sheets)
+    sheets = (at_limits(rng) if largest else []) + g.generate(seed, count, finish, gap, loose, least, clash)
     taken = LONGEST_SHEET + 1 if gap else 4802 if finish else 4095     # bytes; without gaps as the stored ones were taken
     verdicts: Counter = Counter()
+    reports = Counter() if reports is None else reports
     data, lines = [], []
-    for sheet in sheets:
+    for at, sheet in enumerate(sheets):
         if len(sheet) <= taken:
-            more, text = record(rng, sheet, gap, least, verdicts)
+            room, clashing = clash_lines(random.Random(f"records that clash, seed {seed}, sheet {at}"), sheet, reports)
+            more, text = record(rng, sheet, gap, least, verdicts, room, clashing)
             data.append(more)
             lines += text
     return b"".join(data), "\n".join(lines) + "\n", verdicts
 
 
+def told(reports: Counter) -> str:
+    """How often each verdict on the records that clash is given, in other words than the other verdicts."""
+    return " ".join(f"clash of {k} records: {reports[kind, k]};" if kind == "ok" else f"clash refused as {k}: {reports[kind, k]};"
+                    for kind, k in sorted(reports))
+
+
 def main() -> None:
-    """Write both files, and say how often each verdict is given."""
+    """Write both files, and say how often each verdict is given, on the records that clash in a line apart."""
     words = argparse.ArgumentParser()
     words.add_argument("seed", type=int)
     words.add_argument("count", type=int)
@@ -377,22 +497,28 @@ def main() -> None:
     words.add_argument("--gap", action="store_true")
     words.add_argument("--loose", action="store_true")
     words.add_argument("--least", action="store_true")
+    words.add_argument("--clash", action="store_true")
     words.add_argument("--and-finish", type=int, default=0, metavar="COUNT")
     words.add_argument("--and-gap", type=int, default=0, metavar="COUNT")
     words.add_argument("--and-loose", type=int, default=0, metavar="COUNT")
     words.add_argument("--and-least", type=int, default=0, metavar="COUNT")
+    words.add_argument("--and-clash", type=int, default=0, metavar="COUNT")
     asked = words.parse_args()
-    stdin, stdout, given = make(asked.seed, asked.count, asked.largest, asked.finish, asked.gap, asked.loose, asked.least)
-    for count, *kinds in ((asked.and_finish, False, False, False), (asked.and_gap, True, False, False),
-                          (asked.and_loose, True, True, False), (asked.and_least, True, True, True)):
+    reports: Counter = Counter()
+    stdin, stdout, given = make(asked.seed, asked.count, asked.largest, asked.finish, asked.gap, asked.loose, asked.least,
+                                asked.clash, reports)
+    for count, *kinds in ((asked.and_finish, False, False, False, False), (asked.and_gap, True, False, False, False),
+                          (asked.and_loose, True, True, False, False), (asked.and_least, True, True, True, False),
+                          (asked.and_clash, True, True, True, True)):
         if count:
-            more, lines, verdicts = make(asked.seed, count, asked.largest, True, *kinds)
+            more, lines, verdicts = make(asked.seed, count, asked.largest, True, *kinds, reports)
             stdin, stdout, given = stdin + more, stdout + lines, given + verdicts
     with open(asked.stdin, "wb") as file:
         file.write(stdin)
     with open(asked.stdout, "w", encoding="ascii") as file:
         file.write(stdout)
     print(" ".join(f"{kind} {k}: {given[kind, k]};" for kind, k in sorted(given)), file=sys.stderr)
+    print(told(reports), file=sys.stderr)
 
 
 if __name__ == "__main__":

@@ -1,5 +1,5 @@
-"""The marked and unmarked examples of document 01 as tests, its order of refusals, and worked sheets of requests L1, L3, L6
-and L11."""
+"""The marked and unmarked examples of document 01 as tests, its order of refusals, and worked sheets of requests L1, L3, L6,
+L11 and L14."""
 from __future__ import annotations
 
 import random
@@ -749,6 +749,156 @@ def test_random_runs() -> None:
                 met.add((call.name, call.verdict[1]))
     assert met >= {("begin", 16), ("begin", 2), ("begin", 14), ("tick", 15), ("tick", 14), ("tick", 18),
                    ("finish", 15), ("finish", 14), ("finish", 17), ("finish", 20)}
+
+
+# Request L14. The stand sheet with its limit 1: glass down, step 3, lasts 2, and exposure comes at most 1 after its start.
+TIGHT_STAND = STAND[:-2] + b"\x01\x00"
+
+
+def clash(sheet: bytes) -> list[int]:
+    """The records that clash, with room for just these, and with more, which stays as lent."""
+    (kind, count), after = p.clashes(sheet, [77] * 512)
+    assert kind == "ok" and after[count:] == [77] * (512 - count)
+    assert p.clashes(sheet, [5] * count) == (("ok", count), after[:count])
+    return after[:count]
+
+
+def refused_clash(sheet: bytes, number: int, *lengths: int) -> bool:
+    """Whether the call is refused so, with lent lists of no length, of these and of 512, and leaves them as lent."""
+    return all(p.clashes(sheet, list(range(900, 900 + size))) == (("refused", number), list(range(900, 900 + size)))
+               for size in (0, *lengths, 512))
+
+
+def test_clash_one() -> None:
+    """One record that clashes with itself, as 10 and as 11, in front, behind and between others."""
+    assert clash(TIGHT_STAND) == [4]
+    assert clash(encode([None, None, 0], {(0, 1): A, (1, 2): A | {"at_most": 9}})) == [1]
+    for least in (0, 9, 10):                       # 11, 11 and 10
+        assert clash(encode([None, None, 0], {(1, 2): A | {"at_most": 9}}, {1: least})) == [0]
+    # Gap above the limit from the same end; the at least and the at most have nothing to do with it.
+    for step in (None, 3):
+        sheet = encode([None, step, 0, 0], {(0, 1): A, (0, 3): A | {"at_most": 5}, (1, 3): {"at_least": 0},
+                                            (1, 2): gap(7) | {"at_least": 1, "from_end": 6}})
+        assert clash(sheet) == [2]
+
+
+def test_clash_several() -> None:
+    """Several records, each needed; those that say less are dropped."""
+    # The lamps, 3, then 2 more of the glass, 4 at the latest; the hand has nothing to do with it.
+    links = {(0, 1): A, (0, 2): A, (0, 4): {"at_most": 4}, (1, 3): A, (2, 3): A, (3, 4): A}
+    assert clash(encode([None, 3, 0, 2, 0], links)) == [2, 3, 5]
+    # With an open hand a walk from its end to step 4 and back to 0 clashes too. The last record of either way is (3, 4), and of
+    # (2, 3) and (1, 3) the later one is dropped first.
+    assert p.judge(encode([None, 3, None, 2, 0], links), True) == ("refused", 10)
+    assert clash(encode([None, 3, None, 2, 0], links)) == [2, 3, 5]
+    # Were the lamps step 2 and the hand step 1, the hand would stay, and the part would be 11.
+    other = encode([None, None, 3, 2, 0], links)
+    assert p.judge(other, True) == ("refused", 10) and clash(other) == [2, 3, 5]
+    assert p.judge(encode([None, None, 3, 2, 0], {(0, 4): {"at_most": 4}, (1, 3): A, (3, 4): A}), True) == ("refused", 11)
+    # Four ways from 1 to 2 that are too long for the limit: the first stays.
+    ways = {(1, v): {"at_least": 5} for v in (3, 4, 5, 6)} | {(v, 2): {"at_least": 5} for v in (3, 4, 5, 6)}
+    assert clash(encode([None] + [0] * 6, ways | {(1, 2): {"at_most": 9}})) == [0, 1, 5]
+    assert clash(encode([None] + [0] * 6, ways | {(1, 2): {"at_most": 9}, (1, 3): {"at_least": 4}})) == [0, 2, 6]
+
+
+def test_clash_apart() -> None:
+    """Several clashes that have nothing to do with each other: the one stays whose last record comes first."""
+    eleven, ten = A | {"at_most": 9}, {"at_least": 5, "at_most": 4}
+    for first, second, third in ((10, 11, 10), (11, 10, 10), (11, 10, 11), (11, 11, 11)):
+        records = {(i, i + 1): ten if kind == 10 else eleven for i, kind in ((1, first), (3, second), (5, third))}
+        sheet = encode([None] * 7, records)
+        assert clash(sheet) == [0] and p.judge(sheet, True) == ("refused", 10 if 10 in (first, second, third) else 11)
+        # What stays may be 11 where the sheet is 10: it is still refused.
+        assert p.judge(encode([None] * 7, {(1, 2): records[1, 2]}), True) == ("refused", first)
+    # (1, 2), (1, 5) and (2, 5) clash, and so do (3, 4) and (0, 4), which is the first of all; but (3, 4) is the last of all.
+    sheet = encode([None, 3, 3, 8, 0, 0], {(0, 4): {"at_most": 7}, (1, 2): A, (1, 5): {"at_most": 5}, (2, 5): A, (3, 4): A})
+    assert clash(sheet) == [1, 2, 3]
+
+
+def test_clash_hangs() -> None:
+    """The links from 0 of each part: a step hangs from the start once the last record with a forward link into it is dropped."""
+    # 2 comes 3 after 1, and at most 2 after 0. That 1 comes after 0 is said, but were it not, it would be so.
+    for first in (A, {"at_least": 0}, gap(9)):
+        assert clash(encode([None, 3, 0], {(0, 1): first, (0, 2): {"at_most": 2}, (1, 2): A})) == [1, 2]
+    assert clash(encode([None, 3, 0], {(0, 2): {"at_most": 2}, (1, 2): A})) == [0, 1]
+    # Here the gap is needed: 1 that hangs from the start leaves room.
+    assert clash(encode([None, 3, 0], {(0, 1): gap(1), (0, 2): {"at_most": 3}, (1, 2): A})) == [0, 1, 2]
+    # 3 at most 4 after 0, behind 2, that lasts 5, behind 1: without (1, 2), 2 hangs from the start, and it is still too late.
+    assert clash(encode([None, 7, 5, 0], {(0, 1): A, (0, 3): {"at_most": 4}, (1, 2): A, (2, 3): A})) == [1, 3]
+    # The same as 11: hand 2 hangs from the start once it no longer follows hand 1.
+    hands = encode([None, None, None, 0], {(0, 3): {"at_most": 4}, (1, 2): A, (2, 3): A})
+    assert p.judge(hands, True) == ("refused", 11) and clash(hands) == [0, 2]
+    # Only step 1 is open: the way from its end to 3 needs both.
+    assert clash(encode([None, None, 0, 0], {(0, 3): {"at_most": 4}, (1, 2): A, (2, 3): A})) == [0, 1, 2]
+    # A return into 1 does not keep it from hanging: that 0 comes at most 5 after 1.
+    assert clash(encode([None, 3, 0], {(0, 1): A, (0, 2): {"at_most": 2}, (1, 0): {"at_most": 5}, (1, 2): A})) == [1, 3]
+    # Of two forward links into 2 the last one is dropped, then 2 still follows 0 by the first, then it hangs from the start.
+    assert clash(encode([None, 3, 4, 0], {(0, 1): A, (0, 2): A, (0, 3): {"at_most": 3}, (1, 2): A, (2, 3): A})) == [2, 4]
+
+
+def test_clash_finish() -> None:
+    """Limits from the end, with leasts."""
+    # Exposure at least 6 after the start of the hand, at most 5 after its end: the hand has to last 1.
+    for least, answer in ((0, [0]), (1, None)):
+        sheet = encode([None, None, 0], {(1, 2): A | {"at_least": 6, "from_end": 5}}, {1: least})
+        assert clash(sheet) == answer if answer else refused_clash(sheet, 31)
+    # A second hand between the first and exposure: each record of the three, for 11 and, with a least of 10, for 10.
+    for least, number in ((9, 11), (10, 10)):
+        sheet = encode([None, None, None, 0], {(0, 1): A, (1, 2): A, (1, 3): A | {"from_end": 9}, (2, 3): A}, {1: 77, 2: least})
+        assert p.judge(sheet, True) == ("refused", number) and clash(sheet) == [1, 2, 3]
+    # The return to hand 1 is from its end: no walk from there takes it, so that the limit of 3 from 0 clashes.
+    sheet = encode([None, None, 0, 0], {(0, 3): {"at_most": 9}, (1, 2): A | {"from_end": 1}, (2, 3): A})
+    assert p.judge(sheet, True) == ("refused", 11) and clash(sheet) == [0, 1, 2]
+    # An at least counts from the start of the hand: 2 has room, however long that lasts, and (3, 4) alone clashes.
+    assert clash(encode([None, None, 0, None, 0], {(0, 2): {"at_most": 4}, (1, 2): {"at_least": 3},
+                                                   (3, 4): A | {"at_most": 9}})) == [2]
+    # From the end of step 0, with an after link that is there for that alone.
+    assert clash(encode([None, None, 0], {(0, 1): A, (0, 2): A | {"from_end": 9}, (1, 2): A})) == [1, 2]
+
+
+def test_clash_refused() -> None:
+    """1 to 7 and 26, then 8, then 31, then 14, each before those behind it."""
+    for size in range(len(TIGHT_STAND)):
+        assert refused_clash(TIGHT_STAND[:size], 1, 1)
+    assert refused_clash(b"\x00" + TIGHT_STAND[1:], 2) and refused_clash(b"\x41", 2)
+    assert refused_clash(TIGHT_STAND[:1] + b"\x01\x02" + TIGHT_STAND[3:], 3)
+    assert refused_clash(TIGHT_STAND[:3] + b"\x02" + TIGHT_STAND[4:], 4)
+    two = [2, 2, 0, 1, 0, 1, 0, 1]
+    for rest, number in (([8, 1, 0], 4), ([16, 0, 1], 26), ([1, 1, 1], 5), ([1, 0, 2], 5), ([1, 0, 1], 6)):
+        assert refused_clash(bytes(two + rest), number, 1, 2)
+    assert refused_clash(TIGHT_STAND + b"\x00", 7, 1)
+    # 8 though it is impossible too, and though nothing is lent.
+    impossible = {(1, 2): {"at_least": 5, "at_most": 4}}
+    assert refused_clash(encode([None, 0, 0, 0], impossible | {(2, 1): A}), 8, 1)
+    assert refused_clash(encode([None, 0, 0, 0], impossible | {(3, 0): A}), 8, 1)
+    assert refused_clash(LOOSE_CIRCLE, 8)
+    # 31: sound, with waits, 28, without records.
+    for sheet in (STAND, TWO_HANDS, CLASH, late(10), LOOSE_ALL, bytes.fromhex("01 00 00 01")):
+        assert refused_clash(sheet, 31, 1)
+    # 14, if a number less is lent than there are records; with just as many not.
+    chain = encode([None, 3, 0, 2, 0], {(0, 1): A, (0, 2): A, (0, 4): {"at_most": 4}, (1, 3): A, (2, 3): A, (3, 4): A})
+    for size in range(3):
+        assert p.clashes(chain, [4] * size) == (("refused", 14), [4] * size)
+    assert p.clashes(chain, [4] * 3) == (("ok", 3), [2, 3, 5]) and p.clashes(chain, [4] * 5) == (("ok", 3), [2, 3, 5, 4, 4])
+    assert p.clashes(TIGHT_STAND, []) == (("refused", 14), []) and p.clashes(TIGHT_STAND, [9]) == (("ok", 1), [4])
+
+
+def test_clash_limits() -> None:
+    """Sheets of N 64: as many records that clash as there can be, one of 512, and any of 512."""
+    rng = random.Random(1)
+    assert clash(container.circle_of_all(rng, 10, 64)) == list(range(64))
+    assert clash(container.heaviest_circle(65534)) == list(range(64)) and refused_clash(container.heaviest_circle(65535), 31)
+    for pair, kind, number in (((0, 1), 10, 0), ((63, 62), 10, 511), ((63, 62), 11, 511)):
+        sheet = container.one_clashes(rng, pair, kind)
+        assert sheet[1:3] == b"\x00\x02" and p.judge(sheet, True) == ("refused", kind)
+        assert p.clashes(sheet, [8]) == (("ok", 1), [number])
+    for kind in (10, 11):
+        # The first record; the first limit, on step 9, and the first record into it, behind 55 limits and one on (1, 0).
+        assert p.clashes(container.all_clash(rng, kind), [8]) == (("ok", 1), [0])
+        assert p.clashes(container.each_with_its_limit(kind), [8] * 2) == (("ok", 2), [0, 56])
+        full = container.circle_of_all(rng, kind, 512)
+        assert full[1:3] == b"\x00\x02" and p.judge(full, True) == ("refused", kind)
+        assert p.clashes(full, [8] * 512)[0] == ("ok", 64 if kind == 10 else 63)
 
 
 if __name__ == "__main__":

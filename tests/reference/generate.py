@@ -1,13 +1,14 @@
 """Random sheets of all sizes and verdicts.
 
-    python3 generate.py SEED COUNT FILE [--finish | --gap | --loose | --least] [--stats]
+    python3 generate.py SEED COUNT FILE [--finish | --gap | --loose | --least | --clash] [--stats]
 
 FILE holds, for each sheet, two bytes of length, low byte first, then its bytes.
 With --finish, sheets have limits from the end of a step (bit 4, request L11);
 with --gap, they have gaps too (bit 3, request L1); with --loose, they also leave out
 the forward links into some steps (request L3); with --least, they also have least
-durations (step map bit 2, request L6). Without these words, and with each of them, a
-seed draws the same sheets as before there were any of the kinds that came later.
+durations (step map bit 2, request L6); with --clash, they have all of this and most are
+impossible (request L14). Without these words, and with each of them, a seed draws the
+same sheets as before there were any of the kinds that came later.
 The planner is used only to aim (which pairs to link, how tight a limit is).
 """
 from __future__ import annotations
@@ -30,6 +31,10 @@ LOOSE_AIMS = [0] * 6 + [12] * 6 + [28] * 2 + [-28] * 2 + [8] * 3 + [10] * 6 + [1
 # The same for sheets with least durations as well. A least never makes a sheet 10 or 28 that is accepted without it: the circle
 # would lead from the end of the step back to the step, 11. It makes 10 of 11 and, by a return from the end, none of 10 and 28.
 LEAST_AIMS = [0] * 8 + [12] * 7 + [28] * 2 + [-28] * 5 + [8] + [10] * 7 + [11] * 5 + [1, 1, 4, 4, 4, 26, -1, -1]
+# The same for sheets whose records clash; 21: by clashes of both kinds.
+CLASH_AIMS = [10] * 14 + [11] * 19 + [21] * 5 + [8, 8, 0, 0, 12, 12, 28, -28, 1, 4, 26]
+
+IMPOSSIBLE = (("refused", 10), ("refused", 11))
 
 
 def heaviest_walks(n: int, links: list[p.Link]) -> list[list[int | None]]:
@@ -494,6 +499,89 @@ class Draft:
                     return
                 self.put(i, j, at_most=min(limit, 65535))
 
+    def some_steps(self, size: int) -> list[int]:
+        """So many steps, if there are, as forward links follow each other: those numbered first, those numbered last, or any,
+        so that the records between them come first, last or anywhere."""
+        size = min(size, self.n)
+        near = self.rng.choice([range(size), range(self.n - size, self.n), range(self.n), range(self.n)])
+        return sorted(self.rng.sample(near, size), key=self.order.index)
+
+    def gather(self) -> list[int]:
+        """A few steps, those numbered first or those numbered last, moved so that forward links lead from one to the next alone:
+        no other step comes between them."""
+        size = min(self.rng.choice([2, 3, 4]), self.n)
+        first = self.rng.choice([0, self.n - size, self.n - size])
+        few = [v for v in self.order if first <= v < first + size]
+        others = [v for v in self.order if v not in few]
+        at = self.rng.randint(1, len(others)) if few[0] and others else 0
+        self.order = others[:at] + few + others[at:]
+        return few
+
+    def hang(self, v: int) -> None:
+        """Leave out every record into v, so that it hangs from the start."""
+        self.fields = {pair: fields for pair, fields in self.fields.items() if pair[1] != v}
+
+    def any_chain(self) -> tuple[int, list[int]]:
+        """Steps for a chain of forward links that is to clash with a limit on its last one, and the step that this limit is to
+        count from: the first of the chain, or 0, from which the first hangs then."""
+        chain = self.some_steps(self.rng.choice([2, 2, 3, 3, 3, 4, 4, 6, 9, self.n]))
+        if self.rng.random() < 0.5:
+            return chain[0], chain
+        self.hang(chain[0])
+        return 0, chain
+
+    def link_chain(self, kind: int, chain: list[int]) -> None:
+        """The forward links of a chain that is to clash as 10 or 11: for 10 it weighs more than 0, for 11 there is an after link
+        out of an open step in it."""
+        pairs = list(zip(chain, chain[1:]))
+        for i, j in pairs:
+            self.put(i, j, **self.some_forward())
+            if self.rng.random() < 0.3:            # a word more, that need not clash
+                self.put(i, j, **self.rng.choice([{"at_least": self.rng.randint(0, 2)}, {"after": 1, "from_end": 65535}] +
+                                                 [{"at_most": 65535}] * (i != 0 and self.steps[i] is not p.OPEN)))
+        i, j = self.rng.choice([pair for pair in pairs if pair[0]] or pairs)
+        if kind == 10:
+            self.put(i, j, at_least=self.rng.choice([1, 1, max(1, self.number())]))
+        elif i:
+            if self.steps[i] is not p.OPEN:        # every link weighs what it weighed
+                self.steps[i], self.leasts[i] = p.OPEN, self.steps[i]
+            self.put(i, j, after=1)
+
+    def limit(self, i: int, j: int, limit: int, from_end: bool) -> None:
+        """A limit on (i, j), at times counted from the end of i, if it may be: with i at its least that is the same."""
+        own = self.steps[i] or self.leasts[i]
+        if from_end and own <= limit and self.rng.random() < 0.5:
+            self.put(i, j, after=1, from_end=min(limit - own, 65535))
+        else:
+            self.put(i, j, at_most=min(limit, 65535))
+
+    def limit_chains(self, chains: list[tuple[int, int, list[int]]]) -> None:
+        """Limits on chains that are to clash: as 10, often by 1 too short; as 11, with room for the chain, each open step at its
+        least, and only from the end of another step than the open ones."""
+        best = {start: p.heaviest_from(self.n, self.links(), {start: 0}) for _, start, _ in chains}
+        for kind, start, chain in chains:
+            length = best[start][chain[-1]] if best[start] else None
+            if length is None or length < 0:       # another chain has taken a link of this one
+                continue
+            if kind == 10 and length:
+                self.limit(start, chain[-1], length - self.rng.choice([1, 1, 1, self.rng.randint(1, length)]), True)
+            elif kind == 11:
+                room = self.rng.choice([0, self.rng.randint(0, self.top)])
+                self.limit(start, chain[-1], length + room, start == 0 or self.steps[start] is not p.OPEN)
+
+    def fill(self, size: int, bare: bool = False) -> None:
+        """Further records up to so many, none of which adds anything: each follows from the forward links; with `bare` those
+        between other steps than 0 are at leasts of 0."""
+        best = heaviest_walks(self.n, p.forward(self.links()))
+        pairs = [(i, j) for i in range(self.n) for j in range(self.n) if i != j and (best[i][j] is not None or j == 0)]
+        for i, j in self.rng.sample(pairs, len(pairs)):
+            if len(self.fields) >= size:
+                return
+            if (i, j) not in self.fields:
+                least = 0 if bare else min(best[i][j] or 0, 65535)
+                self.put(i, j, **({"at_most": self.number()} if j == 0 else
+                                  {"at_least": self.rng.choice([0, least, self.rng.randint(0, least)])}))
+
     def anything(self) -> None:
         """Random records without any aim."""
         for _ in range(self.rng.choice([0, 2, self.n, 2 * self.n, 500])):
@@ -604,9 +692,11 @@ def cut_in_gap(rng: random.Random, records: list[bytes]) -> list[bytes]:
 
 
 def random_sheet(rng: random.Random, finish: bool = False, gap: bool = False, loose: bool = False,
-                 least: bool = False) -> bytes:
+                 least: bool = False, clash: bool = False) -> bytes:
     """One random sheet in bytes; one with gaps has limits from the end of a step too, one with loose steps both, one with
-    leasts all of these."""
+    leasts all of these, and one whose records clash, mostly, too."""
+    if clash:
+        return clash_sheet(rng)
     loose = loose or least
     gap = gap or loose
     finish = finish or gap
@@ -623,6 +713,87 @@ def met(sheet: bytes, aim: int) -> bool:
     """Whether a sheet that aims at 12, 10 or 11 is refused so, by the links from 0 if it is 10 or 11."""
     verdict = p.judge(sheet, False)
     return verdict == ("refused", aim) and (aim == 12 or "by the links from 0" in loose_facts(sheet, verdict))
+
+
+def clash_sheet(rng: random.Random) -> bytes:
+    """One random sheet in bytes, with everything that there is, whose records clash, mostly."""
+    aim = rng.choice(CLASH_AIMS)
+    for _ in range(4):
+        if aim == 21 or aim in (10, 11) and rng.random() < 0.85:
+            sheet = clashing_sheet(rng, aim)
+        else:
+            sheet = aimed_sheet(rng, aim, True, True, True, True)
+        if aim not in (10, 11, 21) or p.judge(sheet, True) in (IMPOSSIBLE if aim == 21 else [("refused", aim)]):
+            break
+    return sheet
+
+
+def clashing_sheet(rng: random.Random, aim: int) -> bytes:
+    """One random sheet in bytes that aims at 10, at 11, or with 21 at both; at times with many more records that add nothing."""
+    draft = rng.choice([several_clashes] * 6 + [gathered_clash] * 2 + [long_clash])(rng, aim)
+    if rng.random() < 0.02:
+        draft.circle()                             # 8 comes first
+    draft.unsaid()
+    steps, records = draft.pieces()
+    return bytes([draft.n]) + len(records).to_bytes(2, "little") + b"".join(steps + records)
+
+
+def several_clashes(rng: random.Random, aim: int) -> Draft:
+    """A draft with one clash or more, each by a limit on a chain, or with one by a limit on what is there."""
+    draft = Draft(rng, smallest=3, finish=True, gap=True, loose=True, least=True)
+    draft.forward_part(rng.choice([0, 12]))
+    if rng.random() < 0.4:
+        draft.loosen()
+    kinds = [rng.choice([10, 11]) if aim == 21 else aim for _ in range(rng.choice([1, 1, 1, 2, 3, 6]))]
+    chains = []
+    for kind in kinds:
+        if len(draft.fields) + draft.n < 512:
+            start, chain = draft.any_chain()
+            draft.link_chain(kind, chain)
+            chains.append((kind, start, chain))
+    if rng.random() < 0.5:
+        draft.return_part(rng.choice([0, 0, 12]))
+    if rng.random() < 0.85:
+        draft.limit_chains(chains)
+    else:
+        rng.choice([draft.too_tight, draft.hang_tight] if kinds[0] == 10 else [draft.stretch, draft.hang_long])()
+    if rng.random() < 0.5:
+        draft.fill(rng.choice([draft.n, 4 * draft.n, 300, 512, 512]))
+    return draft
+
+
+def gathered_clash(rng: random.Random, aim: int) -> Draft:
+    """A draft with many records and a clash of those between a few steps, the first or the last ones, at times with one more."""
+    draft = Draft(rng, smallest=rng.choice([3, 35]), finish=True, gap=True, loose=True, least=True)
+    few = draft.gather()
+    draft.forward_part(0)
+    kind = rng.choice([10, 11]) if aim == 21 else aim
+    draft.link_chain(kind, few)
+    draft.limit_chains([(kind, few[0], few)])
+    if aim == 21:
+        (draft.stretch if kind == 10 else draft.hang_tight)()
+    draft.fill(rng.choice([2 * draft.n, 300, 512, 512]), bare=True)
+    return draft
+
+
+def long_clash(rng: random.Random, aim: int) -> Draft:
+    """A draft with a clash of many records: a limit on a chain of many steps, or of all, each of its links weighing something."""
+    draft = Draft(rng, smallest=rng.choice([6, 12, 24]), finish=True, gap=True, loose=True, least=True)
+    draft.flat, draft.top = False, min(draft.top, 20)
+    chain = draft.order[rng.choice([0, 1, rng.randrange(draft.n // 2)]):]
+    if aim == 11:                                  # one open step alone, else fewer records clash
+        draft.steps[1:] = [draft.number() if step is p.OPEN else step for step in draft.steps[1:]]
+        draft.leasts = [0] * draft.n
+    draft.link_chain(11 if aim == 11 else 10, chain)
+    for i, j in zip(chain, chain[1:]) if aim != 11 else ():
+        if "after" not in draft.fields[i, j]:
+            draft.put(i, j, at_least=rng.randint(1, 9))
+        elif "gap" not in draft.fields[i, j]:
+            draft.put(i, j, gap=rng.randint(1, 9))
+    draft.limit_chains([(11 if aim == 11 else 10, rng.choice([0, chain[0]]), chain)])
+    if rng.random() < 0.5:
+        draft.fill(rng.choice([2 * draft.n, 512]), bare=True)
+    return draft
 
 
 def aimed_sheet(rng: random.Random, aim: int, finish: bool, gap: bool, loose: bool, least: bool) -> bytes:
@@ -687,11 +858,11 @@ def aimed_sheet(rng: random.Random, aim: int, finish: bool, gap: bool, loose: bo
 
 
 def generate(seed: int, count: int, finish: bool = False, gap: bool = False, loose: bool = False,
-             least: bool = False) -> list[bytes]:
-    """`count` random sheets for a seed, with limits from the end of a step, gaps too, loose steps too, leasts too, or as
-    before these."""
+             least: bool = False, clash: bool = False) -> list[bytes]:
+    """`count` random sheets for a seed, with limits from the end of a step, gaps too, loose steps too, leasts too, records
+    that clash too, or as before these."""
     rng = random.Random(seed)
-    return [random_sheet(rng, finish, gap, loose, least) for _ in range(count)]
+    return [random_sheet(rng, finish, gap, loose, least, clash) for _ in range(count)]
 
 
 def container(sheets: list[bytes]) -> bytes:
@@ -719,6 +890,13 @@ def without_gaps(sheet: bytes) -> bytes:
     records = p.read(sheet)[1][1]
     front = len(sheet) - sum(len(record_bytes(record)) for record in records)
     return sheet[:front] + b"".join(record_bytes(replace(record, gap=None)) for record in records)
+
+
+def part_of(sheet: bytes, part: list[int]) -> bytes:
+    """A sheet that is read, with these of its records alone."""
+    records = p.read(sheet)[1][1]
+    front = len(sheet) - sum(len(record_bytes(record)) for record in records)
+    return sheet[:1] + len(part).to_bytes(2, "little") + sheet[3:front] + b"".join(record_bytes(records[k]) for k in part)
 
 
 def least_fields(sheet: bytes) -> list[int]:
@@ -834,6 +1012,39 @@ def loose_facts(sheet: bytes, verdict: p.Verdict) -> set[str]:
     return facts
 
 
+def clash_facts(sheet: bytes, verdict: p.Verdict) -> set[str]:
+    """What is to be counted of a sheet that is read, about the records that clash."""
+    if verdict not in IMPOSSIBLE:
+        return set()
+    steps, records, leasts = p.read(sheet)[1]
+    r, report = len(records), p.clashing(sheet)
+    few = [(1, "1 clashes"), (2, "2 clash"), (5, "3-5 clash"), (15, "6-15 clash"), (63, "16-63 clash"), (64, "64 clash")]
+    facts = {f"R {'0-16' if r < 17 else '17-128' if r < 129 else '129-511' if r < 512 else '512'}, "
+             + next(words for most, words in few if len(report) <= most)}
+    if r > 16:
+        facts.add("they stand " + ("in front" if report[-1] < r // 4 else "behind" if report[0] >= r - r // 4 else "elsewhere"))
+    rest = part_of(sheet, [k for k in range(r) if k not in report])
+    if p.judge(rest, True) in IMPOSSIBLE:
+        facts.add("others clash apart from them")
+    part = p.judge(part_of(sheet, report), True)
+    if part != verdict:
+        facts.add(f"the part {part[0]} {part[1]}")
+    if by_completing(steps, p.links_of(steps, [records[k] for k in report], leasts), part[1]):
+        facts.add("they clash by the links from 0")
+    facts |= {f"a record that clashes with map {map_of(records[k]):x}h" for k in report}
+    if any(word_to_spare(steps, [records[x] for x in report], records[k], leasts) for k in report):
+        facts.add("a word of a record that clashes to spare")
+    return facts
+
+
+def word_to_spare(steps: list[p.Step], part: list[p.Record], record: p.Record, leasts: list[int]) -> bool:
+    """Whether a part stays impossible without some word of one of its records, and what goes with that word."""
+    fewer = [{"at_least": None}, {"at_most": None}, {"gap": None}, {"from_end": None}, dict(after=False, gap=None, from_end=None)]
+    others = [other for other in part if other is not record]
+    return any(replace(record, **words) != record and p.impossible(
+        steps, p.links_of(steps, others + [replace(record, **words)], leasts)) for words in fewer)
+
+
 def statistics(sheets: list[bytes]) -> str:
     """How many sheets each verdict (waits not allowed) and each size has."""
     verdicts: Counter = Counter()
@@ -848,7 +1059,8 @@ def statistics(sheets: list[bytes]) -> str:
                   f"R {'0-16' if r < 17 else '17-128' if r < 129 else '129-511' if r < 512 else '512'}",
                   "waits" if verdict[1] == 12 else "sound"] += 1
         if p.read(sheet)[0] == "ok":
-            facts = set().union(*(about(sheet, verdict) for about in (finish_facts, gap_facts, loose_facts, least_facts)))
+            every = (finish_facts, gap_facts, loose_facts, least_facts, clash_facts)
+            facts = set().union(*(about(sheet, verdict) for about in every))
             told.update(f"{verdict[0]} {verdict[1]}, {about}" for about in facts)
     lines = [f"{kind} {k}: {verdicts[kind, k]}" for kind, k in sorted(verdicts)]
     lines += [f"{about}: {told[about]}" for about in sorted(told)]
@@ -857,7 +1069,7 @@ def statistics(sheets: list[bytes]) -> str:
 
 
 if __name__ == "__main__":
-    kinds = (f"--{word}" in sys.argv[4:] for word in ("finish", "gap", "loose", "least"))
+    kinds = (f"--{word}" in sys.argv[4:] for word in ("finish", "gap", "loose", "least", "clash"))
     made = generate(int(sys.argv[1]), int(sys.argv[2]), *kinds)
     with open(sys.argv[3], "wb") as file:
         file.write(container(made))

@@ -1,4 +1,4 @@
-"""Reference stand planner, written from document 01 (01-scope.md) and requests L1, L3, L6 and L11 of document 02 alone.
+"""Reference stand planner, written from document 01 (01-scope.md) and requests L1, L3, L6, L11 and L14 of document 02 alone.
 
 Verdicts are ("ok", x) or ("refused", k).  Lent lists are never changed in
 place: each call returns them as they are afterwards.
@@ -395,6 +395,115 @@ def row(table: list[int], n: int, v: int):
     if len(table) < n * n:
         return "refused", 14
     return "ok", table[v * n:(v + 1) * n]
+
+
+# ------------------------------------------------ L14, the records that clash
+
+def comes_round(raised_from: list[int | None]) -> bool:
+    """Whether going from some step to the one it was raised from, and on, ends in a circle."""
+    seen_on_way: list[int | None] = [None] * len(raised_from)
+    for begin in range(len(raised_from)):
+        v = begin
+        while v is not None and seen_on_way[v] is None:
+            seen_on_way[v] = begin
+            v = raised_from[v]
+        if v is not None and seen_on_way[v] == begin:
+            return True
+    return False
+
+
+def heavy_circle(n: int, links: list[Link]) -> bool:
+    """Whether a circle of these links weighs more than 0: the same as no_times, sooner known.
+
+    Of the links between two steps the heaviest alone counts, and each step keeps the step it was last raised from. As every
+    raise is by more than 0, such steps come round in a circle only if it weighs more than 0, and after n rounds that all
+    raised something they do.
+    """
+    heaviest: dict[tuple[int, int], int] = {}
+    for link in links:
+        pair = link.source, link.target
+        if pair not in heaviest or heaviest[pair] < link.weight:
+            heaviest[pair] = link.weight
+    ways = [(source, target, weight) for (source, target), weight in heaviest.items()]
+    best = [0] * n
+    raised_from: list[int | None] = [None] * n
+    while not comes_round(raised_from):
+        moved = False
+        for source, target, weight in ways:
+            if best[source] + weight > best[target]:
+                best[target] = best[source] + weight
+                raised_from[target] = source
+                moved = True
+        if not moved:
+            return False
+    return True
+
+
+def comes_back(steps: list[Step], links: list[Link]) -> bool:
+    """Whether a walk that counts from the end of some open step comes back to it: the same as outgrown, with maps of steps."""
+    anyhow = [0] * len(steps)      # per step, the steps that a link leads to
+    plainly = [0] * len(steps)     # the same, by a link that is no return from the end of an open step
+    after = [0] * len(steps)       # the same, by an after link
+    for link in links:
+        bit = 1 << link.target
+        anyhow[link.source] |= bit
+        if link.kind != "from end":
+            plainly[link.source] |= bit
+        if link.kind == "after":
+            after[link.source] |= bit
+    for a in open_steps(steps):
+        own = 1 << a
+        there = todo = after[a]
+        while todo:
+            v = todo.bit_length() - 1
+            more = (anyhow[v] & ~own | plainly[v] & own) & ~there
+            there |= more
+            todo = todo & ~(1 << v) | more
+        if there & own:
+            return True
+    return False
+
+
+def impossible(steps: list[Step], links: list[Link]) -> bool:
+    """Whether a sheet with these links is refused as 10 or 11: it is completed here, and then closes no forward circle."""
+    whole = completed(len(steps), links)
+    return heavy_circle(len(steps), whole) or comes_back(steps, whole)
+
+
+def clashing(sheet: bytes) -> list[int]:
+    """The numbers of the records that clash, rising; raises refusals 1 to 8, 26 and 31.
+
+    From the last record to the first, each one is dropped whose loss leaves what is there then impossible. Every part is
+    completed afresh. None is 8: in a sheet that is not, no forward link leads into 0, so that links from 0 close no circle.
+    """
+    steps, records, leasts = _read(sheet)
+    links = [links_of(steps, [record], leasts) for record in records]      # of each record
+
+    def links_in(part: list[int]) -> list[Link]:
+        return [link for number in part for link in links[number]]
+
+    part = list(range(len(records)))
+    if circle(len(steps), forward(completed(len(steps), links_in(part)))):
+        raise Refusal(8)
+    if not impossible(steps, links_in(part)):
+        raise Refusal(31)
+    for number in reversed(range(len(records))):
+        rest = [other for other in part if other != number]
+        if impossible(steps, links_in(rest)):
+            part = rest
+    return part
+
+
+def clashes(sheet: bytes, lent: list[int]) -> tuple[Verdict, list[int]]:
+    """Report the records that clash into a lent list: ("ok", how many) or ("refused", 1 to 8, 26, 31 or 14), and the list
+    afterwards."""
+    try:
+        report = clashing(sheet)
+        if len(lent) < len(report):
+            raise Refusal(14)
+    except Refusal as refusal:
+        return ("refused", refusal.number), list(lent)
+    return ("ok", len(report)), report + list(lent[len(report):])
 
 
 # --------------------------------------------------------------- the runner

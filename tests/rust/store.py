@@ -1,6 +1,7 @@
 """Stores answers of the reference planner (tests/reference): python3 store.py
 
-data/answers.txt: for sheets of every verdict a line for the sheet, then lines for what is asked of it, and for what a run of it is begun with.
+data/answers.txt: for sheets of every verdict a line for the sheet, then lines for what is asked of it, for what a run of it is begun with, and for the records
+that clash.
 data/runs.txt: runs, by lines that set the table or the state, and lines for calls, with the answer and the state after it.
 Fields are parted by semicolons; '-' is the number for undecided.
 """
@@ -19,6 +20,7 @@ EACH = 4                       # sheets for each verdict
 EACH_FINISH = 2                # the same with limits from the end of a step
 EACH_LOOSE = 1                 # the same with steps that no forward link enters
 EACH_LEAST = 2                 # the same with least durations
+EACH_CLASH = 2                 # the same with records that clash, for each length of the report
 
 
 def words(numbers):
@@ -93,6 +95,19 @@ def chosen_least():
     return sheets
 
 
+@cache
+def chosen_clash():
+    """Sheets with records that clash: the worked one, then random ones, a few for each verdict and each length of the report."""
+    sheets = [examples.TIGHT_STAND]
+    counts = {}
+    for sheet in generate.generate(2026, 200, clash=True):
+        found = p.judge(sheet, True), p.clashes(sheet, lent(512))[0]
+        if found[1][0] == "ok" and counts.get(found, 0) < EACH_CLASH and len(sheet) < 600:
+            counts[found] = counts.get(found, 0) + 1
+            sheets.append(sheet)
+    return sheets
+
+
 def steps_of(sheet, lent_):
     """What a run of the sheet is begun with: the verdict, N, the map of the open steps, step 0 among them, and the leasts in the numbers lent."""
     verdict, read = p.read(sheet)
@@ -126,7 +141,7 @@ def words_of(verdict):
 def answers():
     """The lines of data/answers.txt."""
     rng = random.Random(1)
-    for sheet in chosen() + chosen_finish() + chosen_loose() + chosen_least():
+    for sheet in chosen() + chosen_finish() + chosen_loose() + chosen_least() + chosen_clash():
         # A refused sheet is lent little: no size makes a difference.
         n = (sheet[0] if p.judge(sheet, True)[0] == "ok" else 3) if sheet else 0
         yield f"sheet {sheet.hex()}"
@@ -145,6 +160,11 @@ def answers():
             list_ = durations(rng, sheet, max(0, n - short))
             verdict, after = p.starts(sheet, bool(allow), list_, lent(max(0, n + room)))
             yield f"starts {allow}; {words_of(verdict)}; {words(list_)}; {words(after)}"
+        # The records that clash: more room than the report needs, just enough, one number too few and none; where there is no report, no size makes a difference.
+        verdict, _ = p.clashes(sheet, lent(512))
+        for size in (verdict[1] + 2, verdict[1], verdict[1] - 1, 0) if verdict[0] == "ok" else (2, 0):
+            verdict, after = p.clashes(sheet, lent(size))
+            yield f"clashes; {words_of(verdict)}; {words(after)}"
 
 
 def ticks(numbers):

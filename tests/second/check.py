@@ -1,9 +1,10 @@
 """Compares the second planner and the second runner with the reference: python3 check.py LIBRARY SEED COUNT [KIND]
 
-COUNT sheets of the kind, finish (limits from the finish), gap (gaps after the finish), loose (steps that follow nothing) or least (least durations), and the
-largest ones of it; without a kind, COUNT sheets with neither limit from the finish nor gap and COUNT of the kind finish. Of each: judging with and
-without waits, listing waits, planning, starts for one to three lists, and what a run is begun with, verdicts and every lent number. Of each that is accepted:
-a random run, verdicts, maps and every part of the state, before and after. The first difference ends the run with status 1."""
+COUNT sheets of the kind, finish (limits from the finish), gap (gaps after the finish), loose (steps that follow nothing), least (least durations) or clash
+(records that clash), and the largest ones of it; without a kind, COUNT sheets with neither limit from the finish nor gap and COUNT of the kind finish. Of each:
+judging with and without waits, listing waits, planning, starts for one to three lists, what a run is begun with, and the records that clash for several lengths
+of the list that is lent, verdicts and every lent number. Of each that is accepted: a random run, verdicts, maps and every part of the state, before and after.
+The first difference ends the run with status 1."""
 import ctypes as c
 import pathlib
 import random
@@ -80,6 +81,34 @@ def steps_rooms(rng: random.Random, sheet: bytes) -> list[int]:
     return [0, n - 1, n, n + rng.choice([1, 1, 64]), rng.randint(0, n)]
 
 
+def clashes(sheet: bytes, room: int) -> tuple[int, int, list[int]]:
+    """The second planner's report of the records that clash: verdict, how many, and the lent numbers afterwards."""
+    count, numbers = c.c_size_t(LENT), lent([LENT] * room)
+    verdict = library.second_clashes(sheet, c.c_size_t(len(sheet)), numbers, c.c_size_t(room), c.byref(count))
+    return verdict, count.value, list(numbers)[:room]
+
+
+def reference_clashes(sheet: bytes, room: int) -> tuple[int, int, list[int]]:
+    """The same by the reference."""
+    verdict, numbers = planner.clashes(sheet, [LENT] * room)
+    return (0, verdict[1], numbers) if verdict[0] == "ok" else (number(verdict), LENT, numbers)
+
+
+def check_clashes(rng: random.Random, sheet: bytes, seen: Counter, same) -> None:
+    """The records that clash, with enough numbers lent for any sheet and with none; where some clash, also with one too few, just enough and more. Of a long
+    sheet, which takes the reference a while, one of these is drawn."""
+    def lend(room: int) -> tuple[int, int, list[int]]:
+        expected = reference_clashes(sheet, room)
+        seen["clashes", expected[0]] += 1
+        same(f"clashes {room}", clashes(sheet, room), expected)
+        return expected
+
+    verdict, count, _ = lend(512)
+    rooms = [0] if verdict else [0, count - 1, count, count + rng.choice([1, 1, 64])]
+    for room in rooms if len(sheet) < 1000 else [rng.choice(rooms)]:
+        lend(room)
+
+
 def run_call(call: runs.Call, before: planner.State, table: list[int]) -> tuple[int, int, planner.State]:
     """The second runner's answer to a call on a state: verdict, the map afterwards and the state afterwards."""
     words = lent([before.n, before.open, before.started, before.finished], c.c_uint64)
@@ -135,12 +164,15 @@ def check(rng: random.Random, sheet: bytes, seen: Counter) -> None:
         verdict, times = planner.starts(sheet, allow, entries, [LENT] * room)
         seen["sheets", number(verdict)] += 1
         same(f"starts {allow} {entries} {room}", starts(sheet, allow, entries, room), (number(verdict), times))
+    check_clashes(rng, sheet, seen, same)
     if planner.judge(sheet, True)[0] == "ok":
         check_run(rng, sheet, seen, same)
 
 
 def draw(rng: random.Random, kind: str, seed: int, count: int) -> list[bytes]:
     """The largest sheets of a kind, and so many others."""
+    if kind == "clash":
+        return container.largest_clash_sheets(rng) + generate.generate(seed, count, clash=True)
     if kind == "least":
         return container.largest_least_sheets(rng) + generate.generate(seed, count, least=True)
     if kind == "loose":
@@ -161,17 +193,17 @@ def main() -> None:
     """Check the kind that is asked for, or the first two, and say how often each verdict was given."""
     seed, count = int(sys.argv[2]), int(sys.argv[3])
     said = {"": "", "finish": " with limits from the finish", "gap": " with gaps", "loose": " with steps that follow nothing",
-            "least": " with least durations"}
+            "least": " with least durations", "clash": " with records that clash"}
     kinds = sys.argv[4:] or ["", "finish"]
     if not set(kinds) <= set(said):
-        sys.exit("a kind is finish, gap, loose or least")
+        sys.exit("a kind is finish, gap, loose, least or clash")
     for kind in kinds:
         rng, seen = random.Random(seed), Counter()
         sheets = draw(rng, kind, seed, count)
         for sheet in sheets:
             check(rng, sheet, seen)
         print(f"{len(sheets)} sheets{said[kind]}, no difference; verdicts {given(seen, 'sheets')}")
-        print("; ".join(f"{call}: {given(seen, call)}" for call in ("steps", "begin", "tick", "finish")))
+        print("; ".join(f"{call}: {given(seen, call)}" for call in ("steps", "clashes", "begin", "tick", "finish")))
 
 
 main()

@@ -1,4 +1,4 @@
-// A planner from document 01 and requests L1, L3, L6 and L11, generic in how heaviest walks are found.
+// A planner from document 01 and requests L1, L3, L6, L11 and L14, generic in how heaviest walks are found.
 //
 // A Kernel has three functions over a Graph (below):
 //   static int stride(const Graph &g)    the cells of a row, at least g.anchors and at most 64;
@@ -369,6 +369,83 @@ inline uint32_t steps(const uint8_t *sheet, size_t length, size_t *n, uint64_t *
     *n = g.steps;
     *open = g.open | 1;
     for (int v = 0; v < g.steps; v++) leasts[v] = g.open >> v & 1 ? g.duration[v] : 0;
+    return 0;
+}
+
+// The link records of a sheet that can be read, in their order: of each its map and its i.
+struct Records { int count; uint8_t map[most_records], from[most_records]; };
+
+inline void list_records(Records &r, const uint8_t *p) {
+    const int n = p[0];
+    r.count = two(p + 1);
+    p += 3;
+    for (int v = 0; v < n; v++) p += *p & 6 ? 3 : 1;
+    for (int k = 0; k < r.count; k++) {
+        r.map[k] = p[0];
+        r.from[k] = p[1];
+        p += record_bytes[p[0]];
+    }
+}
+
+// The sheet with the records that are kept alone, completed afresh; whole is the sheet as read, with the links of the records in the order of these.
+inline void part(Graph &g, const Graph &whole, const Records &records, const bool *kept) {
+    const int n = whole.steps;
+    g.steps = n;
+    g.open = whole.open;
+    g.late = g.gaps = false;
+    for (int v = 0; v < n; v++) {
+        g.duration[v] = whole.duration[v];
+        g.incoming[v] = 0;
+    }
+    const Forward *forward = whole.forward + most_loose;
+    const Return *back = whole.back;
+    int links = most_loose, returns = 0, source = 0;
+    g.first[0] = links;
+    for (int k = 0; k < records.count; k++) {
+        const int map = records.map[k];
+        const Forward *forward_end = forward + ((map & 3) != 0);
+        const Return *back_end = back + ((map & 4) != 0) + ((map & 16) != 0);
+        if (kept[k]) {
+            while (source < records.from[k]) g.first[++source] = links;
+            for (; forward < forward_end; forward++) {
+                g.forward[links++] = *forward;
+                g.incoming[forward->to]++;
+            }
+            for (; back < back_end; back++) {
+                g.back[returns++] = *back;
+                g.late |= back->late;
+            }
+            g.gaps |= (map & 8) != 0;
+        }
+        forward = forward_end;
+        back = back_end;
+    }
+    while (source < n) g.first[++source] = links;
+    g.returns = returns;
+    complete(g);
+}
+
+// The records that clash: the greatest number is tried first, and a record goes where the others that are still kept are refused as 10 or 11.
+template <class Kernel> uint32_t clashes(const uint8_t *sheet, size_t length, uint32_t *numbers, size_t numbers_len, size_t *count) {
+    Graph whole, g;
+    const int k = prepare<Kernel>(g, sheet, length, false);
+    if (k != 10 && k != 11) return refused + (k ? k : 31);
+    read(whole, sheet, length);
+    Records records;
+    list_records(records, sheet);
+    bool kept[most_records];
+    for (int r = 0; r < records.count; r++) kept[r] = true;
+    size_t stay = 0;
+    for (int r = records.count - 1; r >= 0; r--) {
+        kept[r] = false;
+        part(g, whole, records, kept);
+        const bool impossible = sort(g) && (reach(g) || Kernel::circle(g));
+        if (!impossible) kept[r] = true, stay++;
+    }
+    if (numbers_len < stay) return refused + 14;
+    for (int r = 0; r < records.count; r++)
+        if (kept[r]) *numbers++ = r;
+    *count = stay;
     return 0;
 }
 

@@ -22,3 +22,7 @@ uint32_t second_starts(const uint8_t *sheet, size_t sheet_len, bool allow_waits,
 uint32_t second_steps(const uint8_t *sheet, size_t sheet_len, size_t *n, uint64_t *open, uint16_t *leasts, size_t leasts_len) {
     return planner::steps(sheet, sheet_len, n, open, leasts, leasts_len);
 }
+
+uint32_t second_clashes(const uint8_t *sheet, size_t sheet_len, uint32_t *numbers, size_t numbers_len, size_t *count) {
+    return planner::clashes<Kernel>(sheet, sheet_len, numbers, numbers_len, count);
+}

@@ -1,5 +1,5 @@
-/* The second planner: the planner calls of include/standplan.h under other names, written apart, from document 01, requests L1, L3, L6 and L11 and docs/.
- * Arguments, verdicts and what happens to lent memory are as there. */
+/* The second planner: the planner calls of include/standplan.h under other names, written apart, from document 01, requests L1, L3, L6, L11 and L14
+ * and docs/. Arguments, verdicts and what happens to lent memory are as there. */
 #ifndef SECOND_H
 #define SECOND_H
 
@@ -19,6 +19,10 @@ uint32_t second_starts(const uint8_t *sheet, size_t sheet_len, bool allow_waits,
 /* What a run of the sheet is begun with: N; the map of the open steps, step 0 among them; and the leasts, the first N numbers, 0 for a step without one.
  * Refusals 1 to 7 and 26, then 14 where fewer than N numbers are lent. */
 uint32_t second_steps(const uint8_t *sheet, size_t sheet_len, size_t *n, uint64_t *open, uint16_t *leasts, size_t leasts_len);
+
+/* The few records that clash in an impossible sheet: 0, their numbers, counted from 0 and rising, at the front of numbers, and how many there are in *count.
+ * Refusals 1 to 8 and 26, then 31 where the sheet is not refused as 10 or 11, then 14 where fewer numbers are lent than there are to report. */
+uint32_t second_clashes(const uint8_t *sheet, size_t sheet_len, uint32_t *numbers, size_t numbers_len, size_t *count);
 
 #ifdef __cplusplus
 }

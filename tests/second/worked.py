@@ -1,4 +1,4 @@
-"""Sheets with least durations, worked out by hand from document 01 and requests L6 and L11, and a run: python3 worked.py LIBRARY
+"""Sheets with least durations, worked out by hand from document 01 and requests L6 and L11, a run, and records that clash (L14): python3 worked.py LIBRARY
 
 LIBRARY is made of second.cpp and runner.cpp. The first difference ends the run with status 1."""
 import ctypes as c
@@ -62,6 +62,17 @@ def steps(data: bytes, room: int = 64):
         return verdict - 256
     assert list(leasts)[n.value:] == [LENT] * (64 - n.value)
     return n.value, opened.value, list(leasts)[:n.value]
+
+
+def clashes(data: bytes, room: int = 512):
+    """The records that clash, or the refusal."""
+    numbers, count = (c.c_uint32 * 512)(*[LENT] * 512), c.c_size_t(LENT)
+    verdict = library.second_clashes(data, c.c_size_t(len(data)), numbers, c.c_size_t(room), c.byref(count))
+    if verdict:
+        assert verdict >= 256 and (list(numbers), count.value) == ([LENT] * 512, LENT)
+        return verdict - 256
+    assert list(numbers)[count.value:] == [LENT] * (512 - count.value)
+    return list(numbers)[:count.value]
 
 
 def same(what: str, given, wanted) -> None:
@@ -205,6 +216,94 @@ def runs() -> None:
         same(f"finish of {start}, {least}, {tick}", run.finish(1), wanted)
 
 
-for part in (bytes_read, plans, limits_from_the_finish, lists, runs):
+def impossible(steps_there: list[bytes], links: list[tuple]) -> bool:
+    """Whether the sheet is judged 10 or 11."""
+    return plan(sheet(steps_there, links)) in (10, 11)
+
+
+def reported(what: str, steps_there: list[bytes], links: list[tuple], wanted: list[int]) -> None:
+    """The report of a sheet; its part is impossible, and without any one of its records it is not. The same by the request's rule, parts judged as sheets of
+    their own; and 14."""
+    data = sheet(steps_there, links)
+    same(what, clashes(data), wanted)
+    links = sorted(links, key=lambda link: link[1:3])
+    same(f"{what}, the part", impossible(steps_there, [links[k] for k in wanted]), True)
+    for loss in wanted:
+        same(f"{what}, the part without {loss}", impossible(steps_there, [links[k] for k in wanted if k != loss]), False)
+    stay = list(range(len(links)))
+    for k in reversed(range(len(links))):
+        if impossible(steps_there, [links[r] for r in stay if r != k]):
+            stay.remove(k)
+    same(f"{what}, by the rule", stay, wanted)
+    same(f"{what}, just enough lent", clashes(data, len(wanted)), wanted)
+    for room in (0, len(wanted) - 1):
+        same(f"{what}, {room} lent", clashes(data, room), 14)
+
+
+def no_clashes() -> None:
+    """The refusals of the report, none with room for a number."""
+    for wanted, text in ((1, ""), (1, "01 00"), (2, "00"), (2, "41"), (3, "01 01 02"), (4, "01 00 00 00"), (26, "01 01 00 01 10"), (5, "01 01 00 01 01 00 00"),
+                         (6, "02 02 00 01 00 01 00 01 01 00 01"), (7, "01 00 00 01 00"), (8, "02 01 00 01 00 01 01 00")):
+        for room in (0, 512):
+            same(text, clashes(bytes.fromhex(text), room), wanted)
+    clash = (AT_LEAST | AT_MOST, 0, 1, 1, 0)            # 1 starts at tick 1 at the earliest and at tick 0 at the latest
+    data = sheet([fixed(0), fixed(0), fixed(0)], [clash])
+    same("a clash", clashes(data), [0])
+    same("a clash and a byte too many", clashes(data + b"\0"), 7)
+    same("a clash and a byte too few", clashes(data[:-1]), 1)
+    same("a clash and a circle", clashes(sheet([fixed(0), fixed(0), fixed(0)], [clash, (AFTER, 2, 3), (AT_LEAST, 3, 2, 0)])), 8)
+    same("a clash and a link into the start", clashes(sheet([fixed(0), fixed(0), fixed(0)], [clash, (AFTER, 3, 0)])), 8)
+    for room in (0, 512):
+        same("the start", clashes(bytes.fromhex("01 00 00 01"), room), 31)
+        same("stand", clashes(stand(8), room), 31)
+        same("two hands, a wait", clashes(sheet([open_step(), open_step(), fixed(0), fixed(0)], [(AFTER, 1, 3), (AFTER, 2, 4), (AT_MOST, 3, 4, 5)]), room), 31)
+        same("28", clashes(sheet([open_step(), open_step(), fixed(0)], [(AFTER | FINISH, 1, 3, 0), (AFTER | FINISH, 2, 3, 0)]), room), 31)
+
+
+def reports() -> None:
+    """The records that clash."""
+    hand, still = open_step(), fixed(0)
+    reported("stand, limit 1", [fixed(3), hand, fixed(2), fixed(1)],
+             [(AFTER, 0, 1), (AFTER, 0, 2), (AFTER, 1, 4), (AFTER, 2, 3), (AFTER | AT_MOST, 3, 4, 1)], [4])
+    reported("from the hand's start", [hand, still], [(AFTER, 0, 1), (AFTER | AT_MOST, 1, 2, 9)], [1])
+    for limit in (7, 8):                                # 10, and 11
+        reported("from the start", [open_step(8), still], [(AT_MOST, 0, 2, limit), (AFTER, 1, 2)], [0, 1])
+    # Of clashes that have no record in common the one whose last record comes first is reported, 10 or 11.
+    never, sometimes = (AT_LEAST | AT_MOST, 1, 2, 1, 0), (AFTER | AT_MOST, 1, 2, 9)
+    reported("10 twice", [hand, still, still], [never, (AT_LEAST | AT_MOST, 1, 3, 1, 0)], [0])
+    reported("11 before 10", [hand, still, still], [sometimes, (AT_LEAST | AT_MOST, 1, 3, 1, 0)], [0])
+    reported("10 before 11", [hand, still, still], [never, (AFTER | AT_MOST, 1, 3, 9)], [0])
+    reported("a clash of two around another", [still, still, still],
+             [(AT_MOST, 0, 3, 4), (AT_LEAST | AT_MOST, 1, 2, 1, 0), (AT_LEAST, 2, 3, 5)], [1])
+    reported("a clash of two before another", [still, still, still],
+             [(AT_MOST, 0, 2, 4), (AT_LEAST, 1, 2, 5), (AT_LEAST | AT_MOST, 2, 3, 1, 0)], [0, 1])
+    # 1 to 2 takes 10 and 2 comes by tick 5. 1 hangs from the start once its record is gone; what leads into 1 matters where 1 to 2 takes less.
+    reported("hangs from the start in the part", [still, still], [(AFTER, 0, 1), (AT_MOST, 0, 2, 5), (AT_LEAST, 1, 2, 10)], [1, 2])
+    reported("hangs from the start in the part, after another step", [still, still, fixed(4)],
+             [(AT_MOST, 0, 2, 5), (AT_LEAST, 1, 2, 10), (AFTER, 3, 1)], [0, 1])
+    reported("does not hang from the start", [still, still, fixed(4)], [(AT_MOST, 0, 2, 5), (AT_LEAST, 1, 2, 2), (AFTER, 3, 1)], [0, 1, 2])
+    reported("a hand before the limit", [still, still, hand], [(AT_MOST, 0, 2, 5), (AT_LEAST, 1, 2, 2), (AFTER, 3, 1)], [0, 1, 2])
+    # Two ways from 1 to 4: that by 2 is reported if it is too long, for what leads by 3 is tried first.
+    for by_two, wanted in ((6, [0, 2, 3]), (5, [1, 2, 4])):
+        reported("two ways", [still] * 4, [(AT_LEAST, 1, 2, by_two), (AT_LEAST, 1, 3, 9), (AT_MOST, 1, 4, 5), (AFTER, 2, 4), (AFTER, 3, 4)], wanted)
+    reported("a gap", [hand, still], [(AT_MOST, 0, 2, 5), (AFTER | GAP, 1, 2, 6)], [0, 1])
+    reported("a gap of a fixed step", [fixed(2), still, still], [(AT_MOST, 0, 2, 5), (AFTER | GAP, 1, 2, 4), (AFTER, 1, 3)], [0, 1])
+    same("a gap that fits", clashes(sheet([fixed(2), still, still], [(AT_MOST, 0, 2, 6), (AFTER | GAP, 1, 2, 4), (AFTER, 1, 3)])), 31)
+    # A limit from the finish does not clash with the hand that it counts from, but with what lasts longer than the hand may, or with a hand in between.
+    reported("longer than the hand and the limit", [open_step(8), still], [(AFTER, 0, 1), (AFTER | AT_LEAST | FINISH, 1, 2, 14, 5)], [1])
+    reported("a hand in between", [hand, hand, still], [(AFTER, 1, 2), (AFTER | FINISH, 1, 3, 5), (AFTER, 2, 3)], [0, 1, 2])
+    reported("a fixed step in between", [hand, fixed(6), still], [(AFTER, 1, 2), (AFTER | FINISH, 1, 3, 5), (AFTER, 2, 3)], [0, 1, 2])
+    reported("what is refused 28 without one record", [hand, hand, still], [(AFTER, 1, 2), (AFTER | FINISH, 1, 3, 0), (AFTER | FINISH, 2, 3, 0)], [0, 1, 2])
+    reported("two limits in a record that goes", [still, still], [(AFTER | AT_MOST | FINISH, 0, 1, 7, 9), (AT_MOST, 0, 2, 4), (AT_LEAST, 1, 2, 5)], [1, 2])
+    reported("two limits in a record that stays", [still, fixed(7), still],
+             [(AFTER | AT_MOST | FINISH, 0, 1, 9, 7), (AFTER, 0, 2), (AT_LEAST, 2, 1, 8), (AT_MOST, 2, 3, 0)], [0, 2])
+    # The longest report: a row of 64 steps, a tick from each to the next, and the last one tick too late. Limits that ask nothing stand in between.
+    row = [(AT_LEAST, v, v + 1, 1) for v in range(63)] + [(AT_MOST, 0, 63, 62)]
+    more = [(AT_MOST, i, j, 65535) for i in range(62) for j in range(i + 2, 64) if (i, j) != (0, 63)][:512 - 64]
+    links = sorted(row + more, key=lambda link: link[1:3])
+    reported("512 records", [still] * 63, links, [k for k, link in enumerate(links) if link in row])
+
+
+for part in (bytes_read, plans, limits_from_the_finish, lists, runs, no_clashes, reports):
     part()
 print("worked sheets: as worked out")

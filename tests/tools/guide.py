@@ -27,6 +27,8 @@ def commands():
     assert count >= 12, count
     assert (ROOT / "target/stand.svg").read_bytes() == (ROOT / "examples/stand.svg").read_bytes(), "README's picture is not the guide's"
     assert printed("target/stand examples/stand.sheet 10") == (ROOT / "examples/stand.run").read_text("ascii"), "examples/stand.run"
+    for program in ("target/stand", "target/rust/debug/examples/stand", "PYTHONPATH=bindings/python python3 -B examples/stand.py"):
+        assert printed(f"{program} target/late.sheet 10 2> /dev/null") == "records that clash 4\nrefused 10\n", f"{program}: records that clash"
     return count
 
 

@@ -1,4 +1,5 @@
-"""tools/picture: start times are the library's, against stored answers of the reference planner; what is drawn is whole; what is refused gives no picture."""
+"""tools/picture: start times are the library's, against stored answers of the reference planner; what is drawn is whole; what is refused gives no picture.
+Pictures of records that clash: what can be read off them is that each link but one is kept, and that one not."""
 import importlib.machinery
 import importlib.util
 import os
@@ -10,6 +11,7 @@ import tempfile
 import xml.etree.ElementTree as tree
 from pathlib import Path
 
+import stored
 from stored import ROOT
 
 TOOL = ROOT / "tools/picture"
@@ -79,8 +81,8 @@ def whole(what, wide, high, texts):
         right = x + room * {"start": 1, "middle": 0.5}.get(anchor, 0)
         assert x >= 0 and right <= wide and y < high, f"{what}: {text} is cut"
     left = min(x for x, _, anchor, _ in texts if anchor == "middle")
-    low = max(y for _, y, anchor, _ in texts if anchor == "middle")
-    assert all(x + room < left for x, y, anchor, text, room in sizes if anchor == "start" and x < left - 14 and 40 < y < low), what
+    top, low = (most(y for _, y, anchor, _ in texts if anchor == "middle") for most in (min, max))
+    assert all(x + room < left for x, y, anchor, text, room in sizes if anchor == "start" and x < left - 14 and top < y < low), what
     spans = {}
     for x, y, anchor, text, room in sizes:
         begin = x - room * {"start": 0, "middle": 0.5, "end": 1}[anchor]
@@ -255,6 +257,146 @@ link 3 4 after at-most 2
         assert "dash" not in tool.graph("a title", sheet, [[]] * n) + tool.picture("a title", sheet, [0] * n, [[]] * n, [0] * n, True), text
 
 
+BY_RECORD = re.compile(r"record (\d+), byte \d+: (.*)")
+# Labels, with the words of a link that they can stand for: from another step, and from the start.
+SAID = [(re.compile(r"after step (\d+) ends"), ["after"]), (re.compile(r"at least (?P<number>\d+) ticks? after step (\d+) ends"), ["after"]),
+        (re.compile(r"at least (?P<number>\d+) ticks? after step (\d+) starts"), ["at-least"]), (re.compile(r"at most (?P<number>\d+) ticks? after step (\d+) starts"), ["at-most"]),
+        (re.compile(r"at most (?P<number>\d+) ticks? after step (\d+) ends"), ["at-most-from-finish"]),
+        (re.compile(r"at tick (?P<number>\d+) or later"), ["after", "at-least"]), (re.compile(r"at tick (?P<number>\d+) or before"), ["at-most", "at-most-from-finish"])]
+
+
+def clash(what, data, svg):
+    """What a picture of records that clash shows: its steps, each with its start and end and its labels; of each label the record, the word and the number.
+    Each link is kept without a tick to spare, but for the last one, a limit, which is not. Returns the record numbers."""
+    sheet, (wide, high, texts, bars, lines) = sheets.from_bytes(data), drawn(svg)
+    whole(what, wide, high, texts)
+    pairs, x = sorted(sheet.links), placed(texts)
+    top, low = (most(y for _, y, anchor, _ in texts if anchor == "middle") for most in (min, max))
+    left = [(y, at, text) for at, y, anchor, text in texts if top < y < low and anchor == "start" and at < x(0) - 14]
+    right = {y: text for at, y, anchor, text in texts if top < y < low and anchor == "start" and at > x(0)}
+    rows = []                                              # the step, its start and its end, its labels
+    for y, at, text in sorted(left):
+        if at == tool.MARGIN:
+            starts, _, ends = re.match(r"(\d+)( to (\d+))?", right[y]).groups()
+            rows.append((int(text), int(starts), int(ends or starts), []))
+            is_open = sheet.steps[int(text)] == "open"
+            lasts = int(ends or starts) - int(starts)
+            assert lasts >= sheet.leasts.get(int(text), 0) if is_open and int(text) else lasts == (0 if is_open else sheet.steps[int(text)]), f"{what}: step {text} lasts {lasts}"
+        elif BY_RECORD.match(text) or text in ("hangs from the start", "at tick 0 or later, as every step"):
+            rows[-1][3].append(text)
+        else:
+            rows[-1][3][-1] += f" {text}"
+    times = {v: (start, end) for v, start, end, _ in rows}
+    check(len(times), len(rows), f"{what}: a step twice")
+    numbers, forward, limits, over = [], [], [], []
+    for v, start, _, labels in rows:
+        for label in labels:
+            if label == "hangs from the start" or label == "at tick 0 or later, as every step":
+                check(label == "hangs from the start", v in sheets.loose(sheet), f"{what}: step {v}: {label}")
+                check((0 in times, start), (True, 0), f"{what}: {label}")
+                forward.append((0, 0))
+                continue
+            number, words = BY_RECORD.fullmatch(label).groups()
+            numbers.append(int(number))
+            i, j = pairs[int(number)]
+            found = [(match, kinds) for match, kinds in ((form.fullmatch(words), kinds) for form, kinds in SAID) if match]
+            check(len(found), 1, f"{what}: {label}")
+            (match, kinds), = found
+            check((j, str(i) in match.groups() or i == 0), (v, True), f"{what}: {label}")
+            ticks = int(match.groupdict().get("number") or 0)
+            kind, = [kind for kind in kinds if kind in sheet.links[i, j] and (sheet.links[i, j][kind] or 0) == ticks][:1] or [None]
+            assert kind, f"{what}: {label}: {sheet.links[i, j]}"
+            since = times[i][kind in ("after", "at-most-from-finish")]
+            if kind in ("after", "at-least"):
+                check(start, since + ticks, f"{what}: {label}")
+                forward.append((since, start))
+            else:
+                limits.append((since, since + ticks))
+                over += [(start - since - ticks, v)] if start != since + ticks else []
+    # The last limit alone is not kept; it is one of the last step, and counts from the first one.
+    (late, v), = over
+    check((v, late > 0, limits[-1][0] in times[rows[0][0]], rows[0][1]), (rows[-1][0], True, True, 0), f"{what}: the limit that is not kept")
+    check([text for text in right.values() if "late" in text], [f"{late} tick{'' if late == 1 else 's'} too late"], what)
+    check(len(limits) + len(forward), len(rows), f"{what}: a circle")
+    # All is where the axis has it.
+    same_places([(left_of(bar), left_of(bar) + float(bar.get("width") or 0)) for bar in bars[:len(rows)]],
+                [(x(start), x(start) + (max(x(end) - x(start), 1) if end > start else 0)) for _, start, end, _ in rows], what)
+    same_places(lines[tool.LIMIT], [(x(since), x(last)) for since, last in limits], f"{what}: limits")
+    root = tree.fromstring(svg)
+    drawn_over = [(float(e.get("x")), float(e.get("x")) + float(e.get("width"))) for e in root.iterfind(".//{*}rect") if e.get("fill") == tool.PALE][:-1]
+    same_places(drawn_over, [(x(times[v][0] - late), x(times[v][0] - late) + max(x(late) - x(0), 1))], f"{what}: over the limit")
+    paths = [re.match(r"M([\d.]+) [\d.]+(?:v[-\d.]+H([\d.]+))?", e.get("d")).groups() for e in root.iterfind(".//{*}path") if e.get("shape-rendering")]
+    same_places(sorted((float(since), float(to or since)) for since, to in paths), sorted((x(since), x(start)) for since, start in forward), f"{what}: links")
+    said = " ".join(text for _, y, anchor, text in texts if y > low and anchor == "start")
+    if "Added up" in said:
+        needs, allows = map(int, re.search(r"Added up, (\d+) ticks? (?:is|are) needed where (\d+) ", said).groups())
+        check(needs - allows, late, f"{what}: {said}")
+    else:
+        check((late, "open and" in said), (1, True), f"{what}: {said}")
+    return sorted(set(numbers))
+
+
+def clashing():
+    """The stored sheets that are refused as 10 or 11; a few with names, worked out by hand; one of 300 records; what is refused otherwise."""
+    called, count, records = tool.library(), 0, 0
+    for data, verdict in stored.sheets():
+        sheet = sheets.from_bytes(data) if verdict in ("refused 10", "refused 11") else None
+        if sheet:
+            said, found = tool.clash_of(sheet)
+            check(said.split(":")[0], verdict, data.hex())
+            check(clash(data.hex(), data, tool.clash_picture("a title", sheet, found)), called.clashes(data), data.hex())
+            count, records = count + 1, records + len(found.words)
+    assert count > 100 and records > 300, (count, records)
+
+    # Two limits: b at 3 + 2, so c at 5 - 2 or later; d at 3 + 6, and it has to be at 8 by then. Of 11 the hand lasts one tick more than is left.
+    two = "step 0 open\nstep 1 fixed 3 # a\nstep 2 fixed 4 # b\nstep 3 fixed 2 # c\nstep 4 fixed 1 # d\nlink 1 2 after gap 2\nlink 1 4 at-most 8\nlink 3 2 at-most 2\nlink 3 4 at-least 6\n"
+    hand = "step 0 open\nstep 1 open least 3 # hand\nstep 2 fixed 2 # glass\nstep 3 fixed 1 # exposure\nstep 4 open\nlink 1 2 after\nlink 1 3 at-most 9\nlink 2 3 after\nlink 3 4 after\n"
+    alone = "step 0 open\nstep 1 fixed 2\nlink 0 1 at-least 3 at-most 1\n"
+    for text, starts, ends, lines in (
+            (two, {1: 0, 2: 5, 3: 3, 4: 9}, {1: 3, 2: 9, 3: 5, 4: 10},
+             ["Its 4 records clash; without any one of them the others do not.", "Ticks are counted from the start of a (1); each step starts as early as the one above lets it.",
+              "line 6: at least 2 ticks after a (1) ends", "line 8: at most 2 ticks after c (3) starts", "line 9: at least 6 ticks after c (3) starts",
+              "line 7: at most 8 ticks after a (1) starts", "1 tick too late", "Added up, 11 ticks are needed where 10 are allowed."]),
+            (hand, {1: 0, 2: 8, 3: 10}, {1: 8, 2: 10, 3: 11},
+             ["Of 4 records these 3 clash; without any one of them the others do not.",
+              "Ticks are counted from the start of hand (1); each step starts as early as the one above lets it; hand (1) lasts 8 ticks here.", "0 to 8, open, at least 3",
+              "1 tick too late", "hand (1) is open and may last more than the 7 ticks that these limits leave."]),
+            (alone, {0: 0, 1: 3}, {0: 0, 1: 5}, ["Its record cannot be kept.", "Each step starts as early as the one above lets it.", "line 3: at tick 3 or later", "line 3: at tick 1 or before",
+                                                 "2 ticks too late", "Added up, 3 ticks are needed where 1 is allowed."])):
+        sheet = sheets.from_text(text.encode())
+        said, found = tool.clash_of(sheet)
+        circle = tool.clashes.circle(found)
+        check((circle.starts, {v: start + circle.durations[v] for v, start in circle.starts.items()}), (starts, ends), text)
+        shown = [line for *_, line in drawn(tool.clash_picture("a title", sheet, found))[2]]
+        for line in lines:
+            assert line in shown, f"{text}: {line}: {shown}"
+
+    # Long names, in rows, above and below.
+    names = "MMMM <&> WWWW " * 9 + "W" * 70
+    long = "\n".join(f"{line.partition('#')[0]} # {names} {at}" if line.startswith("step") else line for at, line in enumerate(hand.splitlines()))
+    sheet = sheets.from_text(long.encode())
+    wide, high, texts, *_ = drawn(tool.clash_picture("a title", sheet, tool.clash_of(sheet)[1]))
+    whole("long names", wide, high, texts)
+    assert wide < 1300, wide
+
+    # 300 records: after links all over 62 steps of 2 ticks, and limits, the fourth of them too short for five steps.
+    pairs = [(v, w) for v in range(1, 63) for w in range(v + 1, min(v + 6, 63))]
+    limits = {(1, 62): 200, (10, 20): 25, (20, 30): 25, (30, 37): 9, (40, 50): 25}
+    long = "step 0 open\n" + "".join(f"step {v} fixed 2\n" for v in range(1, 63)) + "".join(f"link {v} {w} after\n" for v, w in pairs) + \
+        "".join(f"link {v} {w} at-most {ticks}\n" for (v, w), ticks in limits.items())
+    data = sheets.to_bytes(sheets.from_text(long.encode()))
+    check(int.from_bytes(data[1:3], "little"), 300, "records")
+    status, svg, said = ran("--clash", "-", given=data)
+    rising = sorted([*pairs, *limits])
+    check((status, said, [rising[k] for k in clash("300 records", data, svg)]), (0, "", [(30, 31), (30, 37), (31, 32), (32, 33), (33, 34), (34, 37)]), "300 records")
+    assert "Of 300 records these 6 clash; without any one of them the others do not." in [text for *_, text in drawn(svg)[2]]
+    for given, said in (((ROOT / "examples/stand.text").read_bytes(), "refused 31: the sheet is not refused as 10 or 11"), (b"step 0 open\nstep 1 open\nlink 1 0 after\n", "refused 8: forward links close a circle"),
+                        ((ROOT / "examples/hands.sheet").read_bytes(), "refused 31: the sheet is not refused as 10 or 11"), (b"A", "byte 0: refused 2: N is 0 or above 64"),
+                        (b"step 0 open\nstep 1 open\nstep 2 open\nstep 3 fixed 0\nlink 1 3 after at-most-from-finish 0\nlink 2 3 after at-most-from-finish 0\n", "refused 31: the sheet is not refused as 10 or 11")):
+        check(ran("--clash", "-", given=given), (1, b"", f"standard input: {said}\n"), f"--clash {given}")
+    return f"{count} pictures of {records} records that clash"
+
+
 def ran(*words, given=b""):
     done = subprocess.run([TOOL, *words], capture_output=True, cwd="/", input=given)
     return done.returncode, done.stdout, done.stderr.decode()
@@ -283,7 +425,8 @@ def command():
         check(ran(stand, word), (1, b"", f"{stand}: '{word}' is not a step, '=' and its ticks\n"), "no duration")
     check(ran(ROOT / "tests"), (2, b"", f"{ROOT / 'tests'}: Is a directory\n"), "a directory")
     check(ran()[:2], (2, b""), "no words")
-    for words in (["--links"], ["--graph", "--links", stand], ["--graph", stand, "2=1"], ["--line", stand]):
+    for words in (["--links"], ["--graph", "--links", stand], ["--graph", stand, "2=1"], ["--clash"], ["--clash", "--links", stand], ["--clash", "--graph", stand], ["--clash", stand, "2=1"],
+                  ["--line", stand]):
         status, printed, said = ran(*words)
         assert (status, printed) == (2, b"") and "tools/picture [--links] SHEET" in said, (words, said)
     check(ran("-", "hand=10", given=text.read_bytes())[1].replace(b"standard input", b"stand.text"), kept, "from standard input")
@@ -302,9 +445,9 @@ def command():
 
     # What cannot be written is said.
     if os.path.exists("/dev/full"):
-        for words in ([text], ["--graph", text], ["--help"]):
+        for words in ([text], ["--graph", text], ["--clash", "-"], ["--help"]):
             with open("/dev/full", "wb") as full:
-                done = subprocess.run([TOOL, *words], stdout=full, stderr=subprocess.PIPE)
+                done = subprocess.run([TOOL, *words], stdout=full, stderr=subprocess.PIPE, input=text.read_bytes().replace(b"at-most 2", b"at-most 1"))
             check((done.returncode, done.stderr.decode()), (2, "tools/picture: standard output cannot be written: No space left on device\n"), "/dev/full")
     reader, writer = os.pipe()
     os.close(reader)
@@ -371,4 +514,4 @@ if __name__ == "__main__":
     seen, refused = pictures()
     command()
     largest()
-    print(f"{seen} stored lists drawn, with links too, {refused} refused; {graphs()}")
+    print(f"{seen} stored lists drawn, with links too, {refused} refused; {graphs()}; {clashing()}")

@@ -21,6 +21,7 @@ def compared():
         size = number(2)
         yield data[at:at + size], verdict
         at += size
+        number(2)                                          # lengths that are lent: for the records that clash, for the plan
         number(2)
         for _ in range(number(1)):
             number(1)

@@ -21,6 +21,11 @@
 //! run.tick(&plan.table)?;
 //! assert_eq!(run.finish(1, &plan.table)?, 0b100); // step 1 has ended, step 2 starts
 //! assert_eq!(run.finish(1, &plan.table), Err(standplan::Refusal::CannotFinish));
+//!
+//! // Step 1 is to start at least 2 and at most 1 tick after step 0, record 0, and step 2 after step 1, record 1: record 0 alone cannot be kept.
+//! let impossible = [3, 2, 0, 1, 1, 1, 6, 0, 1, 2, 0, 1, 0, 1, 1, 2];
+//! assert_eq!(standplan::judge(&impossible, true), Err(standplan::Refusal::NeverKept));
+//! assert_eq!(standplan::clashes(&impossible)?, [0]);
 //! # Ok::<(), standplan::Refusal>(())
 //! ```
 #![warn(missing_docs)]
@@ -59,6 +64,13 @@ mod raw {
             open: *mut u64,
             leasts: *mut u16,
             leasts_len: usize,
+        ) -> u32;
+        pub fn standplan_clashes(
+            sheet: *const u8,
+            sheet_len: usize,
+            numbers: *mut u32,
+            numbers_len: usize,
+            count: *mut usize,
         ) -> u32;
         pub fn standplan_begin(
             words: *mut [u64; 4],
@@ -187,6 +199,7 @@ refusals! {
     20 TooEarly "Finish at a tick below its start tick plus its least duration"
     26 LimitWithoutAfter "a link map with bit 4, at most from the finish, and without bit 0, after"
     28 WaitsClash "the waits close a circle of forward links, or leave no start times with each open step at its least"
+    31 NotImpossible "the sheet is not refused as 10 or 11"
 }
 
 impl Refusal {
@@ -339,6 +352,23 @@ pub fn steps(sheet: &[u8]) -> Result<Steps, Refusal> {
 /// The same, into a number, a map and the first n numbers of `leasts`. The rest stays as lent; on a refusal all of it does. Refusal 14 beside those of [`steps`].
 pub fn steps_into(sheet: &[u8], n: &mut usize, open: &mut u64, leasts: &mut [u16]) -> Result<(), Refusal> {
     match unsafe { raw::standplan_steps(sheet.as_ptr(), sheet.len(), n, open, leasts.as_mut_ptr(), leasts.len()) } {
+        0 => Ok(()),
+        code => Err(Refusal::from_code(code)),
+    }
+}
+
+/// The few records that clash, of a sheet that is refused as 10 or 11: their numbers, counted from 0, rising. From the last link record to the first each one is
+/// dropped whose loss leaves the sheet still refused so; without any one of those that stay the others are not. Refusals 1 to 8, 26 and 31.
+pub fn clashes(sheet: &[u8]) -> Result<Vec<u32>, Refusal> {
+    let (mut numbers, mut count) = (vec![0; MAX_RECORDS], 0);
+    clashes_into(sheet, &mut numbers, &mut count)?;
+    numbers.truncate(count);
+    Ok(numbers)
+}
+
+/// The same, into the front of `numbers` and a count. The rest stays as lent; on a refusal all of it does. Refusal 14 beside those of [`clashes`].
+pub fn clashes_into(sheet: &[u8], numbers: &mut [u32], count: &mut usize) -> Result<(), Refusal> {
+    match unsafe { raw::standplan_clashes(sheet.as_ptr(), sheet.len(), numbers.as_mut_ptr(), numbers.len(), count) } {
         0 => Ok(()),
         code => Err(Refusal::from_code(code)),
     }

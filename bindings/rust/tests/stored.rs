@@ -1,6 +1,6 @@
 //! The library's answers against those of the reference planner, stored by tests/rust/store.py.
 use standplan::{
-    judge, plan, plan_into, starts, starts_into, steps, steps_into, waits, waits_into, Refusal, Run, Verdict, MAX_SHEET, MAX_TABLE, STACK, UNDECIDED,
+    clashes, clashes_into, judge, plan, plan_into, starts, starts_into, steps, steps_into, waits, waits_into, Refusal, Run, Verdict, MAX_SHEET, MAX_TABLE, STACK, UNDECIDED,
 };
 use std::collections::BTreeSet;
 use std::thread;
@@ -38,7 +38,7 @@ fn fields(line: &str) -> Vec<Vec<&str>> {
 fn stored_answers() {
     let mut sheet = Vec::new();
     let mut seen = BTreeSet::new();
-    let (mut lines, mut counted) = (0, 0);
+    let (mut lines, mut counted, mut reports) = (0, 0, 0);
     for (at, line) in STORED.lines().enumerate() {
         let parts = fields(line);
         let allow = parts[0].get(1) == Some(&"1");
@@ -114,12 +114,32 @@ fn stored_answers() {
                 }
                 counted += 1;
             }
+            "clashes" => {
+                // 1000 is lent for the count.
+                let after: Vec<u32> = parts[2].iter().map(|word| number_of(word)).collect();
+                let (mut numbers, mut count) = (lent(after.len()), 1000);
+                let answer = clashes_into(&sheet, &mut numbers, &mut count);
+                assert_eq!(numbers, after, "{place}");
+                let found = clashes(&sheet);
+                match parts[1][..] {
+                    ["ok", few] => {
+                        assert_eq!((answer, count.to_string().as_str()), (Ok(()), few), "{place}");
+                        assert_eq!(found.as_deref(), Ok(&after[..count]), "{place}");
+                        reports += 1;
+                    }
+                    _ => {
+                        seen.insert(parts[1].join(" "));
+                        assert_eq!((answer.map(|()| Verdict::Sound), count), (verdict_of(&parts[1]), 1000), "{place}");
+                        assert!(found.map_or_else(|refusal| Err(refusal) == answer, |_| answer == Err(Refusal::TooShort)), "{place}");
+                    }
+                }
+            }
             word => panic!("{place}: {word}"),
         }
     }
-    assert!(lines > 300 && counted > 300);
-    // Both verdicts and refusals 1 to 8, 10 to 14, 26 and 28 are among them.
-    assert_eq!(seen.len(), 17, "{seen:?}");
+    assert!(lines > 300 && counted > 300 && reports > 30);
+    // Both verdicts and refusals 1 to 8, 10 to 14, 26, 28 and 31 are among them.
+    assert_eq!(seen.len(), 18, "{seen:?}");
 }
 
 #[test]
@@ -131,6 +151,9 @@ fn nothing_lent() {
     assert_eq!(starts(&[1, 0, 0, 1], false, &[]), Err(Refusal::TooShort));
     assert_eq!(steps(&[]), Err(Refusal::Truncated));
     assert_eq!(steps_into(&[1, 0, 0, 1], &mut 0, &mut 0, &mut []), Err(Refusal::TooShort));
+    assert_eq!(clashes(&[]), Err(Refusal::Truncated));
+    assert_eq!(clashes_into(&[1, 0, 0, 1], &mut [], &mut 0), Err(Refusal::NotImpossible));
+    assert_eq!(clashes_into(&[2, 1, 0, 1, 0, 6, 0, 1, 1, 0, 0, 0], &mut [], &mut 0), Err(Refusal::TooShort));
     assert_eq!(Run::new().begin(1, 1, &[], &[0]), Err(Refusal::TooShort));
     assert_eq!(Run::new().begin(1, 1, &[0], &[]), Err(Refusal::TooShort));
     assert_eq!(Refusal::Circle.to_string(), "refused 8: forward links close a circle");
@@ -180,15 +203,19 @@ fn longest() -> Vec<u8> {
     sheet
 }
 
-/// Several threads with no more stack than the crate says, and what a thread needs itself, plan the longest sheet at once.
+/// Several threads with no more stack than the crate says, and what a thread needs itself, plan the longest sheet at once, and ask which of its records clash
+/// when step 1 is to start at tick 0, which is too early: the first record alone.
 #[test]
 fn threads() {
     let sheet = longest();
     assert_eq!(sheet.len(), MAX_SHEET);
     let alone = plan(&sheet, true).unwrap();
     assert_eq!(alone.table.len(), MAX_TABLE);
+    let mut early = sheet.clone();
+    let limit = 4 + 63 * 3 + 5;
+    early[limit..limit + 2].fill(0);
     thread::scope(|scope| {
-        let work = || (0..200).all(|_| plan(&sheet, true).as_ref() == Ok(&alone));
+        let work = || (0..200).all(|_| plan(&sheet, true).as_ref() == Ok(&alone)) && clashes(&early) == Ok(vec![0]);
         let all: Vec<_> = (0..4).map(|_| thread::Builder::new().stack_size(STACK + 16384).spawn_scoped(scope, work).unwrap()).collect();
         assert!(all.into_iter().all(|one| one.join().unwrap()));
     });

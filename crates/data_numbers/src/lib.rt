@@ -1,12 +1,13 @@
-// Document 01's numbers for the answers that are enums: refusals, verdicts and the status of a call; and whether a verdict accepts.
+// Document 01's numbers for the answers that are enums: refusals, verdicts, the status of a call and how many numbers it wrote; and whether a verdict accepts.
 use definitions::Refusal;
 use definitions::Status;
+use definitions::Tally;
 use definitions::Verdict;
 ghost use mathlib.Core.Path.{_≡_};
 ghost use Prim.Native.Nat.{_≤_};
 ghost use Rattle.definitions.specs.Dispatcher.{Progress};
-ghost use Rattle.definitions.specs.Numbers.{number, status-of, verdict-of};
-ghost use Rattle.data_numbers.specs.Codes.{call-code, code, is-given, largest-refusal};
+ghost use Rattle.definitions.specs.Numbers.{number, status-of, tally-of, verdict-of};
+ghost use Rattle.data_numbers.specs.Codes.{call-code, code, is-given, largest-refusal, tally-code};
 
 // What is added to a refusal's number, so that it reads as no verdict (specs/Codes.antt, `refusals-past`).
 pub const REFUSALS_PAST: u32 = 256;
@@ -36,6 +37,7 @@ pub fn refusal_number(k: Refusal) -> u32
         Refusal::TooEarly => 20,
         Refusal::Unsequenced => 26,
         Refusal::Unserializable => 28,
+        Refusal::NotImpossible => 31,
     }
 }
 
@@ -68,5 +70,15 @@ pub fn status_code(status: Status) -> u32
     match status {
         Status::Done => 0,
         Status::Refused(k) => REFUSALS_PAST + refusal_number(k),
+    }
+}
+
+// How many numbers a call wrote: 0 where it went through, for the count is left beside it; else the refusal's number past 256.
+pub fn tally_code(tally: Tally) -> u32
+    ensures { λ r. ⌜ r ≡ tally-code (tally-of tally) ⌝ }
+{
+    match tally {
+        Tally::Count(_) => 0,
+        Tally::Refused(k) => REFUSALS_PAST + refusal_number(k),
     }
 }

@@ -9,6 +9,7 @@ pub mod Waits
 pub mod Plan
 pub mod Rival
 pub mod Answers
+pub mod Clashes
 pub mod Dispatcher
 pub mod Output
 pub mod Worked

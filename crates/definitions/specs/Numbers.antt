@@ -3,15 +3,17 @@ use Prim.Native.Nat.{ℕ}
 use Rattle.definitions.specs.Basics.{Outcome, given, refused}
 use Rattle.definitions.specs.declared.Refusal.{Refusal}
 use Rattle.definitions.specs.declared.Refusal.the-variants.{Truncated, OperationCount, LinkCount, BadMap, BadEndpoint, BadOrder, Trailing, ForwardCycle, Infeasible}
-use Rattle.definitions.specs.declared.Refusal.the-variants.{Inconsistent, WaitsNeeded, BadDelays, TooShort, NotBegun, AlreadyBegun, CannotFinish, ClockEnd, TooEarly, Unsequenced, Unserializable}
+use Rattle.definitions.specs.declared.Refusal.the-variants.{Inconsistent, WaitsNeeded, BadDelays, TooShort, NotBegun, AlreadyBegun, CannotFinish, ClockEnd, TooEarly, Unsequenced, Unserializable, NotImpossible}
 use Rattle.definitions.specs.declared.Verdict.{Verdict}
 use Rattle.definitions.specs.declared.Reading.{Reading}
 use Rattle.definitions.specs.declared.Status.{Status}
+use Rattle.definitions.specs.declared.Tally.{Tally}
 use Rattle.definitions.specs.declared.Verdict.the-variants as Verdicts
 use Rattle.definitions.specs.declared.Status.the-variants as Statuses
 use Rattle.definitions.specs.declared.Reading.the-variants as Readings
+use Rattle.definitions.specs.declared.Tally.the-variants as Tallies
 
--- The refusals of "From the input" and "From the state", but for 9, which is never given since request L3; and those of requests L6 and L11.
+-- The refusals of "From the input" and "From the state", but for 9, which is never given since request L3; and those of requests L6, L11 and L14.
 abbrev pub number : Refusal → ℕ
 number Truncated = 1
 number OperationCount = 2
@@ -33,6 +35,7 @@ number ClockEnd = 18
 number TooEarly = 20
 number Unsequenced = 26
 number Unserializable = 28
+number NotImpossible = 31
 
 -- Verdict 0 is sound, 1 sound with waits.
 abbrev pub verdict-of : Verdict → Outcome ℕ
@@ -49,3 +52,8 @@ reading-of (Readings.Refused k) a = refused (number k)
 abbrev pub status-of : {A : Type 0} → Status → A → Outcome A
 status-of Statuses.Done a = given a
 status-of (Statuses.Refused k) a = refused (number k)
+
+-- How many numbers a call wrote, or a refusal.
+abbrev pub tally-of : Tally → Outcome ℕ
+tally-of (Tallies.Count k) = given k
+tally-of (Tallies.Refused k) = refused (number k)

@@ -1,4 +1,4 @@
--- "Marked and unmarked sheets": the sheets marked ★ in document 01, and sheets of ours for readings that those do not tell apart and for requests L11, L1, L3 and L6. One table, proved against the definitions in one go.
+-- "Marked and unmarked sheets": the sheets marked ★ in document 01, and sheets of ours for readings that those do not tell apart and for requests L11, L1, L3, L6 and L14. One table, proved against the definitions in one go; one more for the calls of L14.
 use mathlib.Core.Path.{_≡_, refl}
 use mathlib.Core.Bool.{Bool, true, false}
 use mathlib.Core.Logic.{_⊎_, inl, inr}
@@ -14,6 +14,7 @@ use Rattle.definitions.specs.Anchors.{in-anchor-set}
 use Rattle.definitions.specs.Waits.{WaitPair, waits-for, waits-of, wait-list, wait-count, needs-waits, serialized, wait-pair}
 use Rattle.definitions.specs.Plan.{first-row, offset-row, offset, start-from, start-turns, start-times, overrides, decides, plan-entry, plan-row, plan-rows, plan-table, delay-limit, delay-wrong, delays-wrong}
 use Rattle.definitions.specs.Answers.{closes-circle, infeasible, inconsistent, unserializable, judge-edges, edges-of, serialized-of, judge-records, Written, written, too-short, starts-verdict, starts-read, starts-answer, plan-verdict, plan-read, planned, open-map, beginning, steps-read, steps-answer, bad-count}
+use Rattle.definitions.specs.Clashes.{is-impossible, impossible, part-of, drop-records, few, few-verdict, few-read, few-answer}
 use Rattle.definitions.specs.Plan.{undecided}
 use Rattle.definitions.specs.Dispatcher.{entry, names, due, ready, starting, start-ticks, Progress, sweep, begun, not-running, kept-leasts, fresh, with-source, begin, ticked, tick, cannot-finish, too-early, ended, finish, state-after, called}
 use Rattle.definitions.specs.declared.Call.{Call}
@@ -42,6 +43,10 @@ unfoldable every-answers : Unit {0}
 unfolding closes-circle infeasible inconsistent unserializable judge-edges edges-of serialized-of judge-records written too-short starts-verdict starts-read starts-answer plan-verdict plan-read planned open-map beginning steps-read steps-answer bad-count
 every-answers = tt
 
+unfoldable every-clashes : Unit {0}
+unfolding is-impossible impossible part-of drop-records few few-verdict few-read few-answer
+every-clashes = tt
+
 unfoldable every-text : Unit {0}
 unfolding lines-of start-lines list-records listed digits decimal field wait-text start-text listing-text standplan
 every-text = tt
@@ -51,7 +56,7 @@ unfolding entry names due ready starting start-ticks sweep begun not-running kep
 every-runner = tt
 
 unfoldable pub every-definition : Unit {0}
-unfolding every-basics every-reading every-links every-plan every-answers every-text every-runner
+unfolding every-basics every-reading every-links every-plan every-answers every-clashes every-text every-runner
 every-definition = tt
 
 -- What is asked of a sheet: its listing, waits allowed or not, or its starts for a list of durations.
@@ -435,3 +440,76 @@ slow-hand-short = refl
 pub refused-stand-steps : steps-answer (stand 1) (replicate 5 9) ≡ given (record { n = 5; unbounded = 5; leasts = replicate 5 0 })
 unfolding every-definition
 refused-stand-steps = refl
+
+-- Request L14. At most 3 on (0, 2) and on (0, 4), at least 5 on (1, 2) and on (3, 4): two clashes, 0 with 2 and 1 with 3. From the last record to the first the earlier one stays.
+abbrev pub two-clashes : List ℕ
+two-clashes = 0x05 ∷ 0x04 ∷ 0x00 ∷ 0x01 ∷ 0x00 ∷ 0x00 ∷ 0x00 ∷ 0x00 ∷ 0x04 ∷ 0x00 ∷ 0x02 ∷ 0x03 ∷ 0x00 ∷ 0x04 ∷ 0x00 ∷ 0x04 ∷ 0x03 ∷ 0x00 ∷ 0x02 ∷ 0x01 ∷ 0x02 ∷ 0x05 ∷ 0x00 ∷ 0x02 ∷ 0x03 ∷ 0x04 ∷ 0x05 ∷ 0x00 ∷ []
+
+-- 1 after 0, at most 3 on (0, 2), at least 5 on (1, 2). Without its link step 1 hangs from step 0 by a link of request L3, and the other two clash still.
+abbrev pub left-hanging : List ℕ
+left-hanging = 0x03 ∷ 0x03 ∷ 0x00 ∷ 0x01 ∷ 0x00 ∷ 0x00 ∷ 0x01 ∷ 0x00 ∷ 0x01 ∷ 0x04 ∷ 0x00 ∷ 0x02 ∷ 0x03 ∷ 0x00 ∷ 0x02 ∷ 0x01 ∷ 0x02 ∷ 0x05 ∷ 0x00 ∷ []
+
+-- Open 1 after 0; 2 after 1, 3 after 2, at most 9 on (1, 3): 11 by three records.
+abbrev pub own-end-on-the-way : List ℕ
+own-end-on-the-way = 0x04 ∷ 0x04 ∷ 0x00 ∷ 0x01 ∷ 0x01 ∷ 0x00 ∷ 0x00 ∷ 0x01 ∷ 0x00 ∷ 0x01 ∷ 0x01 ∷ 0x01 ∷ 0x02 ∷ 0x04 ∷ 0x01 ∷ 0x03 ∷ 0x09 ∷ 0x00 ∷ 0x01 ∷ 0x02 ∷ 0x03 ∷ []
+
+-- Open 1; 2 after 1, at most 9 on (1, 2), which is 11; at least 5 and at most 3 on (3, 4), which is 10. The sheet is 10; without the last record it is 11.
+abbrev pub eleven-and-ten : List ℕ
+eleven-and-ten = 0x05 ∷ 0x02 ∷ 0x00 ∷ 0x01 ∷ 0x01 ∷ 0x00 ∷ 0x00 ∷ 0x00 ∷ 0x05 ∷ 0x01 ∷ 0x02 ∷ 0x09 ∷ 0x00 ∷ 0x06 ∷ 0x03 ∷ 0x04 ∷ 0x05 ∷ 0x00 ∷ 0x03 ∷ 0x00 ∷ []
+
+-- Open 1; 2 of 5 ticks after 1, 3 after 2 and after 1, at most 2 from the finish of 1.
+abbrev pub past-the-finish : List ℕ
+past-the-finish = 0x04 ∷ 0x03 ∷ 0x00 ∷ 0x01 ∷ 0x01 ∷ 0x02 ∷ 0x05 ∷ 0x00 ∷ 0x00 ∷ 0x01 ∷ 0x01 ∷ 0x02 ∷ 0x11 ∷ 0x01 ∷ 0x03 ∷ 0x02 ∷ 0x00 ∷ 0x01 ∷ 0x02 ∷ 0x03 ∷ []
+
+-- Open 1 with the least l; 2 after 1, at least 10 on (1, 2), at most 4 from the finish of 1: impossible below the least 6.
+abbrev pub short-of-least : ℕ → List ℕ
+short-of-least l = 0x03 ∷ 0x01 ∷ 0x00 ∷ 0x01 ∷ 0x05 ∷ l ∷ 0x00 ∷ 0x00 ∷ 0x13 ∷ 0x01 ∷ 0x02 ∷ 0x0a ∷ 0x00 ∷ 0x04 ∷ 0x00 ∷ []
+
+-- A sheet, the list that is lent for the report, and what is answered: the record numbers stand at its front. A refusal leaves it as it was.
+pub record Clash : Type 0 where
+  pub bytes : List ℕ
+  pub lent : List ℕ
+  pub expected : Written
+
+abbrev turned-away : List ℕ → List ℕ → ℕ → Clash
+turned-away bytes lent k = record { bytes = bytes; lent = lent; expected = record { verdict = refused k; numbers = lent } }
+
+abbrev reports : List ℕ → List ℕ → ℕ → List ℕ → Clash
+reports bytes lent count numbers = record { bytes = bytes; lent = lent; expected = record { verdict = given count; numbers = numbers } }
+
+-- The refusals in their order, an empty list among those that come before 14; then the reports: 10 and 11, which of two clashes stays, the links of request L3 afresh, several links in one record, a limit from the
+-- finish, and a least.
+unfoldable pub worked-clashes : List Clash
+worked-clashes =
+    turned-away (0x05 ∷ 0x01 ∷ []) [] 1 ∷
+    turned-away (0x00 ∷ []) (9 ∷ []) 2 ∷
+    turned-away (0x01 ∷ 0x01 ∷ 0x02 ∷ []) (9 ∷ []) 3 ∷
+    turned-away (0x01 ∷ 0x00 ∷ 0x00 ∷ 0x02 ∷ []) (9 ∷ []) 4 ∷
+    turned-away (0x02 ∷ 0x01 ∷ 0x00 ∷ 0x01 ∷ 0x00 ∷ 0x10 ∷ []) (9 ∷ []) 26 ∷
+    turned-away (0x02 ∷ 0x01 ∷ 0x00 ∷ 0x01 ∷ 0x00 ∷ 0x01 ∷ 0x05 ∷ 0x00 ∷ []) (9 ∷ []) 5 ∷
+    turned-away (0x02 ∷ 0x02 ∷ 0x00 ∷ 0x01 ∷ 0x00 ∷ 0x01 ∷ 0x00 ∷ 0x01 ∷ 0x02 ∷ 0x00 ∷ 0x01 ∷ []) (9 ∷ []) 6 ∷
+    turned-away (0x01 ∷ 0x00 ∷ 0x00 ∷ 0x01 ∷ 0x00 ∷ []) (9 ∷ []) 7 ∷
+    turned-away circle [] 8 ∷
+    turned-away (stand 2) [] 31 ∷
+    turned-away two-hands (9 ∷ 9 ∷ []) 31 ∷
+    turned-away both-finish (9 ∷ 9 ∷ []) 31 ∷
+    turned-away all-loose [] 31 ∷
+    turned-away (short-of-least 6) (9 ∷ 9 ∷ []) 31 ∷
+    turned-away (stand 1) [] 14 ∷
+    turned-away two-clashes (9 ∷ []) 14 ∷
+    reports (stand 1) (9 ∷ 9 ∷ []) 1 (4 ∷ 9 ∷ []) ∷
+    reports own-end (9 ∷ []) 1 (1 ∷ []) ∷
+    reports own-end-on-the-way (9 ∷ 9 ∷ 9 ∷ []) 3 (1 ∷ 2 ∷ 3 ∷ []) ∷
+    reports eleven-and-ten (9 ∷ 9 ∷ []) 1 (0 ∷ 9 ∷ []) ∷
+    reports two-clashes (9 ∷ 9 ∷ []) 2 (0 ∷ 2 ∷ []) ∷
+    reports left-hanging (9 ∷ 9 ∷ 9 ∷ []) 2 (1 ∷ 2 ∷ 9 ∷ []) ∷
+    reports (fixed-finish 6) (9 ∷ 9 ∷ []) 1 (1 ∷ 9 ∷ []) ∷
+    reports past-the-finish (9 ∷ 9 ∷ 9 ∷ 9 ∷ []) 3 (0 ∷ 1 ∷ 2 ∷ 9 ∷ []) ∷
+    reports (lip-limited 5) (9 ∷ []) 1 (1 ∷ []) ∷
+    reports (short-of-least 5) (9 ∷ []) 1 (0 ∷ []) ∷
+    []
+
+-- The computed test, in one go.
+pub few-worked : map (λ w. few-answer (w .bytes) (w .lent)) worked-clashes ≡ map (λ w. w .expected) worked-clashes
+unfolding every-definition worked-clashes
+few-worked = refl

@@ -54,7 +54,7 @@ pub enum Previous {
 
 // ---- What the calls answer.
 
-// The refusals 1 to 18, in their order, but for 9, which is never given since request L3; then those of later requests, 20, 26 and 28.
+// The refusals 1 to 18, in their order, but for 9, which is never given since request L3; then those of later requests, 20, 26, 28 and 31.
 pub enum Refusal {
     Truncated,
     OperationCount,
@@ -76,6 +76,7 @@ pub enum Refusal {
     TooEarly,
     Unsequenced,
     Unserializable,
+    NotImpossible,
 }
 
 // What judging a sheet answers.
@@ -106,6 +107,12 @@ pub struct State {
 // Whether a call went through.
 pub enum Status {
     Done,
+    Refused(Refusal),
+}
+
+// How many numbers a call wrote (request L14), or its refusal.
+pub enum Tally {
+    Count(usize),
     Refused(Refusal),
 }
 

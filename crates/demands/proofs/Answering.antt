@@ -24,11 +24,11 @@ use Rattle.demands.proofs.Judging.{judge-never-past}
 use Rattle.demands.proofs.DelayLists.{limits-meant}
 
 -- 14 as a fact about lengths.
-short-iff : (lent : List ℕ) (size : ℕ) → (too-short lent size ≡ true) ↔ (length lent < size)
+pub short-iff : (lent : List ℕ) (size : ℕ) → (too-short lent size ≡ true) ↔ (length lent < size)
 unfolding too-short
 short-iff lent size = (ltb-true (length lent) size, lt-ltb (length lent) size)
 
-long-iff : (lent : List ℕ) (size : ℕ) → (too-short lent size ≡ false) ↔ (size ≤ length lent)
+pub long-iff : (lent : List ℕ) (size : ℕ) → (too-short lent size ≡ false) ↔ (size ≤ length lent)
 unfolding too-short
 long-iff lent size = (ltb-false (length lent) size, le-ltb (length lent) size)
 

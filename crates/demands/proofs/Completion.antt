@@ -35,7 +35,7 @@ unfolding duration duration-with
 source-kept os d t v h starts = let none : duration-with d 0 (delay-at os 0) ≡ 0 = ap (duration-with d 0) h in omega (arith, none, starts)
 
 module _ {q : Records} (fits : Fits q) (d t : ℕ → ℕ) where
-  completed-kept : KeepsAll (q .steps) (constraints (q .pairs)) d t → KeepsLinks q d t
+  pub completed-kept : KeepsAll (q .steps) (constraints (q .pairs)) d t → KeepsLinks q d t
   unfolding links-of completed
   completed-kept K = record { starts = K .starts; keeps = λ c m. go c (List·Memᴰ·append-cases (constraints (q .pairs)) m) }
     where
@@ -45,7 +45,7 @@ module _ {q : Records} (fits : Fits q) (d t : ℕ → ℕ) where
           let r = Memᴰ·of-map source-link (loose-steps (count-of q) (constraints (q .pairs))) i in
           subst (Keeps (q .steps) d t) (r .2) (source-kept (q .steps) d t (r .0) (fits .source) (K .starts))
 
-  sent-kept : KeepsLinks q d t → KeepsAll (q .steps) (constraints (q .pairs)) d t
+  pub sent-kept : KeepsLinks q d t → KeepsAll (q .steps) (constraints (q .pairs)) d t
   unfolding links-of completed
   sent-kept K = record { starts = K .starts; keeps = λ c m. K .keeps c (Memᴰ·append-left _ m) }
 

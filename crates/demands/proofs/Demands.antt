@@ -1,7 +1,8 @@
--- The theorems: one for each statement of specs/Demands.antt, in its order.
+-- The theorems: one for each statement of specs/Demands.antt, in its order, with those of specs/Clashes.antt after request L6's.
 use mathlib.Core.Path.{refl}
 use Rattle.demands.specs.Demands.{EdgesMeant, ListsMeant, ImpossibleExactly, ReadExactly, WellFormedExactly, JudgedExactly, EachCallRefuses, StartsReturned, CallsExactly, StepsExactly, StartsKept, NobodyEarlier, NobodyEarlierWithWaits, OursAmongRivals, NobodyEarlierWithoutForesight}
 use Rattle.demands.specs.Demands.{OursWithoutForesight, Refused28Exactly, NothingNew, PlansAsBefore, AddedLinksFree, IntoSourceCircle, EnteredAsBefore, LeastlessAsBefore, TestsMeant, WaitsListed, WaitsSound, OffsetsRight, StartRule, DecidingSets, PlanTable, LinesListed, FrontDecides, HypothesesMet}
+use Rattle.demands.specs.Clashes.{PartsJudged, FewClash, FewExactly, FewMet}
 use Rattle.demands.proofs.Reading.{fits-of}
 use Rattle.demands.proofs.FirstBytes.{front-for}
 use Rattle.demands.proofs.Meaning.{meant-for}
@@ -18,7 +19,9 @@ use Rattle.demands.proofs.Planning.{waits-for-sheet, offset-for, start-
 use Rattle.demands.proofs.Gapless.{as-before-all}
 use Rattle.demands.proofs.Leastless.{leastless-all}
 use Rattle.demands.proofs.Completion.{added-free, as-entered, into-source}
-use Rattle.demands.proofs.Examples.{examples}
+use Rattle.demands.proofs.Clashes.{judged-parts, few-for}
+use Rattle.demands.proofs.Reports.{few-calls}
+use Rattle.demands.proofs.Examples.{clash-met, examples}
 
 -- ## The words
 
@@ -124,6 +127,20 @@ entered-as-before = as-entered
 pub leastless-as-before : LeastlessAsBefore
 leastless-as-before = leastless-all
 
+-- ## Request L14
+
+-- An edge of a part is one of the sheet, or leads from step 0 to a step that the sheet has a chain to: so a circle of the part would be one of the sheet. What 10 and 11 say of a sheet uses no more of it.
+pub parts-judged : PartsJudged
+parts-judged = judged-parts
+
+-- Start times that keep a part keep every smaller one, since an added link asks nothing of them. So a record that was needed when it was tried is needed in all that is left later.
+pub few-clash : FewClash
+few-clash = few-for
+
+-- The refusals stand in a row behind those of reading.
+pub few-exactly : FewExactly
+few-exactly = few-calls
+
 -- ## Demand 2
 
 -- Rounds over the edges reach what a walk reaches: a walk can be cut to fewer edges than there are steps.
@@ -169,3 +186,6 @@ front-decides = front-for
 -- Computed, on sheets of the worked table.
 pub hypotheses-met : HypothesesMet
 hypotheses-met = examples
+
+pub few-met : FewMet
+few-met = clash-met

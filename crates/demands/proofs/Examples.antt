@@ -15,7 +15,8 @@ use Rattle.definitions.specs.Links.{Constraint, sequencing, minimum, maximum, f
 use Rattle.definitions.specs.Anchors.{well-posed}
 use Rattle.definitions.specs.Rival.{Further, DelayAssignment, Lasts}
 use Rattle.definitions.specs.Answers.{closes-circle, infeasible, inconsistent, count-of, leasts-of, edges-of, serialized-of, judged}
-use Rattle.definitions.specs.Worked.{Worked, every-definition, listing, lists, worked-sheets}
+use Rattle.definitions.specs.Clashes.{impossible, few}
+use Rattle.definitions.specs.Worked.{Worked, every-definition, listing, lists, two-clashes, worked-sheets}
 use Rattle.definitions.specs.declared.Delay.the-variants.{Open}
 use Rattle.definitions.specs.declared.Operation.{Operation}
 use Rattle.laws.proofs.Tests.{all-below-each, all-each}
@@ -23,9 +24,12 @@ use Rattle.laws.proofs.Lists.{mem-at}
 use Rattle.theory.proofs.DelayLimits.{least-past}
 use Rattle.theory.proofs.Reachability.{well-posed-iff}
 use Rattle.demands.specs.Demands.{Bytes, IsSheet, WellFormed, WorkedBytes, RivalMet, ForesightEarlier, HypothesesMet, our-start}
+use Rattle.demands.specs.Clashes.{FewFor, FewMet}
 use Rattle.demands.proofs.Reading.{fits-of}
 use Rattle.demands.proofs.Edges.{Ends, edges-shape, sheet-ends}
 use Rattle.demands.proofs.Impossibility.{impossible-for}
+use Rattle.demands.proofs.Formed.{formed-regular}
+use Rattle.demands.proofs.Clashes.{few-for, impossible-lists}
 
 -- Sheet k of the table, and its records.
 abbrev no-sheet : Worked
@@ -87,8 +91,12 @@ hand-takes a = getD (0 ∷ 10 ∷ []) a 0
 abbrev foresight-times : ℕ → ℕ
 foresight-times i = getD (0 ∷ 0 ∷ 10 ∷ []) i 0
 
+-- Request L14: the sheet with two clashes.
+abbrev clash : Records
+clash = records-in (read two-clashes)
+
 -- All that is computed: the stand sheet (1 of the table) is sound, with limit 1 (2) it is refused 10, two hands (3) is accepted with waits, and 5 is refused 11; both-finish (35) and too-late (37) are
--- refused 28, held-back (43) is sound, and slow-hand (69) is sound with a least.
+-- refused 28, held-back (43) is sound, and slow-hand (69) is sound with a least; and of the sheet with two clashes two records stay.
 abbrev used : List ℕ
 used = 1 ∷ 2 ∷ 3 ∷ 5 ∷ 35 ∷ 37 ∷ 43 ∷ 69 ∷ []
 
@@ -118,6 +126,12 @@ record Computed : Type 0 where
   no-circle : closes-circle (count-of (worked-records 37)) (serialized-of (worked-records 37)) ≡ false
   slow : judged (worked 69) false ≡ given 0
   slow-least : leasts-of (worked-records 69) 1 ≡ 8
+  clash-bytes : all (λ b. ltb b 256) two-clashes ≡ true
+  clash-reads : read two-clashes ≡ given clash
+  clash-formed : closes-circle (count-of clash) (edges-of clash) ≡ false
+  clash-impossible : impossible clash ≡ true
+  clash-records : length (clash .pairs) ≡ 4
+  clash-few : few clash ≡ 0 ∷ 2 ∷ []
 
 -- What holds of the eight sheets that are used holds of each.
 each-used : (P : ℕ → Type 0) → P 1 → P 2 → P 3 → P 5 → P 35 → P 37 → P 43 → P 69 → (k : ℕ) → List·Memᴰ k used → P k
@@ -186,6 +200,12 @@ computed = record {
   no-circle = refl;
   slow = refl;
   slow-least = refl;
+  clash-bytes = refl;
+  clash-reads = refl;
+  clash-formed = refl;
+  clash-impossible = refl;
+  clash-records = refl;
+  clash-few = refl;
 }
 
 -- Where each stands among them.
@@ -316,3 +336,10 @@ examples =
       no-circle = (worked 37, worked-records 37, in-worked 37 (omega arith), is-formed 37 is-37, computed .too-late, computed .no-circle);
       least = (worked 69, worked-records 69, in-worked 69 (omega arith), record { sheet = is-sheet 69 is-69; accepts = computed .slow }, 1, omega (arith, computed .slow-least));
     }
+
+-- What is reported of the sheet with two clashes has all that is claimed of such a report.
+pub clash-met : FewMet
+clash-met =
+    let formed : WellFormed two-clashes clash = record { sheet = record { bytes = are-bytes two-clashes (computed .clash-bytes); reads = computed .clash-reads }; no-circle = computed .clash-formed } in
+    let none = impossible-lists (formed-regular formed) .0 (computed .clash-impossible) in
+    (clash, formed, none, computed .clash-records, computed .clash-few, subst (FewFor clash) (computed .clash-few) (few-for two-clashes clash formed none))

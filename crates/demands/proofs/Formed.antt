@@ -8,7 +8,7 @@ use Rattle.definitions.specs.Basics.{Outcome, refused}
 use Rattle.definitions.specs.Bytes.{Records}
 use Rattle.definitions.specs.Links.{members}
 use Rattle.definitions.specs.Waits.{needs-waits, serialized}
-use Rattle.definitions.specs.Answers.{infeasible, inconsistent, unserializable, judged, judge-edges, count-of, edges-of, leasts-of}
+use Rattle.definitions.specs.Answers.{closes-circle, infeasible, inconsistent, unserializable, judged, judge-edges, count-of, edges-of, leasts-of}
 use Rattle.laws.proofs.Bools.{not-passing}
 use Rattle.theory.specs.Graphs.{ForwardAcyclic, Rooted, Serializable, Shape, Well}
 use Rattle.demands.specs.Demands.{Accepted, WellFormed}
@@ -21,22 +21,43 @@ use Rattle.demands.proofs.Sheets.{acyclic-rooted, not-8, not-10-11, pas
 on-bytes : {o p : Outcome ℕ} {k : ℕ} {P : Type 0} → o ≡ p → (p ≡ refused k) ↔ P → (o ≡ refused k) ↔ P
 on-bytes e r = (λ h. r .0 (sym e ∙ h), λ h. e ∙ r .1 h)
 
--- A well-formed sheet. Where it is neither 10 nor 11 it can be scheduled for all delays.
+-- Records that fit and whose forward links close no circle: those of a well-formed sheet, and every part of them (request L14). Where they are neither 10 nor 11 they can be scheduled for all delays.
+pub record Regular (q : Records) : Type 0 where
+  pub fits : Fits q
+  pub no-circle : closes-circle (count-of q) (edges-of q) ≡ false
+
+module _ {q : Records} (regular : Regular q) where
+  pub regular-shape : Shape (count-of q) (members (edges-of q))
+  regular-shape = sheet-shape (regular .fits)
+
+  pub regular-rooted : Rooted (count-of q) (members (edges-of q))
+  regular-rooted = acyclic-rooted (regular .fits .some) regular-shape (sheet-entered (regular .fits)) (regular .no-circle)
+
+  pub regular-acyclic : ForwardAcyclic (members (edges-of q))
+  regular-acyclic = not-8 (regular .fits .some) regular-shape (regular .no-circle)
+
+  pub regular-well : infeasible (count-of q) (edges-of q) ≡ false → inconsistent (count-of q) (edges-of q) ≡ false → Well (count-of q) (members (edges-of q))
+  regular-well = not-10-11 (regular .fits .some) regular-shape regular-rooted
+
+-- A well-formed sheet.
 module _ {s : List ℕ} {q : Records} (formed : WellFormed s q) where
   pub formed-fits : Fits q
   formed-fits = fits-of (formed .sheet)
 
+  pub formed-regular : Regular q
+  formed-regular = record { fits = formed-fits; no-circle = formed .no-circle }
+
   pub formed-shape : Shape (count-of q) (members (edges-of q))
-  formed-shape = sheet-shape formed-fits
+  formed-shape = regular-shape formed-regular
 
   pub formed-rooted : Rooted (count-of q) (members (edges-of q))
-  formed-rooted = acyclic-rooted (formed-fits .some) formed-shape (sheet-entered formed-fits) (formed .no-circle)
+  formed-rooted = regular-rooted formed-regular
 
   pub formed-acyclic : ForwardAcyclic (members (edges-of q))
-  formed-acyclic = not-8 (formed-fits .some) formed-shape (formed .no-circle)
+  formed-acyclic = regular-acyclic formed-regular
 
   pub formed-well : infeasible (count-of q) (edges-of q) ≡ false → inconsistent (count-of q) (edges-of q) ≡ false → Well (count-of q) (members (edges-of q))
-  formed-well = not-10-11 (formed-fits .some) formed-shape formed-rooted
+  formed-well = regular-well formed-regular
 
   pub formed-serial : (unserializable (count-of q) (leasts-of q) (edges-of q) ≡ false) ↔ Serializable (members (serialized (count-of q) (leasts-of q) (edges-of q)))
   formed-serial = serializable-iff (leasts-of q) (formed-fits .some) formed-shape formed-rooted

@@ -1,7 +1,7 @@
 -- What each answer of judging says of the tests behind it, and the other way round: the refusals stand in a row, and each is given exactly if its test passes and no earlier one does.
 use mathlib.Core.Path.{_≡_, ap}
-use mathlib.Core.Bool.{Bool, true, false, cond, not, _&&_}
-use mathlib.Core.Logic.{_≢_, _↔_}
+use mathlib.Core.Bool.{Bool, true, false, cond, not, _&&_, _||_}
+use mathlib.Core.Logic.{_⊎_, inl, inr, _≢_, _↔_}
 use mathlib.Core.List.{List}
 use Prim.Native.Nat.{ℕ, _<_}
 use native.Mathlib.Omega.{arith}
@@ -10,6 +10,7 @@ use Rattle.definitions.specs.Bytes.{Records, read}
 use Rattle.definitions.specs.Links.{Edge}
 use Rattle.definitions.specs.Waits.{needs-waits}
 use Rattle.definitions.specs.Answers.{closes-circle, infeasible, inconsistent, unserializable, judge-edges, count-of, edges-of, judge-records, judged, leasts-of}
+use Rattle.laws.proofs.Bools.{bool-cases, both-ways, or-left, or-right, or-split}
 use Rattle.laws.proofs.Outcomes.{given-not-refused, given-same, refuse-own, refuse-other, refuse-given, refuse-never, when-given-by}
 
 -- None of 8, 10 and 11 applies.
@@ -17,6 +18,10 @@ pub record Passes (n : ℕ) (es : List Edge) : Type 0 where
   pub no-circle : closes-circle n es ≡ false
   pub feasible : infeasible n es ≡ false
   pub consistent : inconsistent n es ≡ false
+
+-- "Impossible means 10 or 11."
+abbrev pub TenOrEleven : Outcome ℕ → Type 0
+TenOrEleven o = (o ≡ refused 10) ⊎ (o ≡ refused 11)
 
 module _ (n : ℕ) (least : ℕ → ℕ) (es : List Edge) (allow : Bool) where
   abbrev waits-refused : Bool
@@ -95,6 +100,19 @@ module _ (n : ℕ) (least : ℕ → ℕ) (es : List Edge) (allow : Bool) where
         let p = past-10 {k = 11} (λ e. omega arith) (λ e. omega arith) in
         let r = refuse-own (inconsistent n es) 11 from-28 (never-28 (omega arith)) in
         (λ h. let a = p .0 h in (a .0, r .0 (a .1)), λ h. p .1 (h .0, r .1 (h .1)))
+
+    -- 10 or 11: one of the two tests passes.
+    pub judge-impossible : TenOrEleven (judge-edges n least es allow) ↔ ((infeasible n es || inconsistent n es) ≡ true)
+    judge-impossible = (found, λ h. test (bool-cases (infeasible n es)) (or-split (infeasible n es) (inconsistent n es) h))
+      where
+        found : TenOrEleven (judge-edges n least es allow) → (infeasible n es || inconsistent n es) ≡ true
+        found (inl h) = or-left (inconsistent n es) (judge-10 .0 h)
+        found (inr h) = or-right (infeasible n es) (judge-11 .0 h .1)
+
+        test : (infeasible n es ≡ true) ⊎ (infeasible n es ≡ false) → (infeasible n es ≡ true) ⊎ (inconsistent n es ≡ true) → TenOrEleven (judge-edges n least es allow)
+        test (inl t) h = inl (judge-10 .1 t)
+        test (inr f) (inl t) = absurd (both-ways t f)
+        test (inr f) (inr t) = inr (judge-11 .1 (f, t))
 
     past-11 : {k : ℕ} → 8 ≢ k → 10 ≢ k → 11 ≢ k → (judge-edges n least es allow ≡ refused k) ↔ ((infeasible n es ≡ false) × (inconsistent n es ≡ false) × (from-28 ≡ refused k))
     past-11 h l m =

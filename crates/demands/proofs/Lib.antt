@@ -1,4 +1,5 @@
 pub mod Reading
+pub mod Parts
 pub mod FirstBytes
 pub mod Edges
 pub mod Judging
@@ -20,5 +21,7 @@ pub mod Agreeing
 pub mod Gapless
 pub mod Leastless
 pub mod Completion
+pub mod Clashes
+pub mod Reports
 pub mod Examples
 pub mod Demands

@@ -1,7 +1,8 @@
--- What holds of a sheet that has been read, and of a refusal of reading: the limits of document 01 on its numbers of steps and records, its first step, its durations, and the ends and ticks of its links.
+-- What holds of a sheet that has been read, and of a refusal of reading: the limits of document 01 on its numbers of steps and records, its first step, its durations, the ends and ticks of its links, and the
+-- order of its records.
 -- A fact about each parser is carried through the parsers that are built from it, as their text goes.
 use mathlib.Core.Path.{_≡_, refl, sym, ap, subst, _∙_}
-use mathlib.Core.Bool.{Bool, true, false, not, _&&_}
+use mathlib.Core.Bool.{Bool, true, false, not, _&&_, _||_, false≢true}
 use mathlib.Core.Logic.{_⊎_, inl, inr, _≢_}
 use mathlib.Core.List.{List, [], _∷_, List·Memᴰ, List·Memᴰ·head, List·Memᴰ·tail, List·Memᴰ·not-nil, List·Memᴰ·cases-cons}
 use Prim.Native.Nat.{ℕ, zero, suc, _+_, _*_, _≤_, _<_}
@@ -11,9 +12,10 @@ use native.Mathlib.Decide.{decLt}
 use lib.ListN.{length, getD, List·getD-eq-default}
 use borrow.Author.Tests.{ltb-true, leb-true, eqb-true, eqb-false, not-true}
 use Rattle.definitions.specs.Limits.{most-steps, most-records, most-ticks}
-use Rattle.definitions.specs.Basics.{test-bit, Outcome, given, refused, when-given}
+use Rattle.definitions.specs.Basics.{all-below, test-bit, Outcome, given, refused, when-given}
 use Rattle.definitions.specs.Bytes.{Taken, Parser, _>>=_, give, demand, byte, two-bytes, ticks-if, operation-map, delay-from, operation, link-map, sequenced, endpoints, rises, bound-from, link, records, operations, pair-of, links, at-end, Records, sheet, read, blank-operation}
-use Rattle.definitions.specs.Links.{delay-at, least-at, least-with, ticks-said}
+use Rattle.definitions.specs.Links.{delay-at, least-at, least-with, ticks-said, sequencing-of, minimum-of, maximum-of, link-constraints}
+use Rattle.definitions.specs.Clashes.{blank-link}
 use Rattle.definitions.specs.declared.Delay.{Delay}
 use Rattle.definitions.specs.declared.Delay.the-variants.{Open, Fixed}
 use Rattle.definitions.specs.declared.Operation.{Operation}
@@ -22,11 +24,13 @@ use Rattle.definitions.specs.declared.Bound.the-variants.{Absent, Ticks}
 use Rattle.definitions.specs.declared.Link.{Link}
 use Rattle.definitions.specs.declared.Previous.{Previous}
 use Rattle.definitions.specs.declared.Previous.the-variants.{Nothing}
-use Rattle.laws.proofs.Bools.{and-split}
+use Rattle.laws.proofs.Bools.{and-split, or-split}
 use Rattle.laws.proofs.Lists.{mem-at}
 use Rattle.laws.proofs.Outcomes.{given-same, given-not-refused, refused-same, when-given-has}
+use Rattle.laws.proofs.Tests.{all-below-each}
 use Rattle.theory.proofs.DelayLimits.{least-past}
 use Rattle.demands.specs.Demands.{Bytes, FromReading, IsSheet}
+use Rattle.demands.specs.Parts.{rank, Ordered}
 
 -- Whatever a parser takes from bytes has the property P, and bytes are left; whatever it refuses with is a refusal of reading.
 pub record Takes {A : Type 0} (p : Parser A) (P : A → Type 0) : Type 0 where
@@ -126,7 +130,32 @@ endpoints-fit n i j h =
     let s = and-split (ltb i n) (ltb j n) (r .0) in
     (ltb-true i n (s .0), ltb-true j n (s .1), eqb-false i j (not-true (eqb i j) (r .1)))
 
-takes-link : (n : ℕ) (previous : Previous) → Takes (link n previous) (LinkFits n)
+-- A map that is allowed has bit 0, 1 or 2: bits 3 and 4 come with bit 0. Tried on every byte.
+abbrev says-something : ℕ → Bool
+says-something m = not (link-map m && sequenced m) || (test-bit m 0 || test-bit m 1 || test-bit m 2)
+
+each-says : all-below says-something 256 ≡ true
+unfolding all-below link-map sequenced test-bit
+each-says = refl
+
+-- So the record has a link.
+map-said : (m : ℕ) → m < 256 → link-map m ≡ true → sequenced m ≡ true → (test-bit m 0 || test-bit m 1 || test-bit m 2) ≡ true
+map-said m b h k = rw (h, k) at (all-below-each says-something 256 each-says m b)
+
+some-link : (after least most : Bool) (i j x y : ℕ) (gap latest : Bound) → (after || least || most) ≡ true → 1 ≤ length (link-constraints (record { from = i; to = j; sequencing = after; minimum = bound-from least x; maximum = bound-from most y; gap = gap; latest = latest }))
+unfolding link-constraints sequencing-of minimum-of maximum-of bound-from
+some-link true least most i j x y gap latest h = omega arith
+some-link false true most i j x y gap latest h = omega arith
+some-link false false true i j x y gap latest h = omega arith
+some-link false false false i j x y gap latest h = absurd (false≢true h)
+
+-- What is read of a link record: it fits, its pair comes after the one before it, and it has a link.
+pub record LinkRead (n : ℕ) (previous : Previous) (l : Link) : Type 0 where
+  pub fits : LinkFits n l
+  pub up : rises previous (l .from) (l .to) ≡ true
+  pub some : 1 ≤ length (link-constraints l)
+
+takes-link : (n : ℕ) (previous : Previous) → Takes (link n previous) (LinkRead n previous)
 unfolding link
 takes-link n previous =
     takes-bind takes-byte
@@ -144,7 +173,11 @@ takes-link n previous =
     let r = endpoints-fit n i j ends in
     takes-give
     (record { from = i; to = j; sequencing = test-bit m 0; minimum = bound-from (test-bit m 1) least; maximum = bound-from (test-bit m 2) most; gap = bound-from (test-bit m 3) gap; latest = bound-from (test-bit m 4) latest })
-    (record { from-below = r .0; to-below = r .1; apart = r .2; minimum-few = λ x e. bound-fits (test-bit m 1) least x few-least e; maximum-few = λ x e. bound-fits (test-bit m 2) most x few-most e; gap-few = λ x e. bound-fits (test-bit m 3) gap x few-gap e; latest-few = λ x e. bound-fits (test-bit m 4) latest x few-latest e }))))))))))))
+    (record {
+      fits = record { from-below = r .0; to-below = r .1; apart = r .2; minimum-few = λ x e. bound-fits (test-bit m 1) least x few-least e; maximum-few = λ x e. bound-fits (test-bit m 2) most x few-most e; gap-few = λ x e. bound-fits (test-bit m 3) gap x few-gap e; latest-few = λ x e. bound-fits (test-bit m 4) latest x few-latest e };
+      up = up;
+      some = some-link (test-bit m 0) (test-bit m 1) (test-bit m 2) i j least most _ _ (map-said m bm allowed paired);
+    }))))))))))))
 
 -- Records in a row: as many as are asked for, each with its property in the state that the one before it leaves. Induction on their number.
 module _ {A S : Type 0} (P : S → A → Type 0) (next : A → S) where
@@ -214,7 +247,7 @@ abbrev StepRow : ℕ → List Operation → Type 0
 StepRow n os = (length os ≡ n) × Row OperationFits (λ o. false) true os
 
 abbrev LinkRow : ℕ → ℕ → List Link → Type 0
-LinkRow n r ls = (length ls ≡ r) × Row (λ previous. LinkFits n) pair-of Nothing ls
+LinkRow n r ls = (length ls ≡ r) × Row (LinkRead n) pair-of Nothing ls
 
 pub takes-operations : (n : ℕ) → Takes (operations n) (StepRow n)
 unfolding operations
@@ -222,7 +255,7 @@ takes-operations n = takes-records OperationFits (λ o. false) operation takes-o
 
 pub takes-links : (n r : ℕ) → Takes (links n r) (LinkRow n r)
 unfolding links
-takes-links n r = takes-records (λ previous. LinkFits n) pair-of (link n) (takes-link n) r Nothing
+takes-links n r = takes-records (LinkRead n) pair-of (link n) (takes-link n) r Nothing
 
 pub takes-end : Takes at-end (λ u. Unit {0})
 unfolding at-end
@@ -236,16 +269,42 @@ takes-end = record { each = taken; most = refuses }
     refuses [] b k e = absurd (given-not-refused e)
     refuses (x ∷ s) b k e = subst FromReading (refused-same e) (inl (omega arith))
 
-fits-by : (n r : ℕ) (os : List Operation) (ls : List Link) → (leb 1 n && leb n most-steps) ≡ true → leb r most-records ≡ true → StepRow n os → LinkRow n r ls → Fits (record { steps = os; pairs = ls })
-fits-by n r os ls hn hr O L =
+fits-by : (n r : ℕ) (os : List Operation) (ls : List Link) → (leb 1 n && leb n most-steps) ≡ true → StepRow n os → LinkRow n r ls → Fits (record { steps = os; pairs = ls })
+fits-by n r os ls hn O L =
     let c = and-split (leb 1 n) (leb n most-steps) hn in
     let low = leb-true 1 n (c .0) in
     let high = leb-true n most-steps (c .1) in
-    let most = leb-true r most-records hr in
-    let links-fit = row-each (λ previous. LinkFits n) pair-of (LinkFits n) (λ state x h. h) Nothing ls (L .1) in
+    let links-fit = row-each (LinkRead n) pair-of (LinkFits n) (λ state x h. h .fits) Nothing ls (L .1) in
     record { some = omega (arith, O .0); few = omega (arith, O .0); source = first-open os (omega (arith, O .0)) (O .1); ticks = each-few os (O .1); leasts = each-least os (O .1); links = λ l m. rw (O .0) (links-fit l m) }
 
-takes-sheet : Takes sheet Fits
+-- Pairs that rise have rising ranks, since no step is 64 or more.
+rank-up : (n : ℕ) (x y : Link) → n ≤ most-steps → LinkFits n x → LinkRead n (pair-of x) y → rank x < rank y
+unfolding rises pair-of
+rank-up n x y few fx ry = go (or-split (ltb (x .from) (y .from)) (eqb (x .from) (y .from) && ltb (x .to) (y .to)) (ry .up))
+  where
+    go : (ltb (x .from) (y .from) ≡ true) ⊎ ((eqb (x .from) (y .from) && ltb (x .to) (y .to)) ≡ true) → rank x < rank y
+    go (inl h) = omega (arith, fx .to-below, ltb-true (x .from) (y .from) h)
+    go (inr h) = let r = and-split (eqb (x .from) (y .from)) (ltb (x .to) (y .to)) h in omega (arith, eqb-true (x .from) (y .from) (r .0), ltb-true (x .to) (y .to) (r .1))
+
+ranks-up : (n : ℕ) → n ≤ most-steps → (previous : Previous) (ls : List Link) → Row (LinkRead n) pair-of previous ls → (k : ℕ) → suc k < length ls → rank (getD ls k blank-link) < rank (getD ls (suc k) blank-link)
+ranks-up n few previous [] r k h = absurd (omega arith)
+ranks-up n few previous (x ∷ []) r k h = absurd (omega arith)
+ranks-up n few previous (x ∷ y ∷ ls) r zero h = rank-up n x y few (r .0 .fits) (r .1 .0)
+ranks-up n few previous (x ∷ y ∷ ls) r (suc k) h = ranks-up n few (pair-of x) (y ∷ ls) (r .1) k (omega arith)
+
+ordered-by : (n r : ℕ) (ls : List Link) → n ≤ most-steps → LinkRow n r ls → Ordered ls
+ordered-by n r ls few L = record {
+  rises = ranks-up n few Nothing ls (L .1);
+  some = λ k h. row-each (LinkRead n) pair-of (λ l. 1 ≤ length (link-constraints l)) (λ state l R. R .some) Nothing ls (L .1) (getD ls k blank-link) (mem-at ls k blank-link h);
+}
+
+-- What is read of a sheet: that what a part of its records keeps, and what only the whole has.
+pub record SheetRead (q : Records) : Type 0 where
+  pub fits : Fits q
+  pub ordered : Ordered (q .pairs)
+  pub few-records : length (q .pairs) ≤ most-records
+
+takes-sheet : Takes sheet SheetRead
 unfolding sheet
 takes-sheet =
     takes-bind takes-byte
@@ -255,18 +314,29 @@ takes-sheet =
     (λ u3 hr. takes-bind (takes-operations n)
     (λ os O. takes-bind (takes-links n r)
     (λ ls L. takes-bind takes-end
-    (λ u7 e7. takes-give (record { steps = os; pairs = ls }) (fits-by n r os ls hn hr O L))))))))
+    (λ u7 e7.
+    let few = leb-true n most-steps (and-split (leb 1 n) (leb n most-steps) hn .1) in
+    takes-give (record { steps = os; pairs = ls }) (record { fits = fits-by n r os ls hn O L; ordered = ordered-by n r ls few L; few-records = omega (arith, L .0, leb-true r most-records hr) }))))))))
 
 -- The theorems of this file.
-pub read-fits : (s : List ℕ) (q : Records) → Bytes s → read s ≡ given q → Fits q
+sheet-read : (s : List ℕ) (q : Records) → Bytes s → read s ≡ given q → SheetRead q
 unfolding read
-read-fits s q b e =
+sheet-read s q b e =
     let r = when-given-has (sheet s) (λ t. given (t .value)) e in
     let same : r .0 .value ≡ q = given-same (r .2) in
     rw same at (takes-sheet .each s b (r .0) (r .1) .0)
 
+pub read-fits : (s : List ℕ) (q : Records) → Bytes s → read s ≡ given q → Fits q
+read-fits s q b e = sheet-read s q b e .fits
+
 pub fits-of : {s : List ℕ} {q : Records} → IsSheet s q → Fits q
 fits-of {s} {q} sheet = read-fits s q (sheet .bytes) (sheet .reads)
+
+pub read-ordered : {s : List ℕ} {q : Records} → IsSheet s q → Ordered (q .pairs)
+read-ordered {s} {q} sheet = sheet-read s q (sheet .bytes) (sheet .reads) .ordered
+
+pub record-count : {s : List ℕ} {q : Records} → IsSheet s q → length (q .pairs) ≤ most-records
+record-count {s} {q} sheet = sheet-read s q (sheet .bytes) (sheet .reads) .few-records
 
 pub read-most : (s : List ℕ) (k : ℕ) → Bytes s → read s ≡ refused k → FromReading k
 unfolding read when-given

@@ -20,7 +20,7 @@ use Rattle.demands.proofs.Judging.{Passes}
 
 module _ {n : ℕ} {es : List Edge} (some : 0 < n) (shape : Shape n (members es)) where
   -- Not 8; and then every step has a chain from step 0, where an edge leads into each.
-  circle-free : (closes-circle n es ≡ false) ↔ ForwardAcyclic (members es)
+  pub circle-free : (closes-circle n es ≡ false) ↔ ForwardAcyclic (members es)
   unfolding closes-circle
   circle-free = forward-acyclic-iff shape
 

@@ -8,6 +8,7 @@
 -- L1. All this holds of after links with a gap, and sheets without one plan as before.
 -- L3. All this is read on the completed sheet; 9 never occurs, and sheets on which nothing is added plan as before.
 -- L6. All this is said of the durations that respect the leasts, and sheets without one plan as before.
+-- L14. The records of an impossible sheet that are reported are impossible together, and without any one of them they are not: specs/Clashes.antt, after this file.
 --
 -- Words that are not defined here are those of the crate definitions, in the words of document 01: Bytes, Links, Anchors, Waits, Plan, Rival, Answers, to be read in this order. Quoted sentences are
 -- document 01's, and document 02's where they speak of requests L11, L1, L3 and L6.

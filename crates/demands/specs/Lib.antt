@@ -1,4 +1,6 @@
 pub mod Gapless
 pub mod Leastless
 pub mod Entered
+pub mod Parts
 pub mod Demands
+pub mod Clashes

@@ -26,7 +26,7 @@ use Rattle.judge_waits.proofs.Posed.{unwaited-consistent, unwaited-count, unwai
 use Rattle.judge_edges.specs.Analysis.{judge-order, judge-first, judge-waits, judge-serial, judge-rest, Listed, Unweighed, Presumed}
 
 -- Refusals in a row are the first of them, and then the rest.
-split : {A : Type 0} (a b : Bool) (i j : ℕ) (rest : Outcome A) → refuse-if a i (refuse-if b j rest) ≡ when-given {A = Unit {0}} (refuse-if a i (refuse-if b j (given tt))) (λ u. rest)
+pub split : {A : Type 0} (a b : Bool) (i j : ℕ) (rest : Outcome A) → refuse-if a i (refuse-if b j rest) ≡ when-given {A = Unit {0}} (refuse-if a i (refuse-if b j (given tt))) (λ u. rest)
 unfolding refuse-if when-given
 split true b i j rest = refl
 split false true i j rest = refl
@@ -36,6 +36,9 @@ split false false i j rest = refl
 pub reached-reaches : {n : ℕ} {g : List Edge} {rows : List ℕ} → Shape n (members g) → Reached n g rows → Reaches n g rows
 reached-reaches shape reached = record { bits = λ a v below. reached .reaches shape a v }
 
+all-known : {n : ℕ} {g : List Edge} {sets rows : List ℕ} → Shape n (members g) → Reached n g rows → AnchorSets n g sets → Known n g rows sets
+all-known shape reached anchors = record { shape = shape; reaches = reached-reaches shape reached; anchors = anchors }
+
 -- Rows that are the anchor sets without step 0 hold nothing else.
 stripped-within : {n : ℕ} {sets rows : List ℕ} → Stripped sets n rows → (a v : ℕ) → column rows a v ≡ true → column sets a v ≡ true
 stripped-within {n} {sets} S a v t =
@@ -43,7 +46,7 @@ stripped-within {n} {sets} S a v t =
     and-split (column sets a v) (not (eqb a 0)) (p .1) .0
 
 module _ (n : ℕ) (g : List Edge) where
-  judge-split : (least : ℕ → ℕ) (allow : Bool) → judge-edges n least g allow ≡ when-given (judge-first n g) (λ u. judge-rest n least g allow)
+  pub judge-split : (least : ℕ → ℕ) (allow : Bool) → judge-edges n least g allow ≡ when-given (judge-first n g) (λ u. judge-rest n least g allow)
   unfolding judge-edges judge-first judge-rest judge-serial judge-waits
   judge-split least allow = split (closes-circle n g) (infeasible n g) 8 10 (judge-rest n least g allow)
 
@@ -105,6 +108,10 @@ module _ (n : ℕ) (g : List Edge) where
 
     pub order-acyclic : 1 ≤ n → Shape n (members g) → ForwardAcyclic (members g)
     order-acyclic some shape = not-8 some shape (order-passed passed)
+
+    -- No step waits for its own end where nothing reaches further than the anchor sets say.
+    pub stripped-consistent : {sets rows : List ℕ} → 1 ≤ n → Shape n (members g) → Reached n g rows → AnchorSets n g sets → Stripped sets n rows → inconsistent n g ≡ false
+    stripped-consistent some shape reached anchors stripped = unwaited-consistent (all-known shape reached anchors) (stripped-within stripped) (order-acyclic some shape)
 
   -- 12 and the verdicts, by the count of waits.
   pub waits-none : wait-count n g ≡ 0 → (allow : Bool) → judge-waits n g allow ≡ given 0
@@ -209,10 +216,10 @@ module _ (n : ℕ) (g : List Edge) where
         pub unweighed-posed : {sets : List ℕ} → 1 ≤ n → n ≤ 64 → Entered n (members g) → AnchorSets n g sets → judge-order n g ≡ given tt → Stripped sets n reach → maps ≡ replicate 64 0 → count ≡ 0 → (count ≡ wait-count n g → verdict-of verdict ≡ judge-waits n g allow) → Unweighed n least g allow verdict reach maps count
         unfolding needs-waits
         unweighed-posed {sets} some few entered anchors passed stripped m c judges =
-            let known : Known n g reach sets = record { shape = shape; reaches = reached-reaches shape reached; anchors = anchors } in
+            let known = all-known shape reached anchors in
             let within = stripped-within stripped in
             let once = order-acyclic passed some shape in
-            let consistent = unwaited-consistent known within once in
+            let consistent = stripped-consistent passed some shape reached anchors stripped in
             let none = unwaited-count known within in
             let counted = c ∙ sym none in
             unweighed-rest consistent

@@ -2,7 +2,7 @@
 use mathlib.Core.Path.{_≡_, refl, sym, ap, subst, _∙_}
 use mathlib.Core.Bool.{Bool, true, false, cond, _||_, false≢true}
 use mathlib.Core.Logic.{_⊎_, inl, inr}
-use mathlib.Core.List.{List, [], _∷_, _++_, List·Memᴰ, List·Memᴰ·head, List·Memᴰ·tail, List·Memᴰ·not-nil, List·Memᴰ·cases-cons, List·Memᴰ·append-cases, List·Memᴰ·eq-of-singleton, Memᴰ·append-left, Memᴰ·append-right, flatMap}
+use mathlib.Core.List.{List, [], _∷_, _++_, List·Memᴰ, List·Memᴰ·head, List·Memᴰ·tail, List·Memᴰ·not-nil, List·Memᴰ·cases-cons, List·Memᴰ·append-cases, List·Memᴰ·eq-of-singleton, Memᴰ·append-left, Memᴰ·append-right, flatMap, map, map-append}
 use Prim.Native.Nat.{ℕ, zero, suc, _≤_, _<_, max}
 use native.Mathlib.Omega.{arith}
 use native.Mathlib.Decide.{decLe, decLt}
@@ -173,6 +173,12 @@ tabulate-same f g (suc n) h =
     let rest = tabulate-same f g n (λ k b. h k (omega arith)) in
     let last = h n (omega arith) in
     rw (rest, last)
+
+-- A table with f put on each entry.
+pub map-tabulate : {A B : Type 0} (f : A → B) (g : ℕ → A) (n : ℕ) → map f (tabulate g n) ≡ tabulate (λ k. f (g k)) n
+unfolding tabulate
+map-tabulate f g zero = refl
+map-tabulate {B = B} f g (suc n) = map-append f (tabulate g n) (g n ∷ []) ∙ ap (λ (l : List B). l ++ f (g n) ∷ []) (map-tabulate f g n)
 
 -- What is in a table.
 pub tabulate-mem : {A : Type 0} (f : ℕ → A) (n : ℕ) {k : ℕ} → k < n → List·Memᴰ (f k) (tabulate f n)

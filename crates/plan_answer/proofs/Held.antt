@@ -1,22 +1,18 @@
 -- A sheet as the reader holds it, in a report and in words.
 use mathlib.Core.Path.{_≡_, sym, subst, fun-ext}
-use mathlib.Core.Logic.{_⊎_, inl, inr}
-use mathlib.Core.List.{List, [], _∷_, List·Memᴰ, List·Memᴰ·not-nil, List·Memᴰ·cases-cons}
-use Prim.Native.Nat.{ℕ, suc, _<_}
+use mathlib.Core.List.{List}
+use Prim.Native.Nat.{ℕ}
 use native.Mathlib.Omega.{arith}
-use lib.ListN.{getD, take, length-take}
+use lib.ListN.{take, length-take}
 use Rattle.definitions.specs.Answers.{count-of, leasts-of, edges-of}
-use Rattle.definitions.specs.Bytes.{Records, read}
+use Rattle.definitions.specs.Bytes.{Records}
 use Rattle.definitions.specs.Links.{Edge, members}
-use Rattle.definitions.specs.declared.Reading.the-variants as Readings
-use Rattle.demands.specs.Demands.{Bytes}
 use Rattle.demands.proofs.Edges.{sheet-entered, sheet-gains, sheet-leasts, sheet-shape}
-use Rattle.demands.proofs.Reading.{Fits, read-fits}
+use Rattle.demands.proofs.Reading.{Fits}
 use Rattle.data_edges.specs.Serial.{leasts-in}
 use Rattle.data_edges.specs.Words.{graph}
-use Rattle.read_sheet.specs.Answers.{Holds, Reports}
+use Rattle.read_sheet.specs.Answers.{Holds}
 use Rattle.read_sheet.specs.declared.Report.{Report}
-use Rattle.read_sheet.proofs.Reports.{Found, report-given}
 use Rattle.plan_walks.specs.Tables.{SheetEdges}
 use Rattle.theory.specs.Graphs.{SheetGraph}
 use Rattle.theory.proofs.DelayLimits.{least-source}
@@ -51,22 +47,3 @@ module _ {q : Records} {words leasts : List ℕ} {report : Report} (fits : Fits 
     edges = omega (arith, holds .few, length-take (report .count) words);
     formed = held-by (λ n least g. SheetGraph n least (members g)) (record { shape = sheet-shape fits; entered = sheet-entered fits; gains = sheet-gains fits; leasts = record { source = least-source (q .steps); small = fits .leasts; leasts = sheet-leasts fits } });
   }
-
--- The elements of a list of bytes are below 256, from each place.
-pub bytes-by : (s : List ℕ) → ((i : ℕ) → getD s i 0 < 256) → Bytes s
-bytes-by [] h b m = absurd (List·Memᴰ·not-nil m)
-bytes-by (x ∷ s) h b m = go (List·Memᴰ·cases-cons m) (bytes-by s (λ i. h (suc i)) b)
-  where
-    go : (b ≡ x) ⊎ List·Memᴰ b s → (List·Memᴰ b s → b < 256) → b < 256
-    go (inl e) below = omega (arith, e, h 0)
-    go (inr n) below = below n
-
--- A report on bytes that are read whole: the sheet's records, within their limits.
-pub record Whole (s words leasts : List ℕ) (report : Report) : Type 0 where
-  pub found : Found (read s) words leasts report
-  pub fits : Fits (found .whole)
-
-pub whole : (s words leasts : List ℕ) (report : Report) → ((i : ℕ) → getD s i 0 < 256) → Reports (read s) words leasts report → report .reading ≡ Readings.Whole → Whole s words leasts report
-whole s words leasts report small reports e =
-    let h = report-given (read s) words leasts report reports e in
-    record { found = h; fits = read-fits s (h .whole) (bytes-by s small) (h .is-given) }

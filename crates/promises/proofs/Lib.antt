@@ -1,4 +1,5 @@
 pub mod Promises
 pub mod Excluded
 pub mod Runs
+pub mod Clashes
 mod Ties

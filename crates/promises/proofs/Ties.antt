@@ -20,6 +20,9 @@ use Rattle.run_calls.proofs.tick.Kinds as tick
 use Rattle.run_calls.proofs.tick.Reads as tick-says
 use Rattle.run_calls.proofs.finish.Kinds as finish
 use Rattle.run_calls.proofs.finish.Reads as finish-says
+use Rattle.clash_sheet.specs.Reports.{FewReturned}
+use Rattle.clash_sheet.proofs.clashes.Kinds as clashes
+use Rattle.clash_sheet.proofs.clashes.Reads as clashes-says
 use Rattle.run_sheet.specs.Steps.{StepsReturned, memory}
 use Rattle.run_sheet.proofs.steps.Kinds as steps
 use Rattle.run_sheet.proofs.steps.Reads as steps-says
@@ -49,6 +52,9 @@ steps-tied : (κs : Lfts 4) (a : Dens κs steps.ps) (r : resT steps.r κs .Denot
     → steps-says.Post κs a r x → StepsReturned (now (a .0)) (memory (now (a .1 .0)) (now (a .1 .1 .0)) (now (a .1 .1 .1 .0))) r (memory (now (x .1 .0)) (now (x .1 .1 .0)) (now (x .1 .1 .1 .0)))
 steps-tied κs a r x p = p
 
+clashes-tied : (κs : Lfts 2) (a : Dens κs clashes.ps) (r : resT clashes.r κs .Denot) (x : AtExit (endedOf 2 clashes.ps clashes.r) κs) → clashes-says.Post κs a r x → FewReturned (now (a .0)) (now (a .1 .0)) r (now (x .1 .0))
+clashes-tied κs a r x p = p
+
 judge-asks-nothing : (κs : Lfts 1) (a : Dens κs judge.ps) → judge-says.Pre κs a
 judge-asks-nothing κs a = tt
 
@@ -72,3 +78,6 @@ finish-asks-nothing κs a = tt
 
 steps-asks-nothing : (κs : Lfts 4) (a : Dens κs steps.ps) → steps-says.Pre κs a
 steps-asks-nothing κs a = tt
+
+clashes-asks-nothing : (κs : Lfts 2) (a : Dens κs clashes.ps) → clashes-says.Pre κs a
+clashes-asks-nothing κs a = tt

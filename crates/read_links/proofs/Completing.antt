@@ -6,7 +6,8 @@ use mathlib.Core.List.{List, [], _∷_, _++_, append-assoc, append-nil, map, map
 use Prim.Native.Nat.{ℕ, _+_, _/_, _%_, _^_, _≤_, _<_}
 use native.Mathlib.Omega.{arith}
 use lib.Dec.{eqb, ltb}
-use lib.ListN.{length, take, length-append, getD}
+use lib.ListN.{length, take, length-append}
+use lib.Seq.{take-take}
 use borrow.Author.Tests.{eq-eqb, ne-eqb, lt-ltb, ltb-true}
 use Rattle.definitions.specs.Basics.{any, select-below, test-bit}
 use Rattle.definitions.specs.Limits.{most-steps, most-added}
@@ -25,9 +26,9 @@ use Rattle.laws.proofs.Searches.{any-append}
 use Rattle.laws.proofs.Tests.{select-below-has, select-below-none, select-below-same}
 use Rattle.read_pair.specs.Parts.{link-from}
 use Rattle.read_pair.specs.declared.Fields.{Fields}
-use Rattle.read_steps.specs.Leaving.{leaving, Leaves}
-use Rattle.read_links.specs.Pushes.{if-there, Pushed}
-use Rattle.read_links.specs.Completes.{Entered, EnteredMore, Loose, Completable, Completes}
+use Rattle.read_steps.specs.Leaving.{leaving}
+use Rattle.read_links.specs.Pushes.{if-there, PushedIf}
+use Rattle.read_links.specs.Completes.{Entered, EnteredMore, Loose, Completable, SourceAdds, Completes}
 use Rattle.read_links.proofs.Records.{links-there}
 
 -- ---- the steps that forward links lead into
@@ -99,18 +100,19 @@ module _ (n entered loose : ℕ) (are : Loose n entered loose) where
 
 -- ---- their links, one after another
 
--- The loop's invariant: `done` are the loose steps whose edges are pushed, and those in the map `left` come after them.
-pub record Completing (n loose : ℕ) (digits words₀ : List ℕ) (c₀ : ℕ) (words : List ℕ) (c left : ℕ) : Type 0 where
+-- The loop's invariant: `done` are the loose steps whose edges are pushed, and those in the map `left` come after them. The words before those pushed stay.
+pub record Completing (n loose d : ℕ) (words₀ : List ℕ) (c₀ : ℕ) (words : List ℕ) (c left : ℕ) : Type 0 where
   pub done : List ℕ
   pub inside : (v : ℕ) → test-bit left v ≡ true → v < n
   pub members : select-below (test-bit loose) n ≡ done ++ select-below (test-bit left) n
   pub long : length words ≡ length words₀
   pub counts : c ≡ c₀ + length done
-  pub same : (os : List Operation) → Leaves os n digits → graph (take c words) ≡ graph (take c₀ words₀) ++ edges os (map source-link done)
+  pub kept : take c₀ words ≡ take c₀ words₀
+  pub same : (os : List Operation) → SourceAdds os n d → graph (take c words) ≡ graph (take c₀ words₀) ++ edges os (map source-link done)
 
-module _ (n entered loose : ℕ) (are : Loose n entered loose) (digits words₀ : List ℕ) (c₀ : ℕ) where
+module _ (n entered loose : ℕ) (are : Loose n entered loose) (d : ℕ) (words₀ : List ℕ) (c₀ : ℕ) where
   -- None is pushed.
-  pub completing-none : Completing n loose digits words₀ c₀ words₀ c₀ loose
+  pub completing-none : Completing n loose d words₀ c₀ words₀ c₀ loose
   unfolding edges
   completing-none = record {
     done = [];
@@ -118,10 +120,11 @@ module _ (n entered loose : ℕ) (are : Loose n entered loose) (digits words₀ 
     members = refl;
     long = refl;
     counts = omega arith;
+    kept = refl;
     same = λ os h. sym (append-nil (graph (take c₀ words₀)));
   }
 
-  module _ (words : List ℕ) (c left : ℕ) (so : Completing n loose digits words₀ c₀ words c left) where
+  module _ (words : List ℕ) (c left : ℕ) (so : Completing n loose d words₀ c₀ words c left) where
     -- The smallest that is left is the next.
     module _ (v left′ : ℕ) (low : Lowest left v) (without : (j : ℕ) → test-bit left′ j ≡ (test-bit left j && not (eqb j v))) where
       next-member : select-below (test-bit left) n ≡ v ∷ select-below (test-bit left′) n
@@ -130,20 +133,26 @@ module _ (n entered loose : ℕ) (are : Loose n entered loose) (digits words₀ 
       split : select-below (test-bit loose) n ≡ (so .done ++ v ∷ []) ++ select-below (test-bit left′) n
       split = so .members ∙ ap (λ (l : List ℕ). so .done ++ l) next-member ∙ sym (append-assoc (so .done) (v ∷ []) (select-below (test-bit left′) n))
 
-      module _ (w : ℕ) (words′ : List ℕ) (c′ : ℕ) (after : (d : Delay) (least : ℕ) → getD digits 0 0 ≡ leaving d least 0 → unpack w ≡ sequencing-edge d least 0 v 0) (P : Pushed (unpack w ∷ []) words words′ c c′) where
-        edges-same : (os : List Operation) → Leaves os n digits → graph (take c′ words′) ≡ graph (take c₀ words₀) ++ edges os (map source-link (so .done ++ v ∷ []))
+      module _ (w : ℕ) (words′ : List ℕ) (c′ : ℕ) (after : (delay : Delay) (least : ℕ) → d ≡ leaving delay least 0 → unpack w ≡ sequencing-edge delay least 0 v 0) (P : PushedIf true (unpack w) words words′ c c′) where
+        edges-same : (os : List Operation) → SourceAdds os n d → graph (take c′ words′) ≡ graph (take c₀ words₀) ++ edges os (map source-link (so .done ++ v ∷ []))
         unfolding edges edge-of
         edges-same os h =
-            let first = h .each 0 (omega (arith, so .inside v (low .member))) in
-            rw (map-append, map-append, ← after (delay-at os 0) (least-at os 0) first, ← append-assoc, ← so .same os h) (P .same)
+            let first = h (omega (arith, so .inside v (low .member))) in
+            rw (map-append, map-append, ← after (delay-at os 0) (least-at os 0) first, ← append-assoc, ← so .same os h) (P .pushed .same)
 
-        pub completing-more : Completing n loose digits words₀ c₀ words′ c′ left′
+        words-kept : take c₀ words′ ≡ take c₀ words₀
+        words-kept =
+            let behind : c₀ ≤ c = omega (arith, so .counts) in
+            sym (take-take c₀ c words′ behind) ∙ ap (take c₀) (P .kept) ∙ take-take c₀ c words behind ∙ so .kept
+
+        pub completing-more : Completing n loose d words₀ c₀ words′ c′ left′
         completing-more = record {
           done = so .done ++ v ∷ [];
           inside = λ u t. so .inside u (and-split (test-bit left u) (not (eqb u v)) (sym (without u) ∙ t) .0);
           members = split;
-          long = P .long ∙ so .long;
-          counts = omega (arith, P .counts, so .counts, length-append (so .done) (v ∷ []));
+          long = P .pushed .long ∙ so .long;
+          counts = omega (arith, P .pushed .counts, so .counts, length-append (so .done) (v ∷ []));
+          kept = words-kept;
           same = edges-same;
         }
 
@@ -154,8 +163,8 @@ module _ (n entered loose : ℕ) (are : Loose n entered loose) (digits words₀ 
         omega (arith, place .inside, so .long, so .counts, fits .room, ap length (so .members), length-append (so .done) (select-below (test-bit left) n), loose-few n entered loose are (fits .steps))
 
     -- All are pushed.
-    pub completing-all : left ≡ 0 → Completable n words₀ c₀ → Completes n entered digits words₀ words c₀ c
-    completing-all none fits = record { few = few; same = λ os h cs e. so .same os h ∙ ap (λ (l : List ℕ). graph (take c₀ words₀) ++ edges os (map source-link l)) (pushed ∙ loose-same n entered loose are cs e) }
+    pub completing-all : left ≡ 0 → Completable n words₀ c₀ → Completes n entered d words₀ words c₀ c
+    completing-all none fits = record { few = few; kept = so .kept; same = λ os h cs e. so .same os h ∙ ap (λ (l : List ℕ). graph (take c₀ words₀) ++ edges os (map source-link l)) (pushed ∙ loose-same n entered loose are cs e) }
       where
         pushed : so .done ≡ select-below (test-bit loose) n
         pushed = sym (so .members ∙ rw (none, select-below-none (test-bit 0) n (λ k b. test-zero k)) (append-nil (so .done)))

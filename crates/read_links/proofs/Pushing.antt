@@ -6,21 +6,30 @@ use Prim.Native.Nat.{ℕ, _+_, _≤_, _<_}
 use native.Mathlib.Omega.{arith}
 use native.Mathlib.Numerals.{add-one}
 use lib.ListN.{length, take, set, length-set, length-append}
-use lib.Seq.{take-suc-set}
+use lib.Seq.{take-set-le, take-suc-set}
 use Rattle.definitions.specs.Links.{Edge}
 use Rattle.data_edges.specs.Words.{unpack, graph}
-use Rattle.read_links.specs.Pushes.{if-there, Pushed}
+use Rattle.read_links.specs.Pushes.{if-there, Pushed, PushedIf}
 
 -- The first c words stand, and the next is w.
 graph-set : (words : List ℕ) (c w : ℕ) → c < length words → graph (take (c + 1) (set words c w)) ≡ graph (take c words) ++ unpack w ∷ []
 unfolding graph
 graph-set words c w h = rw add-one (ap graph (take-suc-set words c w h) ∙ map-append unpack (take c words) (w ∷ []))
 
-pub push-none : (words : List ℕ) (c : ℕ) → Pushed [] words words c c
-push-none words c = record { long = refl; counts = omega arith; same = sym (append-nil (graph (take c words))) }
+-- Nothing is pushed, or one word.
+pub push-none : (e : Edge) (words : List ℕ) (c : ℕ) → PushedIf false e words words c c
+push-none e words c = record {
+  few = omega arith;
+  kept = refl;
+  pushed = record { long = refl; counts = omega arith; same = sym (append-nil (graph (take c words))) };
+}
 
-pub push-one : (words : List ℕ) (c w : ℕ) → c < length words → Pushed (unpack w ∷ []) words (set words c w) c (c + 1)
-push-one words c w h = record { long = length-set words c w; counts = refl; same = graph-set words c w h }
+pub push-one : (words : List ℕ) (c w : ℕ) → c < length words → PushedIf true (unpack w) words (set words c w) c (c + 1)
+push-one words c w h = record {
+  few = omega arith;
+  kept = take-set-le c words c w (omega arith);
+  pushed = record { long = length-set words c w; counts = refl; same = graph-set words c w h };
+}
 
 pub push-as : {e f : Edge} {s t : List ℕ} {c d : ℕ} → e ≡ f → Pushed (e ∷ []) s t c d → Pushed (f ∷ []) s t c d
 push-as h P = rw h at P

@@ -2,17 +2,17 @@
 use mathlib.Core.Path.{_≡_}
 use mathlib.Core.Bool.{not, _&&_, _||_}
 use mathlib.Core.List.{List, _++_, map}
-use Prim.Native.Nat.{ℕ, _+_, _≤_}
+use Prim.Native.Nat.{ℕ, _+_, _≤_, _<_}
 use lib.Dec.{eqb, ltb}
 use lib.ListN.{length, take}
 use Rattle.definitions.specs.Basics.{any, test-bit}
 use Rattle.definitions.specs.Limits.{most-steps, most-added}
-use Rattle.definitions.specs.Links.{Constraint, link-constraints, leads-into, source-link, loose-steps, edges}
+use Rattle.definitions.specs.Links.{Constraint, link-constraints, leads-into, source-link, loose-steps, delay-at, least-at, edges}
 use Rattle.definitions.specs.declared.Operation.{Operation}
 use Rattle.data_edges.specs.Words.{graph}
 use Rattle.read_pair.specs.Parts.{link-from}
 use Rattle.read_pair.specs.declared.Fields.{Fields}
-use Rattle.read_steps.specs.Leaving.{Leaves}
+use Rattle.read_steps.specs.Leaving.{leaving}
 
 -- The map of the steps that a forward link of these leads into.
 pub record Entered (cs : List Constraint) (entered : ℕ) : Type 0 where
@@ -31,7 +31,12 @@ pub record Completable (n : ℕ) (words : List ℕ) (c : ℕ) : Type 0 where
   pub steps : n ≤ most-steps
   pub room : c + most-added ≤ length words
 
--- These edges are pushed: those of the links that are added to any links with this map of entered steps, for all n steps that add these digits.
-pub record Completes (n entered : ℕ) (digits words words′ : List ℕ) (c c′ : ℕ) : Type 0 where
+-- Step 0 of these n steps, where there is one, adds d.
+abbrev pub SourceAdds : List Operation → ℕ → ℕ → Type 0
+SourceAdds os n d = 0 < n → d ≡ leaving (delay-at os 0) (least-at os 0) 0
+
+-- The first c words stay, and these edges are pushed behind them: those of the links that are added to any links with this map of entered steps, for all n steps of which 0 adds d.
+pub record Completes (n entered d : ℕ) (words words′ : List ℕ) (c c′ : ℕ) : Type 0 where
   pub few : c′ ≤ c + most-added
-  pub same : (os : List Operation) → Leaves os n digits → (cs : List Constraint) → Entered cs entered → graph (take c′ words′) ≡ graph (take c words) ++ edges os (map source-link (loose-steps n cs))
+  pub kept : take c words′ ≡ take c words
+  pub same : (os : List Operation) → SourceAdds os n d → (cs : List Constraint) → Entered cs entered → graph (take c′ words′) ≡ graph (take c words) ++ edges os (map source-link (loose-steps n cs))

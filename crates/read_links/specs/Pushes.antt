@@ -29,9 +29,10 @@ pub record Pushed (es : List Edge) (words words′ : List ℕ) (c c′ : ℕ) : 
   pub counts : c′ ≡ c + length es
   pub same : graph (take c′ words′) ≡ graph (take c words) ++ es
 
--- One edge at most is pushed.
+-- One edge at most is pushed, and the words before it stay.
 pub record PushedIf (there : Bool) (e : Edge) (words words′ : List ℕ) (c c′ : ℕ) : Type 0 where
   pub few : c′ ≤ c + 1
+  pub kept : take c words′ ≡ take c words
   pub pushed : Pushed (if-there there e) words words′ c c′
 
 -- The same for the edges of a link record. They are those of any steps of which the record's first adds these digits.

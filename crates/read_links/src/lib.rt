@@ -219,18 +219,11 @@ fn loose_steps(entered: u64, n: usize) -> u64
     data_sets::minus(data_sets::minus(data_sets::below(n), 1), entered)
 }
 
-// The edge of an after link from 0 to each step that follows nothing, rising, written at count; it says how many words there are then.
-pub fn complete(
-    words: &mut [u64],
-    count: usize,
-    entered: u64,
-    n: usize,
-    digits: &[u32; 64],
-) -> usize
+// The edge of an after link from 0, which adds d, to each step that follows nothing, rising, written at count; it says how many words there are then.
+pub fn complete(words: &mut [u64], count: usize, entered: u64, n: usize, d: u32) -> usize
     requires { ⌜ Completable n (now words) count ⌝ }
-    ensures { λ r. ⌜ Completes n entered (now (digits .entry)) (now (words .entry)) (now (words .exit)) count r ⌝ }
+    ensures { λ r. ⌜ Completes n entered d (now (words .entry)) (now (words .exit)) count r ⌝ }
 {
-    let d = digits[0];
     let mut left = loose_steps(entered, n);
     let mut next = count;
     while left != 0 {

@@ -3,7 +3,7 @@ use mathlib.Core.Path.{_≡_, refl, sym, ap, _∙_}
 use mathlib.Core.List.{List, [], _∷_, _++_, flatMap, map, map-append}
 use Prim.Native.Nat.{ℕ, suc, _+_, _-_, _*_, _≤_, _<_}
 use native.Mathlib.Omega.{arith}
-use lib.ListN.{take, drop, getD}
+use lib.ListN.{length, take, drop, getD, length-append}
 use Rattle.definitions.specs.Basics.{given, refused, when-given}
 use Rattle.definitions.specs.Numbers.{number}
 use Rattle.definitions.specs.Bytes.{link, links, pair-of}
@@ -35,6 +35,7 @@ pub record Edged (digits : List ℕ) (n r : ℕ) (bytes : List ℕ) (i last : �
   pub previous : Previous
   pub ranked : Ranked previous last
   pub within : i ≤ r
+  pub taken : length done ≡ i
   pub unread : Unread (link n) pair-of r Nothing bytes done (r - i) previous rest
   pub few : count ≤ links-of-record * i
   pub same : (os : List Operation) → Leaves os n digits → graph (take count words) ≡ edges os (constraints done)
@@ -46,7 +47,7 @@ module _ (digits : List ℕ) (n r : ℕ) (bytes : List ℕ) where
   unfolding graph edges constraints flatMap
   edged-none words =
       let e : r - 0 ≡ r = omega arith in
-      record { done = []; previous = Nothing; ranked = refl; within = omega arith; unread = rw e (unread-start (link n) pair-of r Nothing bytes); few = omega arith; same = λ os h. refl; enters = entered-none }
+      record { done = []; previous = Nothing; ranked = refl; within = omega arith; taken = refl; unread = rw e (unread-start (link n) pair-of r Nothing bytes); few = omega arith; same = λ os h. refl; enters = entered-none }
 
   module _ (i last : ℕ) (rest words : List ℕ) (count entered : ℕ) (so : Edged digits n r bytes i last rest words count entered) where
     one-left : i < r → Unread (link n) pair-of r Nothing bytes (so .done) (suc (r - (i + 1))) (so .previous) rest
@@ -71,6 +72,7 @@ module _ (digits : List ℕ) (n r : ℕ) (bytes : List ℕ) where
         previous = pair-of more;
         ranked = number;
         within = omega arith;
+        taken = length-append (so .done) (more ∷ []) ∙ ap (λ (k : ℕ). k + 1) (so .taken);
         unread = unread-one (link n) pair-of r Nothing bytes (so .done) (r - (i + 1)) (so .previous) rest (drop next bytes) more (sym pair ∙ T .same) (one-left h);
         few = omega (arith, so .few, T .pushed .counts, link-few m from to (T .fields));
         same = λ os h. edges-same os h e below;
@@ -89,29 +91,38 @@ module _ (digits : List ℕ) (n r : ℕ) (bytes : List ℕ) where
         let none : r - i ≡ 0 = omega arith in
         unread-none (link n) pair-of r Nothing bytes (so .done) (so .previous) rest (rw none at (so .unread))
 
-    -- What is answered once the added links are pushed too: the edges of the completed links of all records.
-    module _ (words′ : List ℕ) (count′ : ℕ) (added : Completes n entered digits words words′ count count′) where
+    -- What is answered once the added links are pushed too: the edges of the completed links of all records, those of the records first.
+    module _ (words′ : List ℕ) (count′ : ℕ) (added : Completes n entered (getD digits 0 0) words words′ count count′) where
       edges-completed : (os : List Operation) → Leaves os n digits → graph (take count′ words′) ≡ edges os (completed n (constraints (so .done)))
       unfolding edges completed
       edges-completed os h =
           let cs = constraints (so .done) in
-          added .same os h cs (so .enters)
+          added .same os (h .each 0) cs (so .enters)
           ∙ ap (λ (es : List Edge). es ++ edges os (map source-link (loose-steps n cs))) (so .same os h)
           ∙ sym (map-append (edge-of os) cs (map source-link (loose-steps n cs)))
 
-      pub answers-whole : outcome (last-links n r) bytes ≡ given (so .done) → LinksReads bytes n r digits words′ (record { reading = Whole; count = count′ })
+      edges-sent : (os : List Operation) → Leaves os n digits → graph (take count words′) ≡ edges os (constraints (so .done))
+      edges-sent os h = ap graph (added .kept) ∙ so .same os h
+
+      pub answers-whole : r ≤ i → outcome (last-links n r) bytes ≡ given (so .done) → LinksReads bytes n r digits words′ (record { reading = Whole; count = count′; linked = count })
       unfolding when-given
-      answers-whole e = record {
+      answers-whole all e = record {
         reading = rw e;
         few = omega (arith, so .few, so .within, added .few);
         same = λ os h ls g. edges-completed os h ∙ ap (λ (x : List Link). edges os (completed n (constraints x))) (given-same (sym e ∙ g));
+        linked = omega (arith, so .few, so .within);
+        sent = λ os h ls g. edges-sent os h ∙ ap (λ (x : List Link). edges os (constraints x)) (given-same (sym e ∙ g));
+        records = λ ls g. let read : length (so .done) ≡ r = omega (arith, so .taken, so .within) in sym (ap length (given-same (sym e ∙ g))) ∙ read;
       }
 
 -- A refusal.
-pub answers-refused : (n r : ℕ) (bytes digits words : List ℕ) (k : Refusal) → outcome (last-links n r) bytes ≡ refused (number k) → LinksReads bytes n r digits words (record { reading = Refused k; count = 0 })
+pub answers-refused : (n r : ℕ) (bytes digits words : List ℕ) (k : Refusal) → outcome (last-links n r) bytes ≡ refused (number k) → LinksReads bytes n r digits words (record { reading = Refused k; count = 0; linked = 0 })
 unfolding when-given
 answers-refused n r bytes digits words k e = record {
   reading = rw e;
   few = omega arith;
   same = λ os h ls g. absurd (given-not-refused (sym g ∙ e));
+  linked = omega arith;
+  sent = λ os h ls g. absurd (given-not-refused (sym g ∙ e));
+  records = λ ls g. absurd (given-not-refused (sym g ∙ e));
 }

@@ -20,8 +20,12 @@ pub record Fits (n r : ℕ) (words : List ℕ) : Type 0 where
   pub steps : n ≤ most-steps
   pub room : links-of-record * r + most-added ≤ length words
 
--- The reading is that of r link records which are the whole of the bytes s; the first words stand for the edges of their links, completed, for all n steps that add these digits. What the words hold beside a refusal is not said.
+-- The reading is that of r link records which are the whole of the bytes s; the first words stand for the edges of their links, completed, for all n steps that add these digits, and the first of these for the edges of the
+-- links that the records themselves say. What the words hold beside a refusal is not said.
 pub record LinksReads (s : List ℕ) (n r : ℕ) (digits words : List ℕ) (q : LinksRead) : Type 0 where
   pub reading : reading-of {A = Unit {0}} (q .reading) tt ≡ when-given (outcome (last-links n r) s) (λ ls. given tt)
   pub few : q .count ≤ links-of-record * r + most-added
   pub same : (os : List Operation) → Leaves os n digits → (ls : List Link) → outcome (last-links n r) s ≡ given ls → graph (take (q .count) words) ≡ edges os (completed n (constraints ls))
+  pub linked : q .linked ≤ links-of-record * r
+  pub sent : (os : List Operation) → Leaves os n digits → (ls : List Link) → outcome (last-links n r) s ≡ given ls → graph (take (q .linked) words) ≡ edges os (constraints ls)
+  pub records : (ls : List Link) → outcome (last-links n r) s ≡ given ls → length ls ≡ r

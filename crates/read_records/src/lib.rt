@@ -6,10 +6,11 @@ use definitions::Refusal;
 use read_links::LinkRead;
 use read_pair::PairRead;
 
-// Whether the records are the whole of the bytes; or the first fault. The first count words stand for the edges of their links, completed.
+// Whether the records are the whole of the bytes; or the first fault. The first count words stand for the edges of their links, completed, and the first linked of these for those of the links that were sent: 0 and 0 beside a fault.
 pub struct LinksRead {
     pub reading: Reading,
     pub count: usize,
+    pub linked: usize,
 }
 
 // The r link records, which are the whole of this part of the bytes, of a sheet whose n steps add these digits. The edges of their links, completed, are written from the front of the words on.
@@ -45,6 +46,7 @@ pub fn read_links(
                         return LinksRead {
                             reading: Reading::Refused(k),
                             count: 0,
+                            linked: 0,
                         };
                     }
                 }
@@ -53,6 +55,7 @@ pub fn read_links(
                 return LinksRead {
                     reading: Reading::Refused(k),
                     count: 0,
+                    linked: 0,
                 };
             }
         }
@@ -61,11 +64,13 @@ pub fn read_links(
         return LinksRead {
             reading: Reading::Refused(Refusal::Trailing),
             count: 0,
+            linked: 0,
         };
     }
-    let all = read_links::complete(words, count, entered, n, digits);
+    let all = read_links::complete(words, count, entered, n, digits[0]);
     LinksRead {
         reading: Reading::Whole,
         count: all,
+        linked: count,
     }
 }

@@ -42,7 +42,7 @@ report-refusing k report words leasts e = record { reading = rw e; sheet = λ q 
 -- The number of steps is the row's length, the leasts are the row's, and the words are those of the link records.
 module _ (s : List ℕ) (at n r middle : ℕ) (digits leasts words : List ℕ) (unbounded : ℕ) (pairs : LinksRead) (row : Stepped s at n digits leasts unbounded middle) (found : LinksReads (drop middle s) n r digits words pairs) (few : r ≤ most-records) (fits : Fits n r words) where
   abbrev made : Report
-  made = record { reading = pairs .reading; n = n; unbounded = unbounded; count = pairs .count }
+  made = record { reading = pairs .reading; n = n; unbounded = unbounded; count = pairs .count; linked = pairs .linked; records = r }
 
   abbrev rest : List ℕ
   rest = drop middle s
@@ -56,6 +56,11 @@ module _ (s : List ℕ) (at n r middle : ℕ) (digits leasts words : List ℕ) (
     few = omega (arith, found .few);
     within = omega (arith, found .few, fits .room);
     same = found .same (row .steps) (row .leaves) ls e ∙ ap (λ (k : ℕ). edges (row .steps) (completed k (constraints ls))) (sym (row .count));
+    linked = omega (arith, found .linked, fits .room);
+    few-linked = omega (arith, found .linked);
+    sent = found .sent (row .steps) (row .leaves) ls e;
+    records = sym (found .records ls e);
+    few-records = few;
   }
 
   -- The outcome of the whole, from that of the link records.
@@ -73,7 +78,7 @@ module _ (s : List ℕ) (at n r middle : ℕ) (digits leasts words : List ℕ) (
   }
 
 abbrev report-of : Head → ℕ → LinksRead → Report
-report-of h unbounded q = record { reading = q .reading; n = h .n; unbounded = unbounded; count = q .count }
+report-of h unbounded q = record { reading = q .reading; n = h .n; unbounded = unbounded; count = q .count; linked = q .linked; records = h .r }
 
 -- The report that the three parts make, by what they answer: N and R, the steps, the link records.
 module _ (p : Outcome Records) (s digits leasts words : List ℕ) (h : Head) (unbounded : ℕ) (q : LinksRead) (heads : Heads p s h) (fits : Fits (h .n) (h .r) words) where

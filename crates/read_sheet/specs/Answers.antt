@@ -1,12 +1,13 @@
 -- What the reader's report says, and the words and leasts beside it; and what its parts say: N and R, and the link records.
 use mathlib.Core.Path.{_≡_}
 use mathlib.Core.List.{List}
-use Prim.Native.Nat.{ℕ, _≤_, _<_}
+use Prim.Native.Nat.{ℕ, _*_, _≤_, _<_}
 use lib.ListN.{length, take, drop, replicate}
 use Rattle.definitions.specs.Answers.{count-of, edges-of}
 use Rattle.definitions.specs.Basics.{Outcome, given, refused, test-bit, when-given}
 use Rattle.definitions.specs.Bytes.{Records}
-use Rattle.definitions.specs.Limits.{most-steps, most-records, most-edges}
+use Rattle.definitions.specs.Limits.{most-steps, most-records, links-of-record, most-edges}
+use Rattle.definitions.specs.Links.{constraints, edges}
 use Rattle.definitions.specs.Numbers.{number, reading-of}
 use Rattle.data_edges.specs.Words.{graph}
 use Rattle.definitions.specs.declared.Reading.{Reading}
@@ -28,7 +29,8 @@ pub record Lent (s words leasts : List ℕ) : Type 0 where
   pub room : edge-room s ≤ length words
   pub blank : leasts ≡ replicate most-steps 0
 
--- A sheet as a report, words and leasts hold it: its open steps as a map, its edges as the first words, and the least of each step, 0 where it has none.
+-- A sheet as a report, words and leasts hold it: its open steps as a map, its edges as the first words, those of the links that its records say before those of the added links, the number of its records, and the least of
+-- each step, 0 where it has none.
 pub record Holds (q : Records) (words leasts : List ℕ) (r : Report) : Type 0 where
   pub n : r .n ≡ count-of q
   pub opens : (i : ℕ) → i < r .n → test-bit (r .unbounded) i ≡ unbounded-at (q .steps) i
@@ -36,6 +38,11 @@ pub record Holds (q : Records) (words leasts : List ℕ) (r : Report) : Type 0 w
   pub few : r .count ≤ most-edges
   pub within : r .count ≤ length words
   pub same : graph (take (r .count) words) ≡ edges-of q
+  pub linked : r .linked ≤ length words
+  pub few-linked : r .linked ≤ links-of-record * most-records
+  pub sent : graph (take (r .linked) words) ≡ edges (q .steps) (constraints (q .pairs))
+  pub records : r .records ≡ length (q .pairs)
+  pub few-records : r .records ≤ most-records
 
 -- A report on what reading finds: the refusal or none, and the sheet where there is one.
 pub record Reports (p : Outcome Records) (words leasts : List ℕ) (r : Report) : Type 0 where

@@ -19,12 +19,14 @@ use read_fields::NumberRead;
 use read_records::LinksRead;
 use read_steps::Place;
 
-// Whether the bytes are a sheet, or the first fault. Beside a sheet: how many steps it has, the map of those that are open, other than 0, and how many words stand for its edges. What stands beside a fault is not said.
+// Whether the bytes are a sheet, or the first fault. Beside a sheet: how many steps it has, the map of those that are open, other than 0, how many words stand for its edges, how many of these, in front, for the links that were sent, and how many link records it has. What stands beside a fault is not said.
 pub struct Report {
     pub reading: Reading,
     pub n: usize,
     pub unbounded: u64,
     pub count: usize,
+    pub linked: usize,
+    pub records: usize,
 }
 
 // N and R, and the place after them; or the first fault there, beside counts of 0.
@@ -101,11 +103,13 @@ fn read_tail(
         Reading::Refused(k) => LinksRead {
             reading: Reading::Refused(k),
             count: 0,
+            linked: 0,
         },
         Reading::Whole => match place {
             Place::Refused(k) => LinksRead {
                 reading: Reading::Refused(k),
                 count: 0,
+                linked: 0,
             },
             Place::At(middle) => read_records::read_links(&s[middle..], n, r, digits, words),
         },
@@ -131,5 +135,7 @@ pub fn read(s: &[u8], words: &mut [u64], leasts: &mut [u16; 64]) -> Report
         n: n,
         unbounded: steps.unbounded,
         count: tail.count,
+        linked: tail.linked,
+        records: head.r,
     }
 }

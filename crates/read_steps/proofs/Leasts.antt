@@ -50,6 +50,11 @@ pub added-open : (i : ℕ) (o : Operation) (said : Bound) → (i ≡ 0 → ⊥) 
 unfolding leaving
 added-open i o said z e f = rw (e, f, ne-eqb i 0 z, least-open i said z)
 
+-- Step 0 adds nothing where it is open, as it is on every sheet.
+pub source-adds-nothing : (os : List Operation) → delay-at os 0 ≡ Open → leaving (delay-at os 0) (least-at os 0) 0 ≡ 0
+unfolding least-at delay-at
+source-adds-nothing os e = added-source 0 (getD os 0 blank-operation) refl e
+
 -- The leasts of steps with one more behind them.
 pub least-last : (os : List Operation) (o : Operation) (i : ℕ) → length os ≡ i → least-at (os ++ o ∷ []) i ≡ least-with i (o .delay) (o .least)
 unfolding least-at delay-at

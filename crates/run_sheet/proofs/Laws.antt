@@ -12,21 +12,18 @@ use Rattle.definitions.specs.Basics.{Outcome, given, refused, bits-below, refus
 use Rattle.definitions.specs.Bytes.{Records, read}
 use Rattle.definitions.specs.Links.{delay-at, is-open}
 use Rattle.definitions.specs.Numbers.{number, status-of}
-use Rattle.definitions.specs.declared.Reading.the-variants as Readings
 use Rattle.definitions.specs.declared.Refusal.{Refusal}
 use Rattle.definitions.specs.declared.Refusal.the-variants.{TooShort}
 use Rattle.definitions.specs.declared.Status.{Status}
 use Rattle.definitions.specs.declared.Status.the-variants as Statuses
-use Rattle.laws.proofs.Lists.{mem-place}
 use Rattle.laws.proofs.Maps.{same-map, test-bits-below}
 use Rattle.laws.proofs.Outcomes.{passes-by, stops-at, when-given-by}
 use Rattle.laws.proofs.Tests.{tabulate-same}
-use Rattle.demands.proofs.Reading.{Fits, read-fits}
 use Rattle.data_edges.specs.Serial.{leasts-in}
 use Rattle.read_steps.specs.Leaving.{unbounded-at}
-use Rattle.read_sheet.specs.Answers.{Holds, Reports}
+use Rattle.read_sheet.specs.Answers.{Holds}
 use Rattle.read_sheet.specs.declared.Report.{Report}
-use Rattle.read_sheet.proofs.Reports.{Found, report-given, report-refused}
+use Rattle.read_sheet.proofs.Whole.{Whole}
 use Rattle.run_sheet.specs.Steps.{Counted, Returns, StepsReturned, left-in, memory, steps-of}
 
 -- ---- the map
@@ -91,16 +88,6 @@ given-whole count others held lent b eu el = answer-returned lent (passes-by 14 
 pub steps-unread : (s : List ℕ) (lent : Beginning) (k : Refusal) → read s ≡ refused (number k) → StepsReturned s lent (Statuses.Refused k) lent
 unfolding steps-answer when-given
 steps-unread s lent k e = refusal-returned k _ lent (ap (λ (o : Outcome Records). when-given o (λ q. steps-read q (lent .leasts))) e)
-
--- A report on bytes that are read whole: the sheet's records, within their limits.
-pub record Whole (s words held : List ℕ) (report : Report) : Type 0 where
-  pub found : Found (read s) words held report
-  pub fits : Fits (found .whole)
-
-pub whole : (s words held : List ℕ) (report : Report) → ((i : ℕ) → getD s i 0 < 256) → Reports (read s) words held report → report .reading ≡ Readings.Whole → Whole s words held report
-whole s words held report small reports e =
-    let h = report-given (read s) words held report reports e in
-    record { found = h; fits = read-fits s (h .whole) (λ b m. let p = mem-place s 0 m in omega (arith, p .here, small (p .index))) (h .is-given) }
 
 module _ {s words held : List ℕ} {report : Report} (w : Whole s words held report) where
   abbrev q : Records

@@ -1,9 +1,11 @@
 // Runs the planner on sheets from standard input and prints every answer, to be compared with the reference planner's.
 //
-// For each sheet the input holds: two bytes of length, the sheet; two bytes, the length of the table that is lent for its plan; a byte, the number of lists, and the lists.
+// For each sheet the input holds: two bytes of length, the sheet; two bytes, the length of the list that is lent for the records that clash; two bytes, the length of the table that is lent for its plan;
+// a byte, the number of lists, and the lists.
 // A list is a byte that says whether waits are allowed (1), two bytes, the number of its entries, two bytes, the length of the list that is lent for the start times, and the entries, four bytes each.
 // Numbers have the low byte first. Lent numbers are 4,294,967,294, which no answer holds.
 use data_indices::byte_index;
+use definitions::Tally;
 use definitions::UNDECIDED;
 ghost use Prim.Native.Nat.{_<_, _≤_};
 
@@ -141,6 +143,35 @@ fn write_waits(s: &[u8]) {
     write_listed(data_numbers::verdict_code(verdict), &maps, listed.count);
 }
 
+// How many records clash, or the refusal.
+fn write_tally(tally: Tally) {
+    print_console::write(b"clash");
+    match tally {
+        Tally::Count(k) => {
+            print_console::write_number(k as u64);
+        }
+        Tally::Refused(_) => {
+            print_console::write_code(data_numbers::tally_code(tally));
+        }
+    }
+    print_console::write(b"\n");
+}
+
+// The records that clash, into the list that is lent.
+fn write_clashes_into(s: &[u8], list: &mut [u32]) {
+    write_tally(clash_sheet::clashes(s, list));
+    write_numbers(list);
+}
+
+// The same, into as many of 600 numbers as the input says.
+fn write_clashes(s: &[u8]) {
+    let mut list = [LENT; 600];
+    let length = read_number();
+    if length <= 600 {
+        write_clashes_into(s, &mut list[..length]);
+    }
+}
+
 fn judge_code(s: &[u8], allow: bool) -> u32 {
     data_numbers::verdict_code(judge_sheet::judge(s, allow))
 }
@@ -229,6 +260,7 @@ fn write_answers(s: &[u8]) {
     print_console::write(b"\n");
     write_judgements(s);
     write_waits(s);
+    write_clashes(s);
     write_plan(s);
     write_lists(s);
 }

@@ -5,7 +5,8 @@ use denote.Ref.{now}
 use borrow.Author.Needs.{needs}
 use Rattle.read_sheet.proofs.Reports.{report-refused}
 use Rattle.plan_answer.proofs.Calls.{given-answers, refused-answers, sheet-responds}
-use Rattle.plan_answer.proofs.Held.{Whole, held-sheet, whole}
+use Rattle.read_sheet.proofs.Whole.{Whole, whole}
+use Rattle.plan_answer.proofs.Held.{held-sheet}
 use Rattle.plan_answer.proofs.answer_read.Statement.{statement}
 use Rattle.plan_answer.proofs.answer_read.Tie as tie
 

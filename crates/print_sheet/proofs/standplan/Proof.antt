@@ -2,7 +2,7 @@
 use mathlib.Core.Path.{sym, ap, _∙_}
 use native.Mathlib.Omega.{arith}
 use denote.Ref.{now}
-use Rattle.plan_answer.proofs.Held.{bytes-by}
+use Rattle.read_sheet.proofs.Whole.{bytes-by}
 use Rattle.definitions.specs.Numbers.{verdict-of}
 use Rattle.demands.specs.Demands.{Bytes}
 use Rattle.print_plan.specs.Texts.{refusal-text}

@@ -8,10 +8,10 @@ use Rattle.read_links.proofs.complete.Statement.{statement}
 use Rattle.read_links.proofs.complete.Tie as tie
 
 abbrev Inv-loop : tie.InvT-loop
-Inv-loop words₀ count entered n digits d left₀ next₀ words left next = Completing n left₀ digits words₀ count words next left
+Inv-loop words₀ count entered n d left₀ next₀ words left next = Completing n left₀ d words₀ count words next left
 
 abbrev μ-loop : tie.MeasureT-loop
-μ-loop words₀ count entered n digits d left₀ next₀ words left next = left
+μ-loop words₀ count entered n d left₀ next₀ words left next = left
 
 -- Places: the turn's beginning, its step found, the word made, the word pushed. And the start.
 abbrev Turn : Type 0
@@ -30,10 +30,7 @@ abbrev pushed : tie.After-without-lowest Inv-loop μ-loop → tie.After-push Inv
 pushed s = s .before .before .before
 
 abbrev start : Turn → tie.Start Inv-loop μ-loop
-start l = l .before .before .before .before
-
-element-copy-out-d : tie.Need-element-copy-out-d Inv-loop μ-loop
-element-copy-out-d c = search needs
+start l = l .before .before .before
 
 loose-steps-requires : tie.Need-loose-steps-requires Inv-loop μ-loop
 loose-steps-requires c κs = search needs
@@ -70,7 +67,7 @@ loop-again c =
     let k = picked (p .before) in
     let l = turn k in
     let low = k .lowest .ensures in
-    completing-more _ _ _ (l .before .loose-steps .ensures) _ _ _ _ _ _ (l .loop .inv) _ _ low (c .without-lowest .ensures _ low) _ _ _ (p .before .before .sequencing-word .ensures) (p .push .ensures .pushed)
+    completing-more _ _ _ (l .before .loose-steps .ensures) _ _ _ _ _ _ (l .loop .inv) _ _ low (c .without-lowest .ensures _ low) _ _ _ (p .before .before .sequencing-word .ensures) (p .push .ensures)
 
 same-length : tie.Need-same-length Inv-loop μ-loop
 same-length c = search needs
@@ -86,7 +83,6 @@ complete-spec =
     (tie.spec
     Inv-loop
     μ-loop
-    element-copy-out-d
     loose-steps-requires
     loop-holds
     lowest-requires

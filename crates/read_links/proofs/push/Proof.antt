@@ -17,10 +17,10 @@ same-length : tie.Need-same-length
 same-length c = search needs
 
 returns : tie.Need-returns
-returns c = record { few = search needs; pushed = rw (c .if1 .taken) (push-one _ _ _ (c .before .pre)) }
+returns c = rw (c .if1 .taken) (push-one _ _ _ (c .before .pre))
 
 returns-2 : tie.Need-returns-2
-returns-2 c = record { few = search needs; pushed = rw (c .if1 .left) (push-none _ _) }
+returns-2 c = rw (c .if1 .left) (push-none _ _ _)
 
 pub push-spec : {M : Type 1} → statement M
 push-spec =

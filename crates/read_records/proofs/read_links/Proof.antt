@@ -54,8 +54,8 @@ abbrev linked : tie.After-slice-known2 Inv-loop μ-loop → Linked
 linked s = s .before .before
 
 -- And, past the loop, its end, from where the added links are pushed.
-abbrev ended : tie.After-complete-arg Inv-loop μ-loop → Turn
-ended s = s .before .before .before
+abbrev ended : tie.After-complete-arg2 Inv-loop μ-loop → Turn
+ended s = s .before .before .before .before
 
 -- What reading the map and the pair means, by its answer; and the pair that was read.
 abbrev PairAnswered : Read → PairRead → Type 0
@@ -181,6 +181,9 @@ returns-3 c =
     let l = c .before .before .loop in
     answers-refused _ _ _ _ _ _ (links-trailing _ _ _ (l .next) (edged-all _ _ _ _ (l .i) _ _ _ _ _ (l .inv .1) (omega arith)) (c .if1 .taken))
 
+element-copy-out-complete : tie.Need-element-copy-out-complete Inv-loop μ-loop
+element-copy-out-complete c = search needs
+
 complete-requires : tie.Need-complete-requires Inv-loop μ-loop
 complete-requires c κs =
     let l = ended c in
@@ -195,7 +198,7 @@ returns-4 : tie.Need-returns-4 Inv-loop μ-loop
 returns-4 c =
     let s = c .before .before in
     let l = ended (s .before) .loop in
-    answers-whole _ _ _ _ (l .i) _ _ _ _ _ (l .inv .1) _ _ (s .complete .ensures) (links-whole _ _ _ (l .next) (edged-all _ _ _ _ (l .i) _ _ _ _ _ (l .inv .1) (omega arith)) (s .before .before .if1 .left))
+    answers-whole _ _ _ _ (l .i) _ _ _ _ _ (l .inv .1) _ _ (s .complete .ensures) (omega arith) (links-whole _ _ _ (l .next) (edged-all _ _ _ _ (l .i) _ _ _ _ _ (l .inv .1) (omega arith)) (s .before .before .before .if1 .left))
 
 pub read-links-spec : {M : Type 1} → statement M
 read-links-spec =
@@ -225,6 +228,7 @@ read-links-spec =
     returns-2
     same-length-3
     returns-3
+    element-copy-out-complete
     complete-requires
     same-length-4
     returns-4)

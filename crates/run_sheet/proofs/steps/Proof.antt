@@ -5,7 +5,8 @@ use Rattle.read_fields.proofs.Counts.{room-any}
 use Rattle.read_sheet.proofs.Reports.{report-refused}
 use borrow.Author.Needs.{needs}
 use Rattle.run_sheet.specs.Steps.{memory}
-use Rattle.run_sheet.proofs.Laws.{Whole, steps-unread, steps-whole, whole, whole-counted}
+use Rattle.read_sheet.proofs.Whole.{Whole, whole}
+use Rattle.run_sheet.proofs.Laws.{steps-unread, steps-whole, whole-counted}
 use Rattle.run_sheet.proofs.steps.Statement.{statement}
 use Rattle.run_sheet.proofs.steps.Tie as tie
 

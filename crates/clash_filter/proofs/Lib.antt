@@ -1,0 +1,5 @@
+pub mod Rows
+pub mod Starts
+pub mod Judging
+pub mod Filtering
+pub mod Working
