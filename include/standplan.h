@@ -1,7 +1,7 @@
 /* The verified stand planner, for C and C++ (x86-64 Linux). tools/library builds what it is linked with: libstandplan.a and libstandplan.so in
- * target/staticlib; docs/GUIDE.md has the commands, examples/stand.c uses every call.
+ * target/staticlib; docs/GUIDE.md has the commands, examples/stand.c and examples/write.c use every call.
  *
- * A call returns a verdict, one number: 0, the sheet is sound, or, of steps, clashes and the runner, the call is done; 1, the sheet is sound with
+ * A call returns a verdict, one number: 0, the sheet is sound, or, of steps, clashes, write and the runner, the call is done; 1, the sheet is sound with
  * waits; 256 + k, refused by refusal k (docs/REFUSALS.md). Every input is answered. On a refusal nothing that is lent changes.
  *
  * Memory is lent by a pointer and a count of elements. A pointer is aligned and not null, also where the count is 0;
@@ -10,7 +10,7 @@
  * Threads: calls are safe from several threads at once, unless one writes to memory that another has lent at that time. So a plan may be
  * shared by any number of runs; a run is held by one thread at a time.
  *
- * Stack, measured on x86-64 Linux (docs/GUIDE.md has the command), at most: judge and waits 78 kB, plan and starts 80 kB, steps 18 kB, clashes 64 kB, begin, tick and finish 4 kB.
+ * Stack, measured on x86-64 Linux (docs/GUIDE.md has the command), at most: judge and waits 78 kB, plan and starts 80 kB, steps 18 kB, clashes 64 kB, write 24 kB, begin, tick and finish 4 kB.
  * STANDPLAN_STACK bytes are enough for any call; the least stack that a thread may have (PTHREAD_STACK_MIN) is not.
  *
  * Version 2.0.0 changed the runner's calls (request L6): standplan_begin is lent the least durations, the state has them, and standplan_steps is new; it gives
@@ -28,9 +28,9 @@
 extern "C" {
 #endif
 
-#define STANDPLAN_VERSION "2.2.0"
+#define STANDPLAN_VERSION "2.3.0"
 #define STANDPLAN_VERSION_MAJOR 2
-#define STANDPLAN_VERSION_MINOR 2
+#define STANDPLAN_VERSION_MINOR 3
 #define STANDPLAN_VERSION_PATCH 0
 
 /* The most that there can be: steps and link records of a sheet, bytes of a sheet, numbers of a plan, ticks in a list of durations. */
@@ -97,7 +97,7 @@ static inline const char *standplan_sentence(uint32_t verdict) {
     case STANDPLAN_RECORD_COUNT: return "R is above 512";
     case STANDPLAN_BAD_MAP: return "a map that is not allowed or has an unknown bit";
     case STANDPLAN_BAD_PAIR: return "i or j is N or more, or i = j";
-    case STANDPLAN_BAD_ORDER: return "the pair does not rise";
+    case STANDPLAN_BAD_ORDER: return "the pair does not rise, or, in parts to be written, comes twice";
     case STANDPLAN_TRAILING: return "bytes follow the last record";
     case STANDPLAN_CIRCLE: return "forward links close a circle";
     case STANDPLAN_UNREACHED: return "retired: no sheet is refused so";
@@ -105,7 +105,7 @@ static inline const char *standplan_sentence(uint32_t verdict) {
     case STANDPLAN_NOT_ALWAYS_KEPT: return "for some list of durations no start times keep every link";
     case STANDPLAN_WAITS_NEEDED: return "waits are needed and the caller did not allow them";
     case STANDPLAN_BAD_DURATION: return "a duration is above 16,777,215 or below its step's least duration, or is not 0 and belongs to step 0 or to a fixed step";
-    case STANDPLAN_TOO_SHORT: return "a lent table or list is too short";
+    case STANDPLAN_TOO_SHORT: return "a lent table, list or buffer is too short";
     case STANDPLAN_NOT_BEGUN: return "no run has begun, or the state's step count is not 1 to 64";
     case STANDPLAN_HAS_BEGUN: return "Begin on a run that has begun";
     case STANDPLAN_CANNOT_FINISH: return "Finish of a step that is not open, is 0, has not started, or has finished";
@@ -144,6 +144,120 @@ STANDPLAN_CHECKED uint32_t standplan_steps(const uint8_t *sheet, size_t sheet_le
  * On a refusal, 1 to 8, 26, 31 (the sheet is not refused as 10 or 11) or 14 (the list is shorter than the report), numbers and count stay as lent.
  * STANDPLAN_MAX_RECORDS numbers are enough for any sheet. */
 STANDPLAN_CHECKED uint32_t standplan_clashes(const uint8_t *sheet, size_t sheet_len, uint32_t *numbers, size_t numbers_len, size_t *count);
+
+/* Writes a sheet (request L4): its bytes, from its steps and link records. The parts are numbers of 16 bits here; programs in C call standplan_write_sheet,
+ * below, which takes them as structs. steps has two numbers for each of the n steps, its map and its ticks; records seven for each of the r link records: its
+ * map, i, j, at least, at most, the gap, at most from the finish. The maps are those of docs/FORMAT.md; a field whose bit does not stand is not looked at.
+ * Records come in any order and are written rising. A fixed duration of 0 is left out, any other field is kept, 0 or not.
+ * The bytes become the first ones of buffer, and *length how many they are; the rest stays as lent. Returns 0.
+ * On a refusal buffer and length stay as lent. Each is judged over all the parts, in this order: 2; 3; 4 (a map of a step that is not allowed, that of step 0 is
+ * 1; a record with no link, or a gap without after); 26; 5; 6 (a pair comes twice); 14 (the buffer is shorter than the sheet, or there are fewer steps or
+ * records than n or r; what is there is judged before). STANDPLAN_MAX_SHEET bytes are enough for any sheet. */
+STANDPLAN_CHECKED uint32_t standplan_write(size_t n, const uint16_t *steps, size_t steps_len, size_t r, const uint16_t *records, size_t records_len, uint8_t *buffer, size_t buffer_len, size_t *length);
+
+/* A step and a link record, each as the numbers that standplan_write takes, in their order. They are made by the functions below: these set the bits of a map. */
+typedef struct standplan_step {
+    uint16_t map, ticks;
+} standplan_step;
+
+typedef struct standplan_link {
+    uint16_t map, i, j, at_least, at_most, gap, at_most_from_finish;
+} standplan_link;
+
+/* An array of them is an array of numbers. */
+enum { STANDPLAN_STEP_NUMBERS = 2, STANDPLAN_LINK_NUMBERS = 7 };
+#if defined(__cplusplus) && __cplusplus >= 201103L
+static_assert(sizeof(standplan_step) == STANDPLAN_STEP_NUMBERS * sizeof(uint16_t), "a step is its numbers");
+static_assert(sizeof(standplan_link) == STANDPLAN_LINK_NUMBERS * sizeof(uint16_t), "a link is its numbers");
+#elif defined(__STDC_VERSION__) && __STDC_VERSION__ >= 201112L
+_Static_assert(sizeof(standplan_step) == STANDPLAN_STEP_NUMBERS * sizeof(uint16_t), "a step is its numbers");
+_Static_assert(sizeof(standplan_link) == STANDPLAN_LINK_NUMBERS * sizeof(uint16_t), "a link is its numbers");
+#endif
+
+/* A map that no step and no link has: for ticks that 16 bits do not hold, so that nothing is cut off; writing is refused 4. */
+#define STANDPLAN_NO_MAP UINT16_C(65535)
+
+/* A step of a map, with its ticks. */
+static inline standplan_step standplan_step_of(uint16_t map, uint64_t ticks) {
+    standplan_step step;
+    step.map = ticks <= UINT16_MAX ? map : STANDPLAN_NO_MAP;
+    step.ticks = (uint16_t)ticks;
+    return step;
+}
+
+/* A step that is open; step 0 is one. */
+STANDPLAN_CHECKED static inline standplan_step standplan_step_open(void) {
+    return standplan_step_of(1, 0);
+}
+
+/* An open step that lasts at least so many ticks, 0 to 65,535. */
+STANDPLAN_CHECKED static inline standplan_step standplan_step_open_least(uint64_t ticks) {
+    return standplan_step_of(5, ticks);
+}
+
+/* A step that lasts so many ticks, 0 to 65,535. */
+STANDPLAN_CHECKED static inline standplan_step standplan_step_fixed(uint64_t ticks) {
+    return standplan_step_of(2, ticks);
+}
+
+/* A record for the pair (i, j), as yet with no link: the functions below add one each, and return it. A number above 255 is 255, which is no step. */
+STANDPLAN_CHECKED static inline standplan_link standplan_link_pair(size_t i, size_t j) {
+    standplan_link link;
+    link.map = 0;
+    link.i = (uint16_t)(i < 255 ? i : 255);
+    link.j = (uint16_t)(j < 255 ? j : 255);
+    link.at_least = link.at_most = link.gap = link.at_most_from_finish = 0;
+    return link;
+}
+
+/* The map of a link with one more bit, for a field of so many ticks. */
+static inline uint16_t standplan_link_map(uint16_t map, uint16_t bit, uint64_t ticks) {
+    return ticks <= UINT16_MAX ? (uint16_t)(map | bit) : STANDPLAN_NO_MAP;
+}
+
+/* j starts after i ends. */
+STANDPLAN_CHECKED static inline standplan_link standplan_link_after(standplan_link link) {
+    link.map = standplan_link_map(link.map, 1, 0);
+    return link;
+}
+
+/* The after link has a gap: j starts at least so many ticks, 0 to 65,535, after i ends. Without an after link writing is refused 4. */
+STANDPLAN_CHECKED static inline standplan_link standplan_link_gap(standplan_link link, uint64_t ticks) {
+    link.map = standplan_link_map(link.map, 8, ticks);
+    link.gap = (uint16_t)ticks;
+    return link;
+}
+
+/* j starts at least so many ticks, 0 to 65,535, after i starts. */
+STANDPLAN_CHECKED static inline standplan_link standplan_link_at_least(standplan_link link, uint64_t ticks) {
+    link.map = standplan_link_map(link.map, 2, ticks);
+    link.at_least = (uint16_t)ticks;
+    return link;
+}
+
+/* j starts at most so many ticks, 0 to 65,535, after i starts. */
+STANDPLAN_CHECKED static inline standplan_link standplan_link_at_most(standplan_link link, uint64_t ticks) {
+    link.map = standplan_link_map(link.map, 4, ticks);
+    link.at_most = (uint16_t)ticks;
+    return link;
+}
+
+/* j starts at most so many ticks, 0 to 65,535, after i ends. Without an after link writing is refused 26. */
+STANDPLAN_CHECKED static inline standplan_link standplan_link_at_most_from_finish(standplan_link link, uint64_t ticks) {
+    link.map = standplan_link_map(link.map, 16, ticks);
+    link.at_most_from_finish = (uint16_t)ticks;
+    return link;
+}
+
+/* Writes the sheet of n steps and r links to the front of buffer; *length becomes how many bytes it has. Refusals 2, 3, 4, 26, 5, 6 (a pair comes twice) and 14
+ * (the buffer is too short), in this order, as standplan_write gives them; then buffer and length stay as lent. steps may be null where n is 0, and links where
+ * r is 0. */
+STANDPLAN_CHECKED static inline uint32_t standplan_write_sheet(const standplan_step *steps, size_t n, const standplan_link *links, size_t r, uint8_t *buffer, size_t buffer_len, size_t *length) {
+    /* In the place of no step and no link: what is lent is not null. More than there can be are refused by their count, and none is lent, so that no length wraps. */
+    const uint16_t none = 0;
+    const size_t steps_lent = n <= STANDPLAN_MAX_STEPS ? n : 0, links_lent = r <= STANDPLAN_MAX_RECORDS ? r : 0;
+    return standplan_write(n, steps_lent > 0 ? &steps->map : &none, STANDPLAN_STEP_NUMBERS * steps_lent, r, links_lent > 0 ? &links->map : &none, STANDPLAN_LINK_NUMBERS * links_lent, buffer, buffer_len, length);
+}
 
 /* The runner. Its state is held by the caller, in memory of fixed size.
  * words: the step count, the map of open steps, the map of steps that have started, the map of those that have finished.

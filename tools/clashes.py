@@ -2,16 +2,11 @@
 words for them. Which records stay is the library's answer (`standplan_clashes`), and so is each verdict; the rest of this is not proved."""
 from __future__ import annotations
 
-import sys
 from dataclasses import replace
 from typing import NamedTuple
 
 import sheets
-from sheets import AFTER, AT_LEAST, AT_MOST, FROM_FINISH, Sheet
-
-sys.path.insert(0, str(sheets.ROOT / "bindings/python"))
-import standplan  # noqa: E402
-sys.path.pop(0)
+from sheets import AFTER, AT_LEAST, AT_MOST, FROM_FINISH, Sheet, standplan
 
 LIMITS = (AT_MOST, FROM_FINISH)
 Pair = tuple[int, int]

@@ -1,18 +1,23 @@
 """Sheets as bytes and as text, for the tools beside this file. docs/FORMAT.md has both forms.
 
-The planner does not use this: it reads bytes, by a reader that is proved. The text is for examples and reports only. Request L4 brings a sheet
-writer as a call of the library; it then takes the place of `to_bytes` (and always leaves out a duration of 0: `with-field` goes).
+The planner does not use this: it reads bytes, by a reader that is proved. The text is for examples and reports only. The bytes of a sheet are written by the
+library, whose sheet writer is proved (request L4); it is built on first use.
 """
 from __future__ import annotations
 
 import os
 import re
+import subprocess
 import sys
 from dataclasses import dataclass, field
 from functools import cache
 from pathlib import Path
 
 ROOT = Path(__file__).resolve().parent.parent
+sys.path.insert(0, str(ROOT / "bindings/python"))
+import standplan  # noqa: E402
+sys.path.pop(0)
+
 STEPS, RECORDS, LARGEST = 64, 512, 65535
 AFTER, GAP, AT_LEAST, AT_MOST, FROM_FINISH = "after", "gap", "at-least", "at-most", "at-most-from-finish"
 BITS = {AFTER: 1, AT_LEAST: 2, AT_MOST: 4, GAP: 8, FROM_FINISH: 16}  # of a link map, in the order of their fields
@@ -25,10 +30,10 @@ class Sheet:
 
     steps: list[str | int] = field(default_factory=list)
     links: dict[tuple[int, int], dict[str, int | None]] = field(default_factory=dict)
-    kept: set[int] = field(default_factory=set)                      # steps whose duration of 0 has a field in the bytes
     leasts: dict[int, int] = field(default_factory=dict)             # the least durations of open steps that have the field; 0 is one too
     names: dict[int, str] = field(default_factory=dict)              # the comments behind steps; text alone has them
     places: dict[tuple[int, int], str] = field(default_factory=dict)  # where each link stands: its line, or its record and byte
+    ends: list[int] = field(default_factory=list)                    # in bytes, where the counts end, each step and each link
 
 
 class NoSheet(Exception):
@@ -80,6 +85,7 @@ def from_bytes(data: bytes) -> Sheet:
     r = source.number(2)
     if r > RECORDS:
         raise source.fault(3, 1, f"R is {r}, and a sheet has at most {RECORDS} link records")
+    sheet.ends.append(source.at)
     for v in range(n):
         source.part = f"the record of step {v}"
         bits = source.number(1)
@@ -89,8 +95,7 @@ def from_bytes(data: bytes) -> Sheet:
         sheet.steps.append("open" if bits & 1 else source.number(2) if bits == 2 else 0)
         if bits == 5:
             sheet.leasts[v] = source.number(2)
-        if bits == 2 and sheet.steps[v] == 0:
-            sheet.kept.add(v)
+        sheet.ends.append(source.at)
     last = (-1, -1)
     for k in range(r):
         source.part = f"link record {k} of {r}"
@@ -111,46 +116,26 @@ def from_bytes(data: bytes) -> Sheet:
         numbers = {word: source.number(2) for word, bit in BITS.items() if bits & bit and word != AFTER}
         sheet.links[pair] = {word: numbers.get(GAP if word == AFTER else word) for word in WORDS if bits & BITS[word]}
         sheet.places[pair] = f"record {k}, byte {place}"
+        sheet.ends.append(source.at)
         last = pair
     if source.at < len(data):
         raise source.fault(7, source.at, f"the last record ends before it, and the sheet has {len(data)} bytes")
     return sheet
 
 
-def two(x: int) -> bytes:
-    return x.to_bytes(2, "little")
-
-
 @cache
-def _link_piece(pair: tuple[int, int], words: tuple[tuple[str, int | None], ...]) -> tuple[bytes, str]:
-    given = dict(words)
-    numbers = {GAP if word == AFTER else word: given[word] for word in WORDS if given.get(word) is not None}
-    fields = b"".join(two(numbers[word]) for word in BITS if word in numbers)
-    text = (" after" if AFTER in given else "") + "".join(f" {word} {x}" for word, x in numbers.items())
-    return bytes([sum(BITS[word] for word in given.keys() | numbers.keys()), *pair]) + fields, f"link {pair[0]} {pair[1]}{text}"
-
-
-def pieces(sheet: Sheet) -> list[tuple[bytes, str]]:
-    """The sheet piece by piece: its bytes, and its line of text. The first piece has the counts, and no line."""
-    found = [(bytes([len(sheet.steps)]) + two(len(sheet.links)), "")]
-    for v, step in enumerate(sheet.steps):
-        if v in sheet.leasts:
-            found.append((b"\x05" + two(sheet.leasts[v]), f"step {v} open least {sheet.leasts[v]}"))
-        elif step == "open":
-            found.append((b"\x01", f"step {v} open"))
-        elif step or v in sheet.kept:
-            found.append((b"\x02" + two(step), f"step {v} fixed {step}" + (" with-field" if not step else "")))
-        else:
-            found.append((b"\x00", f"step {v} fixed 0"))
-    return found + [link_piece(sheet, pair) for pair in sorted(sheet.links)]
-
-
-def link_piece(sheet: Sheet, pair: tuple[int, int]) -> tuple[bytes, str]:
-    return _link_piece(pair, tuple(sheet.links[pair].items()))
+def library():
+    """The Python module of the library (bindings/python), the library built; subprocess.CalledProcessError where it could not be."""
+    subprocess.run([ROOT / "tools/library"], check=True)
+    return standplan
 
 
 def to_bytes(sheet: Sheet) -> bytes:
-    return b"".join(data for data, _ in pieces(sheet))
+    """The bytes of the sheet, by the library: link records rise, and a fixed duration of 0 has no field."""
+    steps = [standplan.Step(least=sheet.leasts.get(v)) if step == "open" else standplan.Step(fixed=step) for v, step in enumerate(sheet.steps)]
+    links = [standplan.Link(*pair, AFTER in words, gap=words.get(AFTER), at_least=words.get(AT_LEAST), at_most=words.get(AT_MOST), at_most_from_finish=words.get(FROM_FINISH))
+             for pair, words in sheet.links.items()]
+    return library().write(steps, links)
 
 
 # ---------------------------------------------------------------- text
@@ -158,14 +143,41 @@ def to_bytes(sheet: Sheet) -> bytes:
 _LINKS = ", ".join((AFTER, f"{AFTER} {GAP}", *WORDS[1:]))
 
 
-def to_text(sheet: Sheet, show_bytes: bool = False) -> str:
-    """The sheet as text: the steps, then the links, rising; with show_bytes each line has its bytes as a comment."""
-    (counts, _), *rest = pieces(sheet)
-    if not show_bytes:
-        return "".join(f"{line}\n" for _, line in rest)
+def step_text(sheet: Sheet, v: int) -> str:
+    """The line of a step."""
+    step = sheet.steps[v]
+    return f"step {v} fixed {step}" if step != "open" else f"step {v} open" + (f" least {sheet.leasts[v]}" if v in sheet.leasts else "")
+
+
+def link_text(sheet: Sheet, pair: tuple[int, int]) -> str:
+    """The line of a link."""
+    words = sheet.links[pair]
+    numbers = {GAP if word == AFTER else word: words[word] for word in WORDS if words.get(word) is not None}
+    return f"link {pair[0]} {pair[1]}" + (" after" if AFTER in words else "") + "".join(f" {word} {x}" for word, x in numbers.items())
+
+
+def lines_of(sheet: Sheet) -> list[str]:
+    """The steps, then the links, rising."""
+    return [step_text(sheet, v) for v in range(len(sheet.steps))] + [link_text(sheet, pair) for pair in sorted(sheet.links)]
+
+
+def to_text(sheet: Sheet) -> str:
+    """The sheet as text."""
+    return "".join(f"{line}\n" for line in lines_of(sheet))
+
+
+def pieces(data: bytes) -> list[tuple[bytes, str]]:
+    """A sheet in bytes piece by piece, each with its line of text. The first piece has the counts, and no line."""
+    sheet = from_bytes(data)
+    return [(data[begin:end], line) for begin, end, line in zip([0, *sheet.ends], sheet.ends, ["", *lines_of(sheet)])]
+
+
+def shown(data: bytes) -> str:
+    """A sheet in bytes as text, each line with its bytes as a comment."""
+    (counts, _), *rest = pieces(data)
     width = max(len(line) for _, line in rest)
-    head = f"# steps {len(sheet.steps)}, links {len(sheet.links)}"
-    return "".join(f"{line:{width}}  # {data.hex(' ')}\n" for data, line in [(counts, head), *rest])
+    head = f"# steps {counts[0]}, links {int.from_bytes(counts[1:], 'little')}"
+    return "".join(f"{line:{width}}  # {part.hex(' ')}\n" for part, line in [(counts, head), *rest])
 
 
 def _number(word: str, top: int, what: str) -> int:
@@ -184,8 +196,8 @@ def _step_number(word: str) -> int:
 _FORMS = "'open', 'open least' and ticks, or 'fixed' and its ticks"
 
 
-def _step_line(words: list[str]) -> tuple[int, str | int, bool, int | None]:
-    """A step's number, what it is, whether its duration of 0 has a field, and its least, or None where it has none."""
+def _step_line(words: list[str]) -> tuple[int, str | int, int | None]:
+    """A step's number, what it is, and its least, or None where it has none."""
     if len(words) < 2:
         raise NoSheet(f"a step has a number, then {_FORMS}")
     v, form = _step_number(words[0]), words[1:]
@@ -194,18 +206,15 @@ def _step_line(words: list[str]) -> tuple[int, str | int, bool, int | None]:
     if v == 0 and form != ["open"]:
         raise NoSheet("step 0 is the start and has to be open")
     if form == ["open"]:
-        return v, "open", False, None
+        return v, "open", None
     if form[:2] == ["open", "least"]:
         if len(form) == 2:
             raise NoSheet("'least' has no number behind it")
         if len(form) == 3:
-            return v, "open", False, _number(form[2], LARGEST, "a least is")
-    if form[0] != "fixed" or len(form) < 2 or form[2:] not in ([], ["with-field"]):
+            return v, "open", _number(form[2], LARGEST, "a least is")
+    if form[0] != "fixed" or len(form) != 2:
         raise NoSheet(f"a step is {_FORMS}")
-    ticks = _number(form[1], LARGEST, "a duration is")
-    if ticks and form[2:]:
-        raise NoSheet("'with-field' stands behind a duration of 0 only; every other has its field")
-    return v, ticks, form[2:] != [], None
+    return v, _number(form[1], LARGEST, "a duration is"), None
 
 
 def _link_line(words: list[str]) -> tuple[tuple[int, int], dict[str, int | None]]:
@@ -252,12 +261,10 @@ def from_text(data: bytes) -> Sheet:
             if not words:
                 continue
             if words[0] == "step":
-                v, step, kept, least = _step_line(words[1:])
+                v, step, least = _step_line(words[1:])
                 if v in steps:
                     raise NoSheet(f"step {v} stands in line {steps[v][0]} already")
                 steps[v] = line, step
-                if kept:
-                    sheet.kept.add(v)
                 if least is not None:
                     sheet.leasts[v] = least
                 if name := "".join(filter(str.isprintable, comment)).strip():

@@ -13,6 +13,10 @@
     run.finish(2)                                       # [3]
     late = sheet[:-2] + bytes([1, 0])                   # the limit of the last record is 1 in the place of 2: refused 10
     standplan.clashes(late)                             # [4]: that record alone cannot be kept
+    Step, Link = standplan.Step, standplan.Link
+    steps = [Step(), Step(least=8), Step(fixed=2)]      # open; open, at least 8 ticks; 2 ticks
+    links = [Link(1, 2, after=True, at_most_from_finish=5), Link(0, 1, after=True)]
+    standplan.write(steps, links).hex(" ")              # '03 02 00 01 05 08 00 02 02 00 01 00 01 11 01 02 05 00': the sheet of these
 
 `allow` says whether waits are allowed. What is refused raises Refused, with its number and sentence (docs/REFUSALS.md), and changes nothing.
 The functions of the library are proved; this module is not: it lends them memory.
@@ -29,9 +33,9 @@ from functools import cache
 from pathlib import Path
 from typing import NamedTuple
 
-__version__ = "2.2.0"
+__version__ = "2.3.0"
 __all__ = ["SOUND", "SOUND_WITH_WAITS", "UNDECIDED", "MAX_STEPS", "MAX_RECORDS", "MAX_SHEET", "MAX_TABLE", "MAX_DURATION", "STACK", "SENTENCES",
-           "Refused", "NoLibrary", "Plan", "Steps", "Run", "judge", "waits", "plan", "starts", "clashes", "steps"]
+           "Refused", "NoLibrary", "Plan", "Step", "Link", "Steps", "Run", "judge", "waits", "plan", "starts", "clashes", "write", "steps"]
 
 SOUND, SOUND_WITH_WAITS = 0, 1                          # the verdicts
 UNDECIDED = 4294967295                                  # the number in a plan where a step does not decide another
@@ -44,7 +48,7 @@ SENTENCES = {
     3: "R is above 512",
     4: "a map that is not allowed or has an unknown bit",
     5: "i or j is N or more, or i = j",
-    6: "the pair does not rise",
+    6: "the pair does not rise, or, in parts to be written, comes twice",
     7: "bytes follow the last record",
     8: "forward links close a circle",
     9: "retired: no sheet is refused so",
@@ -52,7 +56,7 @@ SENTENCES = {
     11: "for some list of durations no start times keep every link",
     12: "waits are needed and the caller did not allow them",
     13: "a duration is above 16,777,215 or below its step's least duration, or is not 0 and belongs to step 0 or to a fixed step",
-    14: "a lent table or list is too short",
+    14: "a lent table, list or buffer is too short",
     15: "no run has begun, or the state's step count is not 1 to 64",
     16: "Begin on a run that has begun",
     17: "Finish of a step that is not open, is 0, has not started, or has finished",
@@ -91,6 +95,7 @@ _CALLS = {
     "starts": [*_SHEET, ctypes.c_bool, _U32, _SIZE, _U32, _SIZE],
     "steps": [*_SHEET, ctypes.POINTER(_SIZE), _U64, _U16, _SIZE],
     "clashes": [*_SHEET, _U32, _SIZE, ctypes.POINTER(_SIZE)],
+    "write": [_SIZE, _U16, _SIZE, _SIZE, _U16, _SIZE, ctypes.POINTER(ctypes.c_uint8), _SIZE, ctypes.POINTER(_SIZE)],
     "begin": [*_STATE, _SIZE, ctypes.c_uint64, _U16, _SIZE, _U32, _SIZE],
     "tick": [*_STATE, _U32, _SIZE],
     "finish": [*_STATE, _SIZE, _U32, _SIZE],
@@ -140,13 +145,20 @@ def _numbers(numbers: Iterable[int]) -> ctypes.Array:
     return (ctypes.c_uint32 * len(given))(*given)
 
 
-def _leasts(numbers: Iterable[int]) -> ctypes.Array:
-    """Least durations. A larger number cannot be lent as the largest, which the library takes."""
+def _short(number: int, what: str) -> int:
+    """A number of 16 bits. A larger one cannot be lent as the largest, which the library takes."""
+    if not 0 <= number <= 65535:
+        raise ValueError(f"{number} is no {what}: these are 0 to 65535")
+    return number
+
+
+def _shorts(numbers: Iterable[int]) -> ctypes.Array:
     given = list(numbers)
-    for number in given:
-        if not 0 <= number <= 65535:
-            raise ValueError(f"{number} is no least duration: these are 0 to 65535")
     return (ctypes.c_uint16 * len(given))(*given)
+
+
+def _leasts(numbers: Iterable[int]) -> ctypes.Array:
+    return _shorts(_short(number, "least duration") for number in numbers)
 
 
 def _members(map_: int) -> list[int]:
@@ -205,6 +217,59 @@ def clashes(sheet: bytes) -> list[int]:
     numbers, count = (ctypes.c_uint32 * MAX_RECORDS)(), _SIZE()
     _called("clashes", *_lent(sheet), numbers, MAX_RECORDS, ctypes.byref(count))
     return numbers[:count.value]
+
+
+# ---------------------------------------------------------------- the writer
+
+class Step(NamedTuple):
+    """A step of a sheet that is to be written. Step() is open, Step(least=8) is open and lasts at least 8 ticks, Step(fixed=3) lasts 3. Not both."""
+
+    fixed: int | None = None
+    least: int | None = None
+
+
+class Link(NamedTuple):
+    """A link record of a sheet that is to be written, for the pair (i, j): Link(3, 4, after=True, at_most=2). None is a field that is not there; one of 0 is."""
+
+    i: int
+    j: int
+    after: bool = False                                 # j starts after i ends,
+    gap: int | None = None                              # and at least so many ticks after it; beside after only
+    at_least: int | None = None                         # j starts at least so many ticks after i starts
+    at_most: int | None = None                          # j starts at most so many ticks after i starts
+    at_most_from_finish: int | None = None              # j starts at most so many ticks after i ends; beside after only
+
+
+def _fields(bits: int, fields: Iterable[tuple[int, int | None, str]]) -> list[int]:
+    """A map with these bits and those of the fields that are there, then the fields, 0 for one that is not."""
+    numbers = []
+    for bit, number, what in fields:
+        bits |= 0 if number is None else bit
+        numbers.append(0 if number is None else _short(number, what))
+    return [bits, *numbers]
+
+
+def _step_numbers(step: Step) -> list[int]:
+    """Its map and its ticks. A step that is both fixed and open has a map that is refused."""
+    bits, fixed, least = _fields(1 if step.fixed is None else 0, ((2, step.fixed, "duration"), (4, step.least, "least duration")))
+    return [bits, least if step.fixed is None else fixed]
+
+
+def _link_numbers(link: Link) -> list[int]:
+    """Its map, i, j, at least, at most, the gap, at most from the finish."""
+    bits, *numbers = _fields(1 if link.after else 0, ((2, link.at_least, "bound"), (4, link.at_most, "bound"), (8, link.gap, "gap"), (16, link.at_most_from_finish, "bound")))
+    return [bits, _number(link.i, 16), _number(link.j, 16), *numbers]
+
+
+def write(steps: Iterable[Step], links: Iterable[Link]) -> bytes:
+    """The bytes of the sheet with these steps and links. The links come in any order and are written rising. A fixed duration of 0 is left out, any other
+    field is kept, 0 or not. Refusals 2, 3, 4, 26, 5 and 6 (a pair comes twice), the first that holds of all the parts. A number of ticks that 16 bits do not
+    hold raises ValueError."""
+    steps, links = list(steps), list(links)
+    operations, records = _shorts(number for step in steps for number in _step_numbers(step)), _shorts(number for link in links for number in _link_numbers(link))
+    buffer, length = (ctypes.c_uint8 * MAX_SHEET)(), _SIZE()
+    _called("write", len(steps), operations, len(operations), len(links), records, len(records), buffer, MAX_SHEET, ctypes.byref(length))
+    return bytes(buffer[:length.value])
 
 
 # ---------------------------------------------------------------- the runner

@@ -1,5 +1,6 @@
 """The library as C meets it: what archive and shared object hold; an installed copy, with a program built by pkg-config; the header in C and C++; its
-refusals, version and maxima beside those of docs/REFUSALS.md, VERSION, the Rust crate and the Python module; the stack that it says each call needs."""
+refusals, version and maxima beside those of docs/REFUSALS.md, VERSION, the Rust crate and the Python module; sheets written by its structs and functions; the
+stack that it says each call needs."""
 import os
 import re
 import shlex
@@ -17,7 +18,7 @@ HERE, BUILT = Path(__file__).parent, ROOT / "target/staticlib"
 HEADER = (ROOT / "include/standplan.h").read_text("ascii")
 CRATE = (ROOT / "bindings/rust/src/lib.rs").read_text("utf-8")
 RETIRED = "retired: no sheet is refused so"
-CALLS = {f"standplan_{call}" for call in ("judge", "waits", "plan", "starts", "steps", "clashes", "begin", "tick", "finish")}
+CALLS = {f"standplan_{call}" for call in ("judge", "waits", "plan", "starts", "steps", "clashes", "write", "begin", "tick", "finish")}
 
 
 def check(found, wanted, what):
@@ -60,14 +61,19 @@ def header():
             assert good, said
     lines = {"judge": "standplan_judge(s, 1, true)", "waits": "standplan_waits(s, 1, w, t)", "plan": "standplan_plan(s, 1, true, t, 1)",
              "starts": "standplan_starts(s, 1, true, t, 1, t, 1)", "steps": "standplan_steps(s, 1, n, w, l, 1)", "clashes": "standplan_clashes(s, 1, t, 1, n)",
+             "write": "standplan_write(1, l, 2, 1, l, 7, s, 1, n)", "write_sheet": "standplan_write_sheet(p, 1, k, 1, s, 1, n)",
+             "step_open": "standplan_step_open()", "step_open_least": "standplan_step_open_least(1)", "step_fixed": "standplan_step_fixed(1)",
+             "link_pair": "standplan_link_pair(0, 1)", "link_after": "standplan_link_after(*k)",
+             **{f"link_{name}": f"standplan_link_{name}(*k, 1)" for name in ("gap", "at_least", "at_most", "at_most_from_finish")},
              "begin": "standplan_begin(w, t, t, t, l, w, 1, 0, l, 1, t, 1)",
              "tick": "standplan_tick(w, t, t, t, l, w, t, 1)", "finish": "standplan_finish(w, t, t, t, l, w, 1, t, 1)",
              "run_begin": "standplan_run_begin(r, 1, 0, l, 1, t, 1, w)", "run_tick": "standplan_run_tick(r, t, 1, w)", "run_finish": "standplan_run_finish(r, 1, t, 1, w)"}
-    check({f"standplan_{call}" for call in lines}, CALLS | set(re.findall(r"standplan_run_\w+(?=\()", HEADER)), "calls that are tried")
-    lent = "uint8_t *s, uint64_t *w, uint32_t *t, uint16_t *l, size_t *n, standplan_run *r"
-    for call in lines.values():
-        body = f"(void)s; (void)w; (void)t; (void)l; (void)n; (void)r; "
-        looked_at, said = compiles(f'#include "standplan.h"\nuint32_t f({lent});\nuint32_t f({lent}) {{ {body}return {call}; }}\n')
+    check({f"standplan_{call}" for call in lines}, CALLS | set(re.findall(r"^STANDPLAN_CHECKED static inline \w+ (standplan_\w+)\(", HEADER, re.MULTILINE)), "calls that are tried")
+    lent = "uint8_t *s, uint64_t *w, uint32_t *t, uint16_t *l, size_t *n, standplan_run *r, standplan_step *p, standplan_link *k"
+    for name, call in lines.items():
+        body = "(void)s; (void)w; (void)t; (void)l; (void)n; (void)r; (void)p; (void)k; "
+        field = ".map" if name.startswith(("step_", "link_")) else ""
+        looked_at, said = compiles(f'#include "standplan.h"\nuint32_t f({lent});\nuint32_t f({lent}) {{ {body}return {call}{field}; }}\n')
         assert looked_at, f"{call}: {said}"
         good, said = compiles(f'#include "standplan.h"\nvoid f({lent});\nvoid f({lent}) {{ {body}{call}; }}\n')
         assert not good and "unused-result" in said, f"{call}: {said}"
@@ -137,11 +143,47 @@ def installed(place):
     return "a program built with pkg-config prints the stored plans"
 
 
+def in_words(line):
+    """A line of tests/rust/data/parts.txt for parts.c: its words, and what is to be printed; none for what the functions cannot make: lists that are not as
+    long as their counts, and a step that is fixed and has a least."""
+    (_, n, r, room), steps, links, answer, data = (field.split() for field in line.split(";"))
+    if (len(steps), len(links)) != (int(n), int(r)) or any("/" in step and not step.startswith("open") for step in steps):
+        return None
+    words = [n, r, room, *("o" if step == "open" else f"l {step[5:]}" if "/" in step else f"f {step}" for step in steps)]
+    for link in links:
+        i, j, *fields = link.split(",")
+        words += [i, j, *(f"{field[0]} {field[1:]}" for field in reversed(fields)), "."]
+    sheet, lent = bytes.fromhex("".join(data)), bytes((100 + at) % 256 for at in range(int(room)))
+    if answer[0] == "ok":
+        return " ".join(words), f"0 {len(sheet)} {(sheet + lent[len(sheet):]).hex()}"
+    return " ".join(words), f"{256 + int(answer[1])} 1000 {lent.hex()}"
+
+
+def parts(place):
+    """Sheets written by the header's structs and functions, in C and C++: the stored parts, and numbers that 16 bits do not hold, which are not cut off."""
+    stored = [made for made in map(in_words, (ROOT / "tests/rust/data/parts.txt").read_text("ascii").splitlines()) if made]
+    for ticks in (65536, 65537, 2**32 - 1, 2**32 + 1, 2**64 - 1):
+        stored += [(f"2 0 9 o {letter} {ticks}", "260 1000 6465666768696a6b6c") for letter in "lf"]
+        stored += [(f"2 1 0 o o 0 1 {before} {letter} {ticks} {behind} .", "260 1000 ") for letter in "glmf" for before, behind in (("a", ""), ("", "a"), ("a m 3", f"{letter} 3"))]
+        stored += [(f"2 1 0 o o {pair} a .", "261 1000 ") for pair in (f"{ticks} 1", f"0 {ticks}")]
+    wanted = [line.rstrip() for _, line in stored]
+    for answer in (0, *(256 + k for k in (2, 3, 4, 26, 5, 6, 14))):
+        assert any(line.startswith(f"{answer} ") for line in wanted), answer
+    for compiler, flags in (("cc", ["-std=c11", "-fsanitize=undefined", "-fno-sanitize-recover"]), ("cc", ["-std=c99", "-O2"]), ("c++", ["-std=c++11", "-x", "c++"])):
+        if shutil.which(compiler):
+            ran(compiler, *flags, "-Wall", "-Wextra", "-Wpedantic", "-Werror", "-I", ROOT / "include", HERE / "parts.c", "-x", "none", BUILT / "libstandplan.a", "-o", place / "parts")
+            found = [line.rstrip() for line in ran(place / "parts", input="\n".join(words for words, _ in stored)).splitlines()]
+            for (words, _), one, other in zip(stored, found, wanted):
+                check(one, other, f"{compiler} {flags}: {words[:200]}")
+            check(len(found), len(wanted), "sheets written from C")
+    return len(stored)
+
+
 def stack(place):
-    """The stack of each call, on 64 steps with waits, and on parts of large impossible sheets, is not above what the header says."""
-    said = re.search(r"at most: judge and waits (\d+) kB, plan and starts (\d+) kB, steps (\d+) kB, clashes (\d+) kB, begin, tick and finish (\d+) kB", HEADER)
+    """The stack of each call, on 64 steps with waits, on parts of large impossible sheets, and on the parts of the longest sheet, is not above what the header says."""
+    said = re.search(r"at most: judge and waits (\d+) kB, plan and starts (\d+) kB, steps (\d+) kB, clashes (\d+) kB, write (\d+) kB, begin, tick and finish (\d+) kB", HEADER)
     assert said, "the header does not say how much stack each call needs"
-    most = dict(zip(("judge", "waits", "plan", "starts", "steps", "clashes", "begin", "tick", "finish"), (int(said[group]) for group in (1, 1, 2, 2, 3, 4, 5, 5, 5))))
+    most = dict(zip(("judge", "waits", "plan", "starts", "steps", "clashes", "write", "begin", "tick", "finish"), (int(said[group]) for group in (1, 1, 2, 2, 3, 4, 5, 6, 6, 6))))
     ran("cc", "-std=c11", "-O2", "-Wall", "-Wextra", "-I", ROOT / "include", HERE / "stack.c", BUILT / "libstandplan.a", "-o", place / "stack")
     found = dict(line.split() for line in ran(place / "stack", *(ROOT / f"bench/sets/{name}.bin" for name in ("small", "large", "worst", "l14"))).splitlines())
     check(list(found), list(most), "calls whose stack was measured")
@@ -166,5 +208,6 @@ if __name__ == "__main__":
     wrong_use()
     with tempfile.TemporaryDirectory() as folder:
         said = installed(Path(folder))
+        written = parts(Path(folder))
         needs = stack(Path(folder))
-    print(f"{count} refusals have one sentence in C, Rust and Python; {said}; no call needs more than {needs} bytes of stack")
+    print(f"{count} refusals have one sentence in C, Rust and Python; {said}; the header's structs give {written} answers of the writer; no call needs more than {needs} bytes of stack")

@@ -1,6 +1,8 @@
-"""The Python module: its answers and its runs, state by state, against those stored of the reference planner (tests/rust/data); the stored plans of the
-examples; and what it does where Python's numbers go further than the library's."""
+"""The Python module: its answers and its runs, state by state, and the sheets that it writes, against those stored of the reference planner (tests/rust/data);
+the stored plans of the examples; what its own example says; and what it does where Python's numbers go further than the library's."""
+import ctypes
 import os
+import re
 import subprocess
 import sys
 import tempfile
@@ -9,7 +11,7 @@ from pathlib import Path
 ROOT = Path(__file__).resolve().parents[2]
 sys.path.insert(0, str(ROOT / "bindings/python"))
 import standplan  # noqa: E402
-from standplan import Plan, Refused, Run  # noqa: E402
+from standplan import Link, Plan, Refused, Run, Step  # noqa: E402
 
 
 def check(found, wanted, what):
@@ -104,6 +106,61 @@ def runs():
     return count
 
 
+def step_of(word):
+    """`open`, `open/8`, `3`; `3/8` is a fixed step with a least."""
+    lasts, _, least = word.partition("/")
+    return Step(None if lasts == "open" else int(lasts), int(least) if least else None)
+
+
+def link_of(word):
+    """The pair, then a letter for each link, with its number: `3,4,a,m2`."""
+    i, j, *fields = word.split(",")
+    names = {"l": "at_least", "m": "at_most", "g": "gap", "f": "at_most_from_finish"}
+    return Link(int(i), int(j), after="a" in fields, **{names[field[0]]: int(field[1:]) for field in fields if field != "a"})
+
+
+def written(n, steps, r, links, room):
+    """What the library's call gives of parts as numbers, with counts of their own: the length or the refusal; then length and buffer, lent as 1000 and as 100,
+    101 and so on."""
+    numbers = [standplan._shorts(number for part in parts for number in call(part)) for parts, call in ((steps, standplan._step_numbers), (links, standplan._link_numbers))]
+    buffer, length = (ctypes.c_uint8 * room)(*((100 + at) % 256 for at in range(room))), ctypes.c_size_t(1000)
+    found = answer(standplan._called, "write", n, numbers[0], len(numbers[0]), r, numbers[1], len(numbers[1]), buffer, room, ctypes.byref(length))
+    return found or length.value, length.value, bytes(buffer)
+
+
+def parts():
+    """Each line by the library's call as C makes it; by `write` where the lists are as long as their counts: it lends room enough, so that 14 does not come up."""
+    count, seen, called = 0, set(), 0
+    for line in (ROOT / "tests/rust/data/parts.txt").read_text("ascii").splitlines():
+        (_, *counts), *fields = [field.split() for field in line.split(";")]
+        (n, r, room), steps, links = map(int, counts), [step_of(word) for word in fields[0]], [link_of(word) for word in fields[1]]
+        wanted, sheet, lent = verdict_of(fields[2]), bytes.fromhex("".join(fields[3])), bytes((100 + at) % 256 for at in range(room))
+        refused = isinstance(wanted, tuple)
+        check(written(n, steps, r, links, room), (wanted, 1000 if refused else wanted, sheet + lent[len(sheet):]), line)
+        check(refused or len(sheet) == wanted, True, line)
+        if (len(steps), len(links)) == (n, r) and wanted != ("refused", 14):
+            check(answer(standplan.write, steps, iter(links)), wanted if refused else sheet, line)
+            called += 1
+        seen.add(wanted if refused else "written")
+        count += 1
+    assert count > 400 and called > 200 and len(seen) == 8, (count, called, seen)     # written, and refused 2 to 6, 26 and 14
+    return count
+
+
+def documented():
+    """The example at the head of the module: what stands behind an expression begins with what it gives."""
+    names, count = {}, 0
+    for line in standplan.__doc__.splitlines():
+        found = re.fullmatch(r"    (\S.*?)(?:  +# (.*))?", line)
+        if found and not (re.match(r"\w[\w, ]* = |import ", found[1])):
+            said = repr(eval(found[1], names))
+            assert found[2] and re.match(re.escape(said) + r"$|" + re.escape(said) + "[:,]", found[2]), f"{found[1]} gives {said}, and the module says {found[2]}"
+            count += 1
+        elif found:
+            exec(found[1], names)
+    assert count >= 8, count
+
+
 def plans():
     count = 0
     for path in sorted((ROOT / "examples").glob("*.sheet")):
@@ -128,6 +185,24 @@ def ring(links):
     """A chain of so many steps of 1 tick each, and a limit from its first to its last that is one tick too short: no record can be left out. It is the second of them."""
     return bytes([links + 2, links + 1, 0, 1]) + bytes([2, 1, 0]) * (links + 1) + bytes([1, 1, 2, 4, 1, links + 1, *(links - 1).to_bytes(2, "little")]) + \
         b"".join(bytes([1, v, v + 1]) for v in range(2, links + 1))
+
+
+def writer_borders():
+    """Parts with numbers that C would cut off, and what is no number."""
+    for wrong, kind in (-1, ValueError), (65536, ValueError), (2**64, ValueError), (0.5, TypeError), ("3", TypeError):
+        for step in Step(fixed=wrong), Step(least=wrong):
+            check(raised(standplan.write, [Step(), step], []), kind, step)
+        for name in ("gap", "at_least", "at_most", "at_most_from_finish"):
+            check(raised(standplan.write, [Step()] * 2, [Link(0, 1, after=True, **{name: wrong})]), kind, f"{name} {wrong}")
+    for i, j in (-1, 0), (0, -1):
+        check(raised(standplan.write, [Step()] * 2, [Link(i, j, after=True)]), ValueError, (i, j))
+    for far in 2, 64, 255, 256, 257, 65536, 65537, 2**64:
+        for pair in (far, 1), (0, far):
+            check(answer(standplan.write, [Step()] * 2, [Link(*pair, after=True)]), ("refused", 5), pair)
+    check(raised(standplan.write, [Step(), Step(fixed=0.0)], []), TypeError, "a duration that is no whole number")
+    check(answer(standplan.write, [Step(), Step(3, 8)], []), ("refused", 4), "a fixed step with a least")
+    check(answer(standplan.write, [Step(), Step(0, 0)], []), ("refused", 4), "a fixed step with a least of 0")
+    check(answer(standplan.write, [], []), ("refused", 2), "no step")
 
 
 def borders():
@@ -184,6 +259,9 @@ def borders():
 
 
 if __name__ == "__main__":
-    counts = answers(), runs(), plans()
+    os.chdir(ROOT)                                         # the module's example opens a file there
+    counts = answers(), runs(), parts(), plans()
+    documented()
+    writer_borders()
     borders()
-    print("the Python module gives {} stored answers, {} stored calls of the runner and {} stored plans".format(*counts))
+    print("the Python module gives {} stored answers, {} stored calls of the runner, {} stored answers of the writer and {} stored plans".format(*counts))

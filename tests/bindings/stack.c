@@ -8,12 +8,14 @@
 
 #include "standplan.h"
 
-enum { ROOM = 1 << 20, FILL = 0xa5, CALLS = 9 };
+enum { ROOM = 1 << 20, FILL = 0xa5, CALLS = 10 };
 
-static const char *const names[CALLS + 1] = {"judge", "waits", "plan", "starts", "steps", "clashes", "begin", "tick", "finish", "nothing"};
+static const char *const names[CALLS + 1] = {"judge", "waits", "plan", "starts", "steps", "clashes", "write", "begin", "tick", "finish", "nothing"};
 static _Alignas(64) unsigned char stack[ROOM];
-static uint8_t sheet[STANDPLAN_MAX_SHEET];
-static size_t length, steps, few;
+static uint8_t sheet[STANDPLAN_MAX_SHEET], buffer[STANDPLAN_MAX_SHEET];
+static size_t length, steps, few, written;
+static standplan_step parts[STANDPLAN_MAX_STEPS];
+static standplan_link links[STANDPLAN_MAX_RECORDS];
 static uint64_t maps[STANDPLAN_MAX_STEPS], map, open_map;
 static uint16_t leasts[STANDPLAN_MAX_STEPS];
 static uint32_t count, table[STANDPLAN_MAX_TABLE], list[STANDPLAN_MAX_STEPS], out[STANDPLAN_MAX_STEPS], numbers[STANDPLAN_MAX_RECORDS], verdict;
@@ -30,9 +32,26 @@ static void call(void) {
     case 3: verdict = standplan_starts(sheet, length, true, list, n, out, n); break;
     case 4: verdict = standplan_steps(sheet, length, &steps, &open_map, leasts, STANDPLAN_MAX_STEPS); break;
     case 5: verdict = standplan_clashes(sheet, length, numbers, STANDPLAN_MAX_RECORDS, &few); break;
-    case 6: memset(&run, 0, sizeof run); verdict = standplan_run_begin(&run, n, UINT64_MAX, leasts, n, table, n * n, &map); break;
-    case 7: verdict = standplan_run_tick(&run, table, n * n, &map); break;
-    case 8: verdict = standplan_run_finish(&run, 1, table, n * n, &map); break;
+    case 6: verdict = standplan_write_sheet(parts, STANDPLAN_MAX_STEPS, links, STANDPLAN_MAX_RECORDS, buffer, sizeof buffer, &written); break;
+    case 7: memset(&run, 0, sizeof run); verdict = standplan_run_begin(&run, n, UINT64_MAX, leasts, n, table, n * n, &map); break;
+    case 8: verdict = standplan_run_tick(&run, table, n * n, &map); break;
+    case 9: verdict = standplan_run_finish(&run, 1, table, n * n, &map); break;
+    }
+}
+
+/* The parts of a sheet as long as there can be one: every field is there, the records fall. */
+static void longest(void) {
+    parts[0] = standplan_step_open();
+    for (size_t v = 1; v < STANDPLAN_MAX_STEPS; v++)
+        parts[v] = standplan_step_open_least(v);
+    for (size_t k = 0, i = 1, j = 0; k < STANDPLAN_MAX_RECORDS; k++) {
+        links[STANDPLAN_MAX_RECORDS - 1 - k] = standplan_link_at_most_from_finish(standplan_link_at_most(standplan_link_at_least(standplan_link_gap(standplan_link_after(
+            standplan_link_pair(i, j)), 1), 2), 3), 4);
+        j += j + 1 == i ? 2 : 1;
+        if (j >= STANDPLAN_MAX_STEPS) {
+            i++;
+            j = 0;
+        }
     }
 }
 
@@ -54,6 +73,7 @@ static size_t touched(int which) {
 
 int main(int argc, char **argv) {
     size_t most[CALLS] = {0}, sheets = 0;
+    longest();
     touched(CALLS); /* so that what the first swap links is linked */
     size_t without = touched(CALLS);
     for (int i = 1; i < argc; i++) {
@@ -72,7 +92,7 @@ int main(int argc, char **argv) {
         }
         fclose(file);
     }
-    int status = sheets == 0;
+    int status = sheets == 0 || written != STANDPLAN_MAX_SHEET;
     for (int c = 0; c < CALLS; c++) {
         printf("%s %zu\n", names[c], most[c]);
         if (most[c] > STANDPLAN_STACK)

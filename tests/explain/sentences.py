@@ -29,7 +29,7 @@ BYTES = [
     ("03 01 00 01 01 01 01 03 01", "refused 5: i or j is N or more, or i = j\nbyte 7: link record 0 is for the pair 3, 1, and the steps are 0 to 2\n"),
     ("02 01 00 01 01 01 01 01", "refused 5: i or j is N or more, or i = j\nbyte 7: link record 0 is for the pair 1, 1, from a step to itself\n"),
     ("03 02 00 01 01 01 01 00 02 01 00 01",
-     "refused 6: the pair does not rise\nbyte 10: link record 1 is for the pair 0, 1, and record 0 before it for 0, 2; pairs rise\n"),
+     "refused 6: the pair does not rise, or, in parts to be written, comes twice\nbyte 10: link record 1 is for the pair 0, 1, and record 0 before it for 0, 2; pairs rise\n"),
     ("01 00 00 01 00 00", "refused 7: bytes follow the last record\nbyte 4: the last record ends before it, and the sheet has 6 bytes\n"),
     ("02 01 00 01 01 10 00 01 05 00", "refused 26: a link map with bit 4, at most from the finish, and without bit 0, after\n"
      "byte 5: the map of link record 0 is 10: bit 4, at most from the finish, without bit 0, after\n"),

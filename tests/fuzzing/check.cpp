@@ -2,6 +2,7 @@
 
 #include "../second/runner.h"
 #include "../second/second.h"
+#include "../second/writer.h"
 
 #include <cinttypes>
 #include <csetjmp>
@@ -167,18 +168,26 @@ void case_begins(uint64_t seed, const char *kind, uint64_t number) {
     if (begun++ % 64 == 0) alarm(patience);
 }
 
-// One call on both sides, for a sheet that is lent; `tell` says what else it was lent.
-template <class Ours, class Look, class Tell> void Examiner::each_side(Call call, const char *name_of_call, const Bytes &sheet, uint32_t expected, Ours ours, Look look, Tell tell) {
-    met.verdicts[call][expected & 511]++;
+// One call on both sides; `tell` says what it was lent.
+template <class Ours, class Look, class Tell> void Examiner::both_sides(const char *name_of_call, uint32_t expected, Ours ours, Look look, Tell tell) {
     for (Side &side : sides) {
         try {
             need_verdict(guarded([&] { return ours(side); }), expected);
             look(side);
-            need_lent(side.sheet, sheet.data(), "sheet");
         } catch (Failure &failure) {
-            throw Failure{std::string(name_of_call) + ": " + failure.what + "\n  guard page " + name(side.guard) + "\n  sheet " + hex(sheet.data(), sheet.size()) + "\n  " + tell()};
+            throw Failure{std::string(name_of_call) + ": " + failure.what + "\n  guard page " + name(side.guard) + "\n  " + tell()};
         }
     }
+}
+
+// One call on both sides, for a sheet that is lent; `tell` says what else it was lent.
+template <class Ours, class Look, class Tell> void Examiner::each_side(Call call, const char *name_of_call, const Bytes &sheet, uint32_t expected, Ours ours, Look look, Tell tell) {
+    auto look_at_all = [&](Side &side) {
+        look(side);
+        need_lent(side.sheet, sheet.data(), "sheet");
+    };
+    met.verdicts[call][expected & 511]++;
+    both_sides(name_of_call, expected, ours, look_at_all, [&] { return "sheet " + hex(sheet.data(), sheet.size()) + "\n  " + tell(); });
 }
 
 void Met::add_report(size_t count, size_t records) {
@@ -644,4 +653,156 @@ void Examiner::any_run(Random &random) {
         }
     }
     run.end();
+}
+
+namespace {
+
+std::string told(const Parts &parts) {
+    return "n " + std::to_string(parts.n) + ", steps " + list_of(parts.steps.data(), parts.steps.size()) + "\n  r " + std::to_string(parts.r) + ", records " + list_of(parts.records.data(), parts.records.size());
+}
+
+uint32_t second_written(const Parts &parts, Bytes &buffer, size_t &length) {
+    return second_write(parts.n, address(parts.steps), parts.steps.size(), parts.r, address(parts.records), parts.records.size(), address(buffer), buffer.size(), &length);
+}
+
+// All that the library says of a sheet: verdicts, waits, plan, steps, and starts for its leasts.
+struct Answers {
+    std::vector<uint32_t> verdicts;
+    std::array<uint64_t, 64> maps{};
+    uint32_t count = 0;
+    Numbers plan = Numbers(most_steps * most_steps), starts = Numbers(most_steps), leasts;
+    size_t n = 0;
+    uint64_t open = 0;
+
+    Answers(const Calls &calls, const Bytes &sheet) {
+        const uint8_t *const at = sheet.data();
+        const size_t length = sheet.size();
+        Leasts given(most_steps);
+        for (bool allow : {false, true}) verdicts.push_back(calls.judge(at, length, allow));
+        verdicts.push_back(calls.waits(at, length, maps.data(), &count));
+        verdicts.push_back(calls.plan(at, length, true, plan.data(), plan.size()));
+        verdicts.push_back(calls.steps(at, length, &n, &open, given.data(), given.size()));
+        leasts.assign(given.begin(), given.end());
+        verdicts.push_back(calls.starts(at, length, true, leasts.data(), leasts.size(), starts.data(), starts.size()));
+    }
+
+    bool operator==(const Answers &other) const {
+        return verdicts == other.verdicts && maps == other.maps && count == other.count && plan == other.plan && starts == other.starts && leasts == other.leasts && n == other.n && open == other.open;
+    }
+};
+
+} // namespace
+
+// One call, with so many bytes of room; the sheet of these parts, if there is one.
+void Examiner::lend_room(const Parts &parts, const Bytes &sheet, size_t room, Random &random) {
+    Bytes before(room);
+    for (uint8_t &byte : before) byte = uint8_t(random.next());
+    const size_t length_before = size_t(random.next());
+    Bytes buffer = before;
+    size_t length = length_before;
+    const uint32_t expected = second_written(parts, buffer, length);
+    need_rule(expected, before, buffer, sheet.size());
+    if (expected == 0) need(length == sheet.size() && std::equal(sheet.begin(), sheet.end(), buffer.begin()), "the second writer writes another sheet");
+    else need(length == length_before, "the second writer gives a length on a refusal");
+    met.just_room += expected == 0 && before.size() == sheet.size();
+    met.one_short += expected == 256 + 14 && before.size() + 1 == sheet.size();
+    met.short_lists += expected == 256 + 14 && sheet.empty();
+    met.verdicts[write_sheet][expected & 511]++;
+    both_sides(
+        "write", expected,
+        [&](Side &side) {
+            lend(side.step_list, parts.steps);
+            lend(side.record_list, parts.records);
+            lend(side.buffer, before);
+            side.length.lend(&length_before, sizeof length_before);
+            return calls.write(parts.n, leasts_at(side.step_list), parts.steps.size(), parts.r, leasts_at(side.record_list), parts.records.size(), side.buffer.lent(), before.size(), size_at(side.length));
+        },
+        [&](Side &side) {
+            need_lent(side.buffer, buffer.data(), "buffer");
+            need_lent(side.length, &length, "length");
+            need_lent(side.step_list, parts.steps.data(), "steps");
+            need_lent(side.record_list, parts.records.data(), "records");
+        },
+        [&] { return told(parts) + "\n  a buffer of " + std::to_string(before.size()) + "\n  expected " + hex(sheet.data(), sheet.size()); });
+}
+
+// With any room; then, where there is a sheet of these parts, with enough, so that it is written. Gives the sheet.
+Bytes Examiner::write_parts(const Parts &parts, Random &random) {
+    Bytes sheet(longest_sheet);
+    size_t size = 0;
+    const uint32_t verdict = second_written(parts, sheet, size);
+    sheet.resize(verdict == 0 ? size : 0);
+    lend_room(parts, sheet, draw_room(random, verdict == 0 ? size : random.from(1, longest_sheet)), random);
+    if (verdict == 0) lend_room(parts, sheet, size + random.below(longest_buffer - longest_sheet), random);
+    return sheet;
+}
+
+// What is written and then read gives the same steps and, rising, the same records. Not counted among the verdicts of sheets that are drawn.
+void Examiner::read_again(const Parts &parts, const Bytes &written, Random &random) {
+    const Current current(written);
+    const Parts same = as_written(parts);
+    need(parts_of(written) == same, "the second writer's sheet has other parts");
+    for (Side &side : sides) lend(side.sheet, written);
+    const size_t n_before = size_t(random.next());
+    const uint64_t open_before = random.next();
+    const Leasts before(parts.n, uint16_t(random.next()));
+    uint64_t open = 0;
+    Leasts leasts(parts.n, 0);
+    for (size_t v = 0; v < parts.n; v++) {
+        const uint16_t *const step = &parts.steps[step_numbers * v];
+        open |= uint64_t(step[0] & 1) << v;
+        if (step[0] & 4) leasts[v] = step[1];
+    }
+    both_sides(
+        "steps of what was written", 0,
+        [&](Side &side) {
+            side.n.lend(&n_before, sizeof n_before);
+            side.open.lend(&open_before, sizeof open_before);
+            lend(side.leasts, before);
+            return calls.steps(side.sheet.lent(), written.size(), size_at(side.n), words_at(side.open), leasts_at(side.leasts), before.size());
+        },
+        [&](Side &side) {
+            need_lent(side.n, &parts.n, "step count");
+            need_lent(side.open, &open, "open map");
+            need_lent(side.leasts, leasts.data(), "leasts");
+        },
+        [&] { return told(parts); });
+    const bool allow = random.chance(50);
+    both_sides(
+        "judge of what was written", second_judge(written.data(), written.size(), allow), [&](Side &side) { return calls.judge(side.sheet.lent(), written.size(), allow); }, [&](Side &side) { need_lent(side.sheet, written.data(), "sheet"); }, [&] { return told(parts); });
+}
+
+// A sheet that is read, taken apart and written again: it means the same and is shorter by the fixed durations of 0.
+void Examiner::write_again(const Bytes &sheet, Random &random) {
+    const Current current(sheet);
+    const Parts parts = mixed_up(random, parts_of(sheet));
+    const Bytes written = write_parts(parts, random);
+    const size_t zeros = written_zeros(sheet);
+    need(!written.empty() && written.size() + 2 * zeros == sheet.size(), "the second writer's sheet has another length");
+    if (zeros == 0) need(written == sheet, "the second writer's sheet is not the one that was read");
+    if (!(Answers(calls, written) == Answers(calls, sheet))) throw Failure{"a sheet written again gives other answers\n  sheet " + hex(sheet.data(), sheet.size()) + "\n  written " + hex(written.data(), written.size())};
+    met.again++;
+    met.again_shorter += zeros > 0;
+}
+
+void Examiner::write(Random &random) {
+    if (random.chance(15)) {
+        for (;;) {
+            const Bytes sheet = draw_input(random);
+            size_t n = 0;
+            uint64_t open = 0;
+            Leasts leasts(most_steps);
+            if (second_steps(address(sheet), sheet.size(), &n, &open, leasts.data(), leasts.size()) == 0) return write_again(sheet, random);
+        }
+    }
+    const Parts parts = draw_parts(random);
+    const Bytes written = write_parts(parts, random);
+    if (written.empty()) return;
+    const Parts same = as_written(parts);
+    bool left_out = false;
+    for (size_t v = 0; v < parts.n; v++) left_out |= parts.steps[step_numbers * v] != same.steps[step_numbers * v];
+    met.left_out += left_out;
+    met.reordered += !pairs_rise(parts);
+    met.longest_written = std::max(met.longest_written, written.size());
+    read_again(parts, written, random);
 }

@@ -1,8 +1,9 @@
-// Tries calls of the library on lent memory, beside the second planner and the second runner.
+// Tries calls of the library on lent memory, beside the second planner, the second runner and the second writer.
 #pragma once
 
 #include "draw.hpp"
 #include "lent.hpp"
+#include "parts.hpp"
 
 #include "../../include/standplan.h"
 
@@ -20,14 +21,18 @@ struct Calls {
     decltype(&standplan_begin) begin = standplan_begin;
     decltype(&standplan_tick) tick = standplan_tick;
     decltype(&standplan_finish) finish = standplan_finish;
+    decltype(&standplan_write) write = standplan_write;
 };
+
+// The kinds of cases, each with numbers of its own: inputs, runs, parts that are written.
+enum Kind : uint64_t { sheet_kind = 1, run_kind, write_kind };
 
 // What is thrown where a call did what it may not do.
 struct Failure {
     std::string what;
 };
 
-enum Call { judge, waits, plan, starts, steps, clashes, begin, tick, finish, call_count };
+enum Call { judge, waits, plan, starts, steps, clashes, begin, tick, finish, write_sheet, call_count };
 
 // What was met.
 struct Met {
@@ -51,6 +56,14 @@ struct Met {
     uint64_t ended_runs = 0;   // those in which every step started and every open one finished
     uint64_t started = 0;      // steps whose start was compared with the second planner's
     uint64_t fullest = 0;      // most calls in one run
+    uint64_t just_room = 0;    // sheets written with no byte to spare
+    uint64_t one_short = 0;    // refused for one byte too few
+    uint64_t short_lists = 0;  // refused 14 whatever the room
+    uint64_t left_out = 0;     // written sheets without some fixed duration of 0
+    uint64_t reordered = 0;    // written sheets whose records came in another order
+    uint64_t again = 0;        // sheets that were read, written again
+    uint64_t again_shorter = 0; // those that became shorter
+    size_t longest_written = 0; // bytes of a written sheet
 
     void add_report(size_t count, size_t records);
 };
@@ -64,6 +77,8 @@ class Examiner {
         Guard guard;
         Lent sheet{guard, Lent::pages_for(longest_input)}, table{guard, Lent::pages_for(longest_table * sizeof(uint32_t))}, list{guard, 1}, out{guard, 1}, maps{guard, 1}, count{guard, 1}, leasts{guard, 1}, n{guard, 1}, open{guard, 1};
         Lent report{guard, Lent::pages_for(longest_report * sizeof(uint32_t))};
+        Lent step_list{guard, Lent::pages_for(longest_step_numbers * sizeof(uint16_t))}, record_list{guard, Lent::pages_for(longest_record_numbers * sizeof(uint16_t))};
+        Lent buffer{guard, Lent::pages_for(longest_buffer)}, length{guard, 1};
         Lent words{guard, 1}, tick{guard, 1}, start{guard, 1}, finish{guard, 1}, least{guard, 1}, map{guard, 1};
     };
     class Run;
@@ -71,11 +86,16 @@ class Examiner {
     const Calls calls;
     std::array<Side, 2> sides{{{Guard::end}, {Guard::start}}};
 
+    template <class Ours, class Look, class Tell> void both_sides(const char *name_of_call, uint32_t expected, Ours ours, Look look, Tell tell);
     template <class Ours, class Look, class Tell> void each_side(Call call, const char *name_of_call, const Bytes &sheet, uint32_t expected, Ours ours, Look look, Tell tell);
     void clashing_records(const Bytes &sheet, bool impossible, Random &random);
     void lend_report(const Bytes &sheet, const Numbers &expected_report, Random &random);
     void proper_run(Random &random);
     void any_run(Random &random);
+    void lend_room(const Parts &parts, const Bytes &sheet, size_t room, Random &random);
+    Bytes write_parts(const Parts &parts, Random &random);
+    void read_again(const Parts &parts, const Bytes &written, Random &random);
+    void write_again(const Bytes &sheet, Random &random);
 
 public:
     Met met;
@@ -87,4 +107,7 @@ public:
 
     // One run: of an accepted sheet's plan, or of states and tables from anywhere.
     void run(Random &random);
+
+    // Writes the sheet of parts, with faults or without, and reads it; or that of the parts of a sheet that is read.
+    void write(Random &random);
 };

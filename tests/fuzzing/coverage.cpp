@@ -1,4 +1,4 @@
-// The same checks under libFuzzer: an input is a sheet; its lists and lengths, and now and then a run, are drawn from a number made of its bytes.
+// The same checks under libFuzzer: an input is a sheet; its lists and lengths, and now and then a run or parts that are written, are drawn from a number made of its bytes.
 #include "check.hpp"
 
 #include <cstdio>
@@ -13,6 +13,7 @@ extern "C" int LLVMFuzzerTestOneInput(const uint8_t *data, size_t size) {
     try {
         examiner.sheet(Bytes(data, data + size), random);
         if (random.chance(5)) examiner.run(random);
+        if (random.chance(10)) examiner.write(random);
     } catch (Failure &failure) {
         std::fprintf(stderr, "FAILED: %s\n", failure.what.c_str());
         std::abort();

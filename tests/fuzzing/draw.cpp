@@ -79,8 +79,6 @@ struct Aim {
     bool full;           // each record has every field, the limits that are added as wide as can be
 };
 
-uint32_t any_of(Random &random, std::initializer_list<uint32_t> numbers) { return numbers.begin()[random.below(uint32_t(numbers.size()))]; }
-
 uint32_t draw_steps(Random &random) {
     uint32_t kind = random.below(100);
     if (kind < 18) return random.from(1, 5);

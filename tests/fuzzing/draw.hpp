@@ -3,6 +3,7 @@
 
 #include <cstddef>
 #include <cstdint>
+#include <initializer_list>
 #include <vector>
 
 class Random {
@@ -28,6 +29,8 @@ public:
     uint32_t from(uint32_t least, uint32_t most) { return least + below(most - least + 1); }
     bool chance(uint32_t percent) { return below(100) < percent; }
 };
+
+inline uint32_t any_of(Random &random, std::initializer_list<uint32_t> numbers) { return numbers.begin()[random.below(uint32_t(numbers.size()))]; }
 
 using Bytes = std::vector<uint8_t>;
 using Numbers = std::vector<uint32_t>;

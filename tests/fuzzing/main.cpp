@@ -14,17 +14,15 @@
 
 namespace {
 
-constexpr uint64_t sheet_kind = 1, run_kind = 2;
-
 struct Options {
-    uint64_t seed = 1, sheets = 60000, runs = 6000, part = 1, parts = 1;
+    uint64_t seed = 1, sheets = 60000, runs = 6000, writes = 60000, part = 1, parts = 1;
     uint64_t one_kind = 0, one_number = 0; // the case that is repeated
     Bytes bytes;                           // the sheet that is tried
     std::string corpus;
     bool self_test = false;
 };
 
-const char *name(uint64_t kind) { return kind == sheet_kind ? "sheet" : "run"; }
+const char *name(uint64_t kind) { return kind == sheet_kind ? "sheet" : kind == run_kind ? "run" : "write"; }
 
 void try_case(Examiner &examiner, uint64_t seed, uint64_t kind, uint64_t number) {
     case_begins(seed, name(kind), number);
@@ -32,8 +30,10 @@ void try_case(Examiner &examiner, uint64_t seed, uint64_t kind, uint64_t number)
     if (kind == sheet_kind) {
         Bytes sheet = draw_input(random);
         examiner.sheet(sheet, random);
-    } else {
+    } else if (kind == run_kind) {
         examiner.run(random);
+    } else {
+        examiner.write(random);
     }
 }
 
@@ -96,16 +96,17 @@ int self_test(uint64_t seed) {
         return cases;
     };
     Failure met;
-    for (uint64_t kind : {sheet_kind, run_kind}) {
+    for (Kind kind : {sheet_kind, run_kind, write_kind}) {
         uint64_t number = first_failure({}, kind, met);
         if (number == cases) continue;
         print_failure(seed, kind, number, met);
         return 1;
     }
     size_t noticed = 0;
-    const std::vector<Planted> all = planted_faults();
+    std::vector<Planted> all = planted_faults();
+    for (const Planted &planted : planted_in_writes()) all.push_back(planted);
     for (const Planted &planted : all) {
-        uint64_t number = first_failure(planted.calls, planted.in_runs ? run_kind : sheet_kind, met);
+        uint64_t number = first_failure(planted.calls, planted.kind, met);
         if (number < cases && met.what.find(planted.noticed) != std::string::npos) noticed++;
         else std::cout << "self-test: not noticed: " << planted.fault << (number < cases ? ", but this: " + met.what : "") << "\n";
     }
@@ -128,15 +129,16 @@ const struct {
     {"begin", {16, 2, 14}, false},
     {"tick", {15, 14, 18}, false},
     {"finish", {15, 14, 17, 20}, false},
+    {"write", {2, 3, 4, 26, 5, 6, 14}, false},
 };
 
 // Prints what was met. Whether every verdict was met that a call can give, of those that have to be.
-bool report(const Met &met, bool all_sheets, bool all_runs) {
+bool report(const Met &met, bool all_sheets, bool all_runs, bool all_writes) {
     bool all = true;
     for (size_t call = 0; call < call_count; call++) {
         const auto &expected = expected_of[call];
         std::set<uint32_t> verdicts;
-        if (call < begin ? all_sheets : all_runs) {
+        if (call < begin ? all_sheets : call < write_sheet ? all_runs : all_writes) {
             verdicts = {0};
             if (expected.verdict_1) verdicts.insert(1);
             for (uint32_t refusal : expected.refusals) verdicts.insert(256 + refusal);
@@ -154,10 +156,13 @@ bool report(const Met &met, bool all_sheets, bool all_runs) {
     std::cout << "accepted sheets with leasts: " << met.leasts << ", of these with N = 64 and R = 512: " << met.large_leasts << "; lists refused 13 only by entries below their leasts: " << met.below_least << "\n";
     std::cout << "reports of one record that clashes: " << met.one_clash << ", of several: " << met.some_clash << ", of 40 or more: " << met.many_clash << "; the longest: " << met.most_clash << "; of sheets with R = 512: " << met.large_clash << "\n";
     std::cout << "runs of a plan: " << met.proper_runs << ", with leasts: " << met.least_runs << ", steps of these that finished at exactly their least: " << met.just_long << "; to their end: " << met.ended_runs << ", starts compared: " << met.started << "; most calls in one run: " << met.fullest << "\n";
+    std::cout << "sheets written with no byte to spare: " << met.just_room << ", without some duration of 0: " << met.left_out << ", their records in another order: " << met.reordered << "; the longest: " << met.longest_written << " bytes; refused for one byte: " << met.one_short
+              << ", for a list: " << met.short_lists << "; sheets written again: " << met.again << ", shorter: " << met.again_shorter << "\n";
     if (all_sheets && (met.large_loose == 0 || met.longest != longest_sheet || met.heaviest != largest_offset)) all = false;
     if (all_sheets && (met.large_leasts == 0 || met.below_least == 0)) all = false;
     if (all_sheets && (met.one_clash == 0 || met.some_clash == 0 || met.many_clash == 0 || met.large_clash == 0)) all = false;
     if (all_runs && (met.ended_runs == 0 || met.least_runs == 0 || met.just_long == 0)) all = false;
+    if (all_writes && (met.just_room == 0 || met.left_out == 0 || met.reordered == 0 || met.longest_written != longest_sheet || met.one_short == 0 || met.short_lists == 0 || met.again_shorter == 0)) all = false;
     return all;
 }
 
@@ -165,9 +170,9 @@ int fuzz(const Options &options) {
     auto began = std::chrono::steady_clock::now();
     auto seconds = [&] { return std::chrono::duration<double>(std::chrono::steady_clock::now() - began).count(); };
     Examiner examiner;
-    uint64_t tried[3] = {};
-    for (uint64_t kind : {sheet_kind, run_kind}) {
-        uint64_t count = kind == sheet_kind ? options.sheets : options.runs;
+    uint64_t tried[4] = {};
+    for (Kind kind : {sheet_kind, run_kind, write_kind}) {
+        uint64_t count = kind == sheet_kind ? options.sheets : kind == run_kind ? options.runs : options.writes;
         uint64_t from = count / options.parts * (options.part - 1), to = options.part == options.parts ? count : count / options.parts * options.part;
         for (uint64_t number = from; number < to; number++) {
             try {
@@ -180,11 +185,11 @@ int fuzz(const Options &options) {
             if (tried[kind] % 100000 == 0) std::fprintf(stderr, "%s %" PRIu64 ", %.0f s\n", name(kind), number + 1, seconds());
         }
     }
-    bool all = report(examiner.met, tried[sheet_kind] >= Options().sheets, tried[run_kind] >= Options().runs);
+    bool all = report(examiner.met, tried[sheet_kind] >= Options().sheets, tried[run_kind] >= Options().runs, tried[write_kind] >= Options().writes);
     std::cout << "seed " << options.seed;
     if (options.parts > 1) std::cout << ", part " << options.part << " of " << options.parts;
-    std::cout << ": " << tried[sheet_kind] << " sheets and " << tried[run_kind] << " runs, each with the guard pages past the end and before the start: ";
-    std::cout << (all ? "no difference" : "no difference, but not every verdict, not the largest answers, not every kind of report or nothing at a least was met");
+    std::cout << ": " << tried[sheet_kind] << " sheets, " << tried[run_kind] << " runs and " << tried[write_kind] << " writes, each with the guard pages past the end and before the start: ";
+    std::cout << (all ? "no difference" : "no difference, but not every verdict, not the largest answers, not every kind of report, nothing at a least or not every kind of writing was met");
     std::cout << ", " << int(seconds() + 0.5) << " s" << std::endl;
     return all ? 0 : 1;
 }
@@ -210,7 +215,7 @@ int repeat(const Options &options) {
         print_failure(options.seed, options.one_kind, options.one_number, failure);
         return 1;
     }
-    report(examiner.met, false, false);
+    report(examiner.met, false, false, false);
     return 0;
 }
 
@@ -227,7 +232,7 @@ int try_bytes(const Options &options) {
         std::cout << "FAILED: " << failure.what << "\n";
         return 1;
     }
-    report(examiner.met, false, false);
+    report(examiner.met, false, false, false);
     return 0;
 }
 
@@ -245,6 +250,7 @@ Options options_of(int argc, char **argv) {
         if (option == "--seed") options.seed = std::stoull(word);
         else if (option == "--sheets") options.sheets = std::stoull(word);
         else if (option == "--runs") options.runs = std::stoull(word);
+        else if (option == "--writes") options.writes = std::stoull(word);
         else if (option == "--corpus") options.corpus = word;
         else if (option == "--part") {
             options.part = std::stoull(word);
@@ -252,8 +258,9 @@ Options options_of(int argc, char **argv) {
             if (options.part < 1 || options.part > options.parts) throw std::invalid_argument(word);
         } else if (option == "--case") {
             const std::string kind = word.substr(0, word.find(':'));
-            if (kind != "sheet" && kind != "run") throw std::invalid_argument(word);
-            options.one_kind = kind == "sheet" ? sheet_kind : run_kind;
+            for (Kind known : {sheet_kind, run_kind, write_kind})
+                if (kind == name(known)) options.one_kind = known;
+            if (!options.one_kind) throw std::invalid_argument(word);
             options.one_number = std::stoull(word.substr(kind.size() + 1));
         } else if (option == "--bytes") {
             for (size_t at = 0; at < word.size(); at += 2) options.bytes.push_back(uint8_t(std::stoul(word.substr(at, 2), nullptr, 16)));
@@ -270,8 +277,8 @@ int main(int argc, char **argv) {
     try {
         options = options_of(argc, argv);
     } catch (std::logic_error &) {
-        std::cerr << "usage: tests/fuzz [--seed SEED] [--sheets COUNT] [--runs COUNT] [--part I/K]\n"
-                     "       tests/fuzz [--seed SEED] --case sheet:NUMBER|run:NUMBER\n"
+        std::cerr << "usage: tests/fuzz [--seed SEED] [--sheets COUNT] [--runs COUNT] [--writes COUNT] [--part I/K]\n"
+                     "       tests/fuzz [--seed SEED] --case sheet:NUMBER|run:NUMBER|write:NUMBER\n"
                      "       tests/fuzz --bytes HEX\n"
                      "       tests/fuzz --coverage SECONDS\n";
         return 2;

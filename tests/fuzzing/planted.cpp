@@ -8,13 +8,13 @@ namespace {
 volatile uint32_t seen;
 
 template <class Change> Planted in_sheets(const char *fault, const char *noticed, Change change) {
-    Planted planted{fault, noticed, {}, false};
+    Planted planted{fault, noticed, {}, sheet_kind};
     change(planted.calls);
     return planted;
 }
 
 template <class Change> Planted in_runs(const char *fault, const char *noticed, Change change) {
-    Planted planted{fault, noticed, {}, true};
+    Planted planted{fault, noticed, {}, run_kind};
     change(planted.calls);
     return planted;
 }

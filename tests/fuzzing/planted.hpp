@@ -9,7 +9,8 @@ struct Planted {
     const char *fault;
     const char *noticed; // a part of what is said of it
     Calls calls;
-    bool in_runs; // whether runs are to notice it; else sheets
+    Kind kind; // of the cases that are to notice it
 };
 
 std::vector<Planted> planted_faults();
+std::vector<Planted> planted_in_writes();

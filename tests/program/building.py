@@ -1,5 +1,5 @@
 """How ./standplan comes by its program, in small clones of this repository with an rt that proves nothing: progress, log, lock, age, statuses; and clones
-that cannot be written to. tools/library says that it builds."""
+that cannot be written to. tools/library says that it builds; a text needs it, and what is wrong with the text is said before."""
 import os
 import pty
 import shutil
@@ -42,9 +42,9 @@ def check(found, wanted, what):
 class Clone:
     def __init__(self, place):
         self.at, self.tools, self.calls = place / "clone", place / "bin", place / "calls"
-        for folder in ("crates/ground/src", ".ci", "docs", "tools"):
+        for folder in ("crates/ground/src", ".ci", "docs", "tools", "bindings/python"):
             (self.at / folder).mkdir(parents=True)
-        for name in ("standplan", "VERSION", ".ci/toolchain", "docs/REFUSALS.md", "tools/sheet", "tools/sheets.py", "tools/library"):
+        for name in ("standplan", "VERSION", ".ci/toolchain", "docs/REFUSALS.md", "tools/sheet", "tools/sheets.py", "tools/library", "bindings/python/standplan.py"):
             shutil.copy(ROOT / name, self.at / name)
         (self.at / "crates.txt").write_text("# Crates.\nground:\nwalls: ground\nroof: walls ground\nstandplan: walls io libc   # the program\n")
         (self.at / "crates/ground/src/lib.rt").touch()
@@ -201,8 +201,24 @@ def library(place):
     """With an rt that fails at once, what tools/library says comes first."""
     clone = Clone(place)
     (clone.tools / "rt").write_text("#!/bin/sh\necho nothing is proved\nexit 1\n")
+    first = "tools/library: proving and building the library first, which can take some minutes\nnothing is proved\n"
     status, printed, said = clone.ran(script="tools/library")
-    check((status != 0, printed, said), (True, b"", "tools/library: proving and building the library first, which can take some minutes\nnothing is proved\n"), "tools/library")
+    check((status != 0, printed, said), (True, b"", first), "tools/library")
+    # The bytes of a text are the library's; a text that is none needs no library.
+    text, wrong = ROOT / "examples/stand.text", place / "wrong"
+    wrong.write_text("step 0 open\nstep 2 open\n")
+    check(clone.ran(text), (3, b"", first + "standplan: the library could not be built\n"), "a text without a library")
+    check(clone.ran("bytes", text, script="tools/sheet"), (3, b"", first + "sheet: the library could not be built\n"), "tools/sheet without a library")
+    fault = f"{wrong}: line 2: step 2 is here, and step 1 is missing\n"
+    check((clone.ran(wrong), clone.ran("bytes", wrong, script="tools/sheet")), ((1, b"", f"standplan: {fault}"), (1, b"", fault)), "a text that is no sheet")
+    # With the library there, the text is planned.
+    built = clone.at / "target/staticlib"
+    for name in ("libstandplan.a", "libstandplan.so"):
+        shutil.copy(ROOT / "target/staticlib" / name, built / name)
+        later = time.time() + (1 if name.endswith("a") else 2)
+        os.utime(built / name, (later, later))
+    (clone.tools / "rt").write_text(RT)
+    check(clone.ran(text), (0, PLAN, NOT_BUILT + FIRST + PROGRESS), "a text with a library")
 
 
 if __name__ == "__main__":

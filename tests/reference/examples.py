@@ -1,12 +1,14 @@
-"""The marked and unmarked examples of document 01 as tests, its order of refusals, and worked sheets of requests L1, L3, L6,
-L11 and L14."""
+"""The marked and unmarked examples of document 01 as tests, its order of refusals, and worked sheets of requests L1, L3, L4,
+L6, L11 and L14."""
 from __future__ import annotations
 
 import random
 
 import container
+import parts
 import planner as p
 import runs
+from writer import Part, write
 
 NO = p.UNDECIDED
 NONE = [0] * 64                # no least durations
@@ -899,6 +901,134 @@ def test_clash_limits() -> None:
         full = container.circle_of_all(rng, kind, 512)
         assert full[1:3] == b"\x00\x02" and p.judge(full, True) == ("refused", kind)
         assert p.clashes(full, [8] * 512)[0] == ("ok", 64 if kind == 10 else 63)
+
+
+# Request L4. The stand sheet from its parts, and the parts of a sheet of two steps.
+STAND_STEPS = [Part(), Part(3), Part(), Part(2), Part(1)]
+STAND_RECORDS = [p.Record(i, j, True, None, 2 if i == 3 else None) for i, j in ((3, 4), (1, 4), (0, 2), (2, 3), (0, 1))]
+PAIR = [Part(), Part()]
+
+
+def written(steps: list[Part], records: list[p.Record]) -> str:
+    """The bytes written, in hexadecimal: with just enough room, and with more, which stays as lent; a byte less is 14."""
+    n, r = len(steps), len(records)
+    (kind, size), after = write(n, steps, r, records, [77] * 6000)
+    assert kind == "ok" and after[size:] == [77] * (6000 - size)
+    assert write(n, steps, r, records, [5] * size) == (("ok", size), after[:size])
+    assert write(n, steps, r, records, [5] * (size - 1)) == (("refused", 14), [5] * (size - 1))
+    return bytes(after[:size]).hex(" ")
+
+
+def refused_write(number: int, steps: list[Part], records: list[p.Record], n: int | None = None, r: int | None = None) -> bool:
+    """Whether the parts are refused so, with no room, little and plenty, which stay as lent; n, r: other counts than the lists'."""
+    n, r = len(steps) if n is None else n, len(records) if r is None else r
+    return all(write(n, steps, r, records, list(range(size))) == (("refused", number), list(range(size))) for size in (0, 4, 6000))
+
+
+def on(i: int, j: int, after: bool = False, **fields: int) -> p.Record:
+    """A record with these fields alone."""
+    return p.Record(i, j, after, *(fields.get(name) for name in parts.NAMES))
+
+
+def test_write_stand() -> None:
+    """Document 01's stand sheet, its records in any order."""
+    assert written(STAND_STEPS, STAND_RECORDS) == STAND.hex(" ")
+    assert written(STAND_STEPS, STAND_RECORDS[::-1]) == written(STAND_STEPS, sorted(STAND_RECORDS, key=str)) == STAND.hex(" ")
+    assert len(STAND) == 31 and write(5, STAND_STEPS, 5, STAND_RECORDS, [9] * 33) == (("ok", 31), list(STAND) + [9, 9])
+    assert write(5, STAND_STEPS, 5, STAND_RECORDS, [9] * 30) == (("refused", 14), [9] * 30)
+    assert p.standplan_text(bytes.fromhex(written(STAND_STEPS, STAND_RECORDS))) == STAND_TEXT
+    assert written([Part()], []) == "01 00 00 01"
+    # Rising by i, then by j, as numbers; both ways round are two pairs.
+    steps = [Part()] + [Part(1)] * 20
+    rising = bytes.fromhex(written(steps, [on(10, 2, True), on(2, 10, True), on(2, 9, True), on(1, 20, True), on(10, 1, True)]))
+    assert rising[-15:].hex(" ") == "01 01 14 01 02 09 01 02 0a 01 0a 01 01 0a 02"
+
+
+def test_write_fields() -> None:
+    """A fixed 0 is left out; any other field is kept, 0 or not, low byte first."""
+    assert written([Part(), Part(0), Part(1), Part(256), Part(65535)], []) == "05 00 00 01 00 02 01 00 02 00 01 02 ff ff"
+    assert written([Part(), Part(), Part(least=0), Part(least=8), Part(least=513)], []) == \
+        "05 00 00 01 01 05 00 00 05 08 00 05 01 02"
+    for record, bits in ((on(0, 1, True), "01 00 01"), (on(0, 1, at_least=0), "02 00 01 00 00"),
+                         (on(1, 0, at_most=0), "04 01 00 00 00"),
+                         (on(0, 1, True, gap=0), "09 00 01 00 00"), (on(0, 1, True, from_end=0), "11 00 01 00 00"),
+                         (on(0, 1, at_least=258, at_most=772), "06 00 01 02 01 04 03"),
+                         (on(0, 1, True, at_least=1, at_most=2, gap=3, from_end=4), "1f 00 01 01 00 02 00 03 00 04 00"),
+                         (on(0, 1, True, gap=6, from_end=5), "19 00 01 06 00 05 00")):
+        assert written(PAIR, [record]) == "02 01 00 01 01 " + bits
+    # A sheet read and written again: two bytes less for each fixed 0 that it has written out, the least of 0 stays.
+    sheet = bytes.fromhex("04 02 00 01 02 00 00 05 00 00 02 00 00 0b 00 01 00 00 00 00 04 03 02 00 00")
+    assert written(*parts.taken_apart(sheet)) == "04 02 00 01 00 05 00 00 00 0b 00 01 00 00 00 00 04 03 02 00 00"
+    assert p.read(sheet) == p.read(bytes.fromhex(written(*parts.taken_apart(sheet))))
+    # Written though it is then 8, or 10: only the parts are judged.
+    assert p.judge(bytes.fromhex(written(PAIR, [on(1, 0, True), on(0, 1, True)])), True) == ("refused", 8)
+    assert p.judge(bytes.fromhex(written(PAIR, [on(0, 1, at_least=5, at_most=4)])), True) == ("refused", 10)
+
+
+def test_write_refused() -> None:
+    """Each refusal of the parts."""
+    after = [on(0, 1, True)]
+    assert refused_write(2, PAIR, after, n=0) and refused_write(2, [], []) and refused_write(2, [Part()] * 65, []) and \
+        refused_write(2, PAIR, after, n=65)
+    assert refused_write(3, PAIR, after, r=513) and refused_write(3, PAIR, after, r=65535) and refused_write(3, PAIR, after * 513)
+    for start in (Part(0), Part(7), Part(least=0), Part(least=7), Part(0, 0)):
+        assert refused_write(4, [start, Part()], after) and refused_write(4, [start], [])
+    for ticks, least in ((0, 0), (5, 0), (0, 5), (5, 5)):
+        assert refused_write(4, PAIR + [Part(ticks, least)], after)
+    assert refused_write(4, PAIR, [on(0, 1)])
+    for fields in ({}, {"at_least": 3}, {"at_most": 3}, {"at_least": 3, "at_most": 3}):
+        assert refused_write(4, PAIR, [on(0, 1, gap=0, **fields)]) and refused_write(26, PAIR, [on(0, 1, from_end=0, **fields)])
+        assert refused_write(4, PAIR, [on(0, 1, gap=2, from_end=2, **fields)])
+    for i, j in ((0, 2), (2, 0), (2, 2), (0, 0), (1, 1), (255, 1), (0, 64)):
+        assert refused_write(5, PAIR, [on(i, j, True)])
+    three = [on(0, 1, True), on(1, 0, at_most=9), on(1, 2, True)]
+    steps = PAIR + [Part(4)]
+    for again in three + [on(0, 1, at_least=4), on(1, 0, True), on(1, 2, at_most=0)]:
+        for at in range(4):
+            assert refused_write(6, steps, three[:at] + [again] + three[at:])
+    # 14: fewer steps or records than their counts.
+    assert refused_write(14, PAIR, after, n=3) and refused_write(14, PAIR, after, r=2) and refused_write(14, [], [], n=1)
+    assert refused_write(14, PAIR, [], r=512) and refused_write(14, [], [on(0, 63, True)], n=64)
+    # More of them are not looked at.
+    wrong = [on(0, 1), on(0, 1, gap=3), on(0, 1, from_end=3), on(5, 5, True), on(0, 1, True)]
+    assert write(2, PAIR + [Part(3, 3)], 1, after + wrong, [9] * 9) == (("ok", 8), [2, 1, 0, 1, 1, 1, 0, 1, 9])
+    assert write(1, PAIR, 0, wrong, [9] * 5) == (("ok", 4), [1, 0, 0, 1, 9])
+
+
+def test_write_order() -> None:
+    """2, 3, 4, 26, 5, 6, 14, over the whole of the parts, wherever the faults stand."""
+    records = {4: [on(0, 1)], 26: [on(1, 0, from_end=3)], 5: [on(0, 9, True)], 6: [on(2, 1, True), on(2, 1, at_most=3)]}
+    order = [2, 3, 4, 26, 5, 6, 14]
+    for faults in range(1, 128):
+        there = [number for bit, number in enumerate(order) if faults >> bit & 1]
+        parts_there = [record for number in there for record in records.get(number, [])]
+        n, r = 66 if 2 in there else 3, 513 if 3 in there else len(parts_there)
+        for lent in (parts_there, parts_there[::-1]):
+            if 14 not in there or n > 64 or r > 512:
+                more = lent + [on(1, 2, True)]
+                assert write(n, PAIR + [Part()] * (n - 2), r, more, [1] * 6000) == (("refused", there[0]), [1] * 6000)
+            else:                                  # a short list of steps, of records, and a short buffer
+                assert refused_write(there[0], PAIR, lent, n=n) and refused_write(there[0], PAIR + [Part()], lent, r=r + 1)
+                assert write(n, PAIR + [Part()], r, lent, [1] * 5) == (("refused", there[0]), [1] * 5)
+    # By number, not as a reader meets them: R before what is said of the steps, the steps before the records.
+    assert refused_write(3, [Part(1)], [], r=513) and refused_write(2, [Part(1)], [], n=65, r=513)
+    assert refused_write(4, [Part(), Part(1, 1)], [on(5, 5, from_end=1)] * 2, n=2)
+    # Of short lists what is there is judged, against N as given.
+    assert refused_write(4, [Part(1)], [], n=64, r=9) and refused_write(26, [], [on(0, 1, from_end=1)], n=2, r=9)
+    assert refused_write(5, [Part()], [on(0, 2, True)], n=2, r=9) and refused_write(6, [], [on(0, 1, True)] * 2, n=2, r=9)
+
+
+def test_write_limits() -> None:
+    """64 steps, 512 records and the longest sheets."""
+    rng = random.Random(1)
+    for sheet in container.longest_least_sheets(rng) + [container.longest_sheet(rng, gap=True), container.heaviest_sheet()]:
+        steps, records = parts.taken_apart(sheet)
+        rng.shuffle(records)
+        assert written(steps, records) == sheet.hex(" ")
+    full = [on(i, j, True) for i in range(23, -1, -1) for j in range(24) if i != j][:512]
+    sheet = bytes.fromhex(written([Part()] * 64, full))
+    assert sheet[:3] == b"\x40\x00\x02" and len(sheet) == 3 + 64 + 3 * 512 and p.judge(sheet, True) == ("refused", 8)
+    assert refused_write(6, [Part()] * 64, full[:511] + full[:1]) and refused_write(3, [Part()] * 64, full + full[:1])
 
 
 if __name__ == "__main__":

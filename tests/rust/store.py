@@ -3,6 +3,7 @@
 data/answers.txt: for sheets of every verdict a line for the sheet, then lines for what is asked of it, for what a run of it is begun with, and for the records
 that clash.
 data/runs.txt: runs, by lines that set the table or the state, and lines for calls, with the answer and the state after it.
+data/parts.txt: parts of sheets to be written: the counts of steps and records and the bytes of room, the steps, the records, the answer, and the bytes written.
 Fields are parted by semicolons; '-' is the number for undecided.
 """
 import random
@@ -13,14 +14,17 @@ from pathlib import Path
 sys.path.insert(0, str(Path(__file__).parent.parent / "reference"))
 import examples  # noqa: E402
 import generate  # noqa: E402
+import parts as apart  # noqa: E402
 import planner as p  # noqa: E402
 import runs as drawn  # noqa: E402
+import writer  # noqa: E402
 
 EACH = 4                       # sheets for each verdict
 EACH_FINISH = 2                # the same with limits from the end of a step
 EACH_LOOSE = 1                 # the same with steps that no forward link enters
 EACH_LEAST = 2                 # the same with least durations
 EACH_CLASH = 2                 # the same with records that clash, for each length of the report
+EACH_PARTS = 20                # parts for each answer of the writer
 
 
 def words(numbers):
@@ -285,9 +289,77 @@ def runs():
     yield from jumping_runs(chosen_least() * 2)
 
 
+def step_word(part):
+    """`open`, `open/8`, `3`; `3/8` for a fixed step with a least."""
+    return ("open" if part.ticks is None else str(part.ticks)) + ("" if part.least is None else f"/{part.least}")
+
+
+def link_word(record):
+    """The pair, then a letter for each link, with its number: `3,4,a,m2`."""
+    fields = zip("lmgf", writer.fields_of(record))
+    return ",".join([f"{record.i},{record.j}", *(["a"] if record.after else []), *(f"{letter}{number}" for letter, number in fields if number is not None)])
+
+
+def written(n, steps, r, records, room):
+    """The line of parts that are written to a buffer of so many bytes."""
+    verdict, after = writer.write(n, steps, r, records, [0] * room)
+    data = bytes(after[:verdict[1]]).hex() if verdict[0] == "ok" else ""
+    return f"write {n} {r} {room}; {' '.join(map(step_word, steps))}; {' '.join(map(link_word, records))}; {words_of(verdict)}; {data}"
+
+
+def shortened(sheet):
+    """A sheet that is read, each fixed duration of 0 left out."""
+    found, at = sheet[:3], 3
+    for _ in range(sheet[0]):
+        size = 3 if sheet[at] & 6 else 1
+        found += b"\0" if sheet[at:at + 3] == b"\2\0\0" else sheet[at:at + size]
+        at += size
+    return found + sheet[at:]
+
+
+def parts_of_sheets(rng):
+    """Each sheet of data/answers.txt that is read, taken apart, its records shuffled: written it is the sheet again, but for durations of 0; and 14 with a byte
+    of room too few."""
+    for sheet in chosen() + chosen_finish() + chosen_loose() + chosen_least() + chosen_clash():
+        if p.read(sheet)[0] == "ok":
+            steps, records = apart.taken_apart(sheet)
+            records = rng.sample(records, len(records))
+            n, r, wanted = len(steps), len(records), shortened(sheet)
+            line = written(n, steps, r, records, len(wanted) + rng.randint(0, 2))
+            assert line.endswith(f"; ok {len(wanted)}; {wanted.hex()}")
+            yield line
+            if len(sheet) < 60:
+                yield written(n, steps, r, records, len(wanted) - 1)
+
+
+def most_parts():
+    """As many steps and records as there may be, and one more of each; the longest sheet."""
+    pairs = [(i, j) for i in range(64) for j in range(64) if i != j]
+    for n, r in ((64, 0), (65, 0), (64, 512), (64, 513), (65, 513)):
+        yield written(n, [writer.Part()] * n, r, [p.Record(i, j, True, None, None) for i, j in pairs[r - 1::-1] if r], 5825)
+    full = [p.Record(i, j, True, *[65535] * 4) for i, j in pairs[:512]]
+    for room in (5825, 5824):
+        yield written(64, [writer.Part()] + [writer.Part(least=65535)] * 63, 512, full, room)
+
+
+def parts():
+    """The lines of data/parts.txt: those of sheets, as many as there may be, then random ones, a few for each answer, of lists as long as their counts and not."""
+    rng, counts = random.Random(3), {}
+    yield from parts_of_sheets(rng)
+    yield from most_parts()
+    for _ in range(20000):
+        n, steps, r, records, room = apart.random_parts(rng)
+        verdict = writer.write(n, steps, r, records, [0] * room)[0]
+        kind = verdict if verdict[0] == "refused" else "ok", (len(steps), len(records)) == (n, r)
+        if counts.get(kind, 0) < EACH_PARTS and len(steps) <= 12 and len(records) <= 20:
+            counts[kind] = counts.get(kind, 0) + 1
+            yield written(n, steps, r, records, room)
+    assert len(counts) == 15, counts       # each answer with such lists and with others; 3 only with lists that are shorter
+
+
 def main():
     data = Path(__file__).parent / "data"
-    for name, lines in (("answers.txt", answers()), ("runs.txt", runs())):
+    for name, lines in (("answers.txt", answers()), ("runs.txt", runs()), ("parts.txt", parts())):
         (data / name).write_text("".join(line + "\n" for line in lines))
 
 

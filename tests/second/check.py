@@ -1,9 +1,10 @@
-"""Compares the second planner and the second runner with the reference: python3 check.py LIBRARY SEED COUNT [KIND]
+"""Compares the second planner, the second runner and the second writer with the reference: python3 check.py LIBRARY SEED COUNT [KIND]
 
 COUNT sheets of the kind, finish (limits from the finish), gap (gaps after the finish), loose (steps that follow nothing), least (least durations) or clash
 (records that clash), and the largest ones of it; without a kind, COUNT sheets with neither limit from the finish nor gap and COUNT of the kind finish. Of each:
 judging with and without waits, listing waits, planning, starts for one to three lists, what a run is begun with, and the records that clash for several lengths
 of the list that is lent, verdicts and every lent number. Of each that is accepted: a random run, verdicts, maps and every part of the state, before and after.
+With write, COUNT random parts of sheets, with faults: the verdict, every byte of the buffer and the length.
 The first difference ends the run with status 1."""
 import ctypes as c
 import pathlib
@@ -11,11 +12,15 @@ import random
 import sys
 from collections import Counter
 
-sys.path.insert(0, str(pathlib.Path(__file__).resolve().parent.parent / "reference"))
+tests = pathlib.Path(__file__).resolve().parent.parent
+sys.path[:0] = [str(tests / "reference"), str(tests / "writing")]
 import container  # noqa: E402
+import encode  # noqa: E402
 import generate  # noqa: E402
+import parts  # noqa: E402
 import planner  # noqa: E402
 import runs  # noqa: E402
+import writer  # noqa: E402
 
 library = c.CDLL(sys.argv[1])
 LENT = container.LENT
@@ -169,6 +174,23 @@ def check(rng: random.Random, sheet: bytes, seen: Counter) -> None:
         check_run(rng, sheet, seen, same)
 
 
+def check_write(rng: random.Random, seen: Counter) -> None:
+    """Random parts, written into a buffer of so many bytes."""
+    n, steps_there, r, records, room = parts.random_parts(rng)
+    n, r = encode.count(rng, n, 64), encode.count(rng, r, 512)
+    given_steps, given_records = encode.numbers(rng, steps_there, records)
+    before = [rng.randrange(256) for _ in range(room)]
+    buffer, length = lent(before, c.c_uint8), c.c_size_t(LENT)
+    verdict = library.second_write(c.c_size_t(n), lent(given_steps, c.c_uint16), c.c_size_t(len(given_steps)), c.c_size_t(r), lent(given_records, c.c_uint16),
+                                   c.c_size_t(len(given_records)), buffer, c.c_size_t(room), c.byref(length))
+    (kind, answer), expected = writer.write(n, steps_there, r, records, before)
+    seen["writes", 0 if kind == "ok" else 256 + answer] += 1
+    mine, reference = (verdict, length.value, list(buffer)[:room]), (*((0, answer) if kind == "ok" else (256 + answer, LENT)), expected)
+    if mine != reference:
+        print(f"write differs on n {n}, steps {given_steps}, r {r}, records {given_records}, room {room}\nsecond    {mine}\nreference {reference}", file=sys.stderr)
+        sys.exit(1)
+
+
 def draw(rng: random.Random, kind: str, seed: int, count: int) -> list[bytes]:
     """The largest sheets of a kind, and so many others."""
     if kind == "clash":
@@ -195,8 +217,14 @@ def main() -> None:
     said = {"": "", "finish": " with limits from the finish", "gap": " with gaps", "loose": " with steps that follow nothing",
             "least": " with least durations", "clash": " with records that clash"}
     kinds = sys.argv[4:] or ["", "finish"]
+    if kinds == ["write"]:
+        rng, seen = random.Random(seed), Counter()
+        for _ in range(count):
+            check_write(rng, seen)
+        print(f"parts of {count} sheets, no difference; verdicts {given(seen, 'writes')}")
+        return
     if not set(kinds) <= set(said):
-        sys.exit("a kind is finish, gap, loose, least or clash")
+        sys.exit("a kind is finish, gap, loose, least, clash or write")
     for kind in kinds:
         rng, seen = random.Random(seed), Counter()
         sheets = draw(rng, kind, seed, count)

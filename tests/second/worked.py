@@ -1,6 +1,7 @@
-"""Sheets with least durations, worked out by hand from document 01 and requests L6 and L11, a run, and records that clash (L14): python3 worked.py LIBRARY
+"""Sheets with least durations, worked out by hand from document 01 and requests L6 and L11, a run, records that clash (L14), and parts that are written (L4):
+python3 worked.py LIBRARY
 
-LIBRARY is made of second.cpp and runner.cpp. The first difference ends the run with status 1."""
+LIBRARY is made of second.cpp, runner.cpp and writer.cpp. The first difference ends the run with status 1."""
 import ctypes as c
 import sys
 
@@ -73,6 +74,20 @@ def clashes(data: bytes, room: int = 512):
         return verdict - 256
     assert list(numbers)[count.value:] == [LENT] * (512 - count.value)
     return list(numbers)[:count.value]
+
+
+def written(steps_there: list[tuple], records: list[tuple], room: int = 5825, n: int | None = None, r: int | None = None):
+    """The bytes of the sheet of these steps, step 0 among them, each its map and ticks, and records, each seven numbers; or the refusal."""
+    given = [(c.c_uint16 * max(1, len(flat)))(*flat) for flat in ([x for part in parts for x in part] for parts in (steps_there, records))]
+    counts = len(steps_there) if n is None else n, len(records) if r is None else r
+    buffer, length = (c.c_uint8 * 5900)(*[77] * 5900), c.c_size_t(LENT)
+    verdict = library.second_write(c.c_size_t(counts[0]), given[0], c.c_size_t(2 * len(steps_there)), c.c_size_t(counts[1]), given[1],
+                                   c.c_size_t(sum(map(len, records))), buffer, c.c_size_t(room), c.byref(length))
+    if verdict:
+        assert verdict >= 256 and (list(buffer), length.value) == ([77] * 5900, LENT)
+        return verdict - 256
+    assert list(buffer)[length.value:] == [77] * (5900 - length.value)
+    return bytes(buffer)[:length.value]
 
 
 def same(what: str, given, wanted) -> None:
@@ -304,6 +319,67 @@ def reports() -> None:
     reported("512 records", [still] * 63, links, [k for k, link in enumerate(links) if link in row])
 
 
-for part in (bytes_read, plans, limits_from_the_finish, lists, runs, no_clashes, reports):
+def parts_written() -> None:
+    """What is written, and rising; which fields are left out."""
+    start, hand = (1, 9), (1, 4)                        # the ticks of an open step are not looked at
+    links = [(5, 3, 4, 9, 2, 9, 9), (1, 2, 3, 9, 9, 9, 9), (1, 0, 1, 0, 0, 0, 0), (1, 0, 2, 9, 9, 9, 9), (1, 1, 4, 9, 9, 9, 9)]
+    stand_bytes = bytes.fromhex("05 05 00 01 02 03 00 01 02 02 00 02 01 00 01 00 01 01 00 02 01 01 04 01 02 03 05 03 04 02 00")
+    for records in (links, links[::-1], sorted(links, key=lambda link: link[1:3])):
+        for room in (5825, len(stand_bytes)):
+            same("stand", written([start, (2, 3), hand, (2, 2), (2, 1)], records, room), stand_bytes)
+        same("stand, a byte too few", written([start, (2, 3), hand, (2, 2), (2, 1)], records, len(stand_bytes) - 1), 14)
+    same("the start", written([start], [], 4), bytes.fromhex("01 00 00 01"))
+    same("the start, no room", written([start], [], 0), 14)
+    same("durations of 0", written([start, (2, 0), (0, 7), (5, 0), (2, 256), (5, 255)], []), bytes.fromhex("06 00 00 01 00 00 05 00 00 02 00 01 05 ff 00"))
+    every = (31, 1, 0, 0, 1, 256, 65535)
+    same("every field, 0 too", written([start, start], [every]), bytes.fromhex("02 01 00 01 01 1f 01 00 00 00 01 00 00 01 ff ff"))
+    same("fields of 0", written([start, start], [(14 | 1, 0, 1, 0, 0, 0, 5), (2, 1, 0, 0, 5, 5, 5)]),
+         bytes.fromhex("02 02 00 01 01 0f 00 01 00 00 00 00 00 00 02 01 00 00 00"))
+    same("by i, then by j", written([start] * 3, [(1, 2, 0, 0, 0, 0, 0), (1, 0, 2, 0, 0, 0, 0), (1, 1, 0, 0, 0, 0, 0), (1, 0, 1, 0, 0, 0, 0)]),
+         bytes.fromhex("03 04 00 01 01 01 01 00 01 01 00 02 01 01 00 01 02 00"))
+    # The longest sheet: 64 steps, all but step 0 with a field, and 512 records with every field.
+    pairs = [(i, j) for i in range(64) for j in range(64) if i != j][:512]
+    longest = written([start] + [(5, 1)] * 63, [(31, i, j, 1, 2, 3, 4) for i, j in reversed(pairs)])
+    same("the longest sheet", longest, sheet([open_step(1)] * 63, [(31, i, j, 1, 2, 3, 4) for i, j in pairs]))
+    same("the longest sheet, its bytes", len(longest), 5825)
+    same("the longest sheet, a byte too few", written([start] + [(5, 1)] * 63, [(31, i, j, 1, 2, 3, 4) for i, j in pairs], 5824), 14)
+
+
+def parts_refused() -> None:
+    """Each fault, and which of two comes first: of the whole of the parts, by number."""
+    start, link, none = (1, 0), (1, 0, 1, 0, 0, 0, 0), (0, 0, 0)
+    two_steps = [start, start]
+
+    def changed(**what) -> tuple:
+        """The record (0, 1) with some of its numbers."""
+        names = ("map", "i", "j", "least", "most", "gap", "finish")
+        return tuple(what.get(name, was) for name, was in zip(names, link))
+
+    for n in (0, 65, 256, 257, 65537, 2**32 + 2, 2**64 - 1):
+        same(f"n {n}", written(two_steps, [none], 0, n=n, r=513), 2)
+    for r in (513, 65536, 2**32, 2**32 + 1, 2**64 - 1):
+        same(f"r {r}", written([(3, 0)], [changed(map=0)], 0, r=r), 3)
+    for wrong in ([(0, 0)], [(2, 0)], [(5, 0)], [start, (3, 0)], [start, (4, 0)], [start, (6, 1)], [start, (7, 1)], [start, (9, 0)], [start, (257, 0)]):
+        same(f"steps {wrong}", written(wrong, [changed(i=9)], 0), 4)
+    for wrong in (0, 8, 10, 12, 14, 24, 26, 28, 30, 32, 33, 64, 128, 255, 256, 257, 65535):
+        same(f"map {wrong}", written(two_steps, [changed(map=16), changed(i=1), link, link, changed(map=wrong)], 0), 4)
+    for wrong in (16, 18, 20, 22):
+        same(f"map {wrong}", written(two_steps, [changed(i=1), link, link, changed(map=wrong)], 0), 26)
+    for wrong in (changed(i=2), changed(j=2), changed(i=1), changed(j=0), changed(i=255), changed(j=256), changed(j=257), changed(i=65535)):
+        same(f"record {wrong}", written(two_steps, [link, link, wrong], 0), 5)
+    for twice in ([link, link], [link, changed(map=4, most=3)], [link, changed(i=1, j=0), link], [changed(i=1, j=0), link, changed(map=2)]):
+        same(f"records {twice}", written(two_steps, twice, 0), 6)
+        same(f"records {twice}, more said than lent", written(two_steps, twice, n=3, r=9), 6)
+    same("(0, 1) and (1, 0)", written(two_steps, [changed(i=1, j=0), link], 14), bytes.fromhex("02 02 00 01 01 01 00 01 01 01 00"))
+    # Lists that are shorter than the counts, or longer: what is past the counts is not looked at.
+    same("a step too few", written(two_steps, [link], n=3), 14)
+    same("a record too few", written(two_steps, [link], r=2), 14)
+    same("a record too few, its last number missing", written(two_steps, [link, changed(i=1, j=0)[:-1]], r=2), 14)
+    same("no step", written([], [], n=1), 14)
+    same("no step, and a fault", written([], [changed(i=1)], n=1), 5)
+    same("more than the counts", written([start, start, (3, 0)], [link, link, none], n=2, r=1), bytes.fromhex("02 01 00 01 01 01 00 01"))
+
+
+for part in (bytes_read, plans, limits_from_the_finish, lists, runs, no_clashes, reports, parts_written, parts_refused):
     part()
 print("worked sheets: as worked out")

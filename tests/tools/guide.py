@@ -1,6 +1,6 @@
-"""The documents for newcomers: each command of docs/GUIDE.md prints what stands under it, the tables of docs/FORMAT.md hold the bytes and the text of the
-examples, the smallest sheets of docs/REFUSALS.md are refused as it says, each stored plan is its sheet's, and files, theorems and contracts that docs/ names
-are there."""
+"""The documents for newcomers: each command of docs/GUIDE.md prints what stands under it, its lines of C, Rust and Python are those of the examples, the tables
+of docs/FORMAT.md hold the bytes and the text of the examples, the smallest sheets of docs/REFUSALS.md and the parts in it are refused as it says, each stored
+plan is its sheet's, and files, theorems and contracts that docs/ names are there."""
 import re
 import subprocess
 import sys
@@ -9,6 +9,7 @@ from stored import ROOT
 
 sys.path.insert(0, str(ROOT / "tools"))
 import sheets  # noqa: E402
+from sheets import standplan  # noqa: E402
 
 
 def printed(command):
@@ -32,6 +33,15 @@ def commands():
     return count
 
 
+def excerpts():
+    """Blocks marked c, rust or python: lines that stand so in an example of that language."""
+    found = re.findall(r"^```(c|rust|python)\n(.*?)^```$", (ROOT / "docs/GUIDE.md").read_text("utf-8"), re.MULTILINE | re.DOTALL)
+    for language, lines in found:
+        path = ROOT / f"examples/write.{dict(c='c', rust='rs', python='py')[language]}"
+        assert lines in path.read_text("utf-8"), f"docs/GUIDE.md: not in {path.name}:\n{lines}"
+    assert [language for language, _ in found] == ["c", "rust", "python"], found
+
+
 def format_tables():
     """The tables with bytes, text and meaning, one for each example that is named in front of it."""
     text = (ROOT / "docs/FORMAT.md").read_text("utf-8")
@@ -41,7 +51,7 @@ def format_tables():
         cells = [[cell.strip(" `") for cell in row.split("|")[1:3]] for row in rows.splitlines()]
         data = (ROOT / f"examples/{name}.sheet").read_bytes()
         assert bytes.fromhex(line) == data, f"docs/FORMAT.md: the bytes of {name}"
-        pieces = [[part.hex(" "), written] for part, written in sheets.pieces(sheets.from_bytes(data))]
+        pieces = [[part.hex(" "), written] for part, written in sheets.pieces(data)]
         assert cells == pieces, f"docs/FORMAT.md: the table of {name}: {cells}, not {pieces}"
 
 
@@ -59,6 +69,23 @@ def smallest():
             said = subprocess.run([ROOT / "tools/explain", *(["--no-waits"] if number == "12" else []), "-"], input=sheet, stdout=subprocess.PIPE).stdout.decode()
             assert said.startswith(f"refused {number}: " if number else "verdict 0 "), f"docs/REFUSALS.md: {data}: {said}"
     assert [number for number, *_ in found] == ["1", "2", "3", "4", "26", "5", "6", "7", "8", "", "10", "11", "28", "12"], found
+
+
+def refused_parts():
+    """The parts in docs/REFUSALS.md that are not written are refused as it says, and the cure of 6 is taken."""
+    two = [standplan.Step(), standplan.Step()]
+    seen = []
+    for number, cells in re.findall(r"^\| `refused (\d+)`, of parts \| (.*) \|$", (ROOT / "docs/REFUSALS.md").read_text("utf-8"), re.MULTILINE):
+        for code in re.findall(r"`(standplan\.write\([^`]*\))`", cells):
+            try:
+                eval(code, {"standplan": standplan, "two": two})
+                assert False, f"docs/REFUSALS.md: {code} is taken"
+            except standplan.Refused as refused:
+                assert str(refused.number) == number, f"docs/REFUSALS.md: {code}: {refused}"
+        seen.append(number)
+        for link in re.findall(r"`(standplan\.Link\([^`]*\))`", cells):
+            standplan.write(two, [eval(link)])
+    assert seen == ["2", "3", "4", "26", "5", "6", "14"], seen
 
 
 def plans():
@@ -93,8 +120,10 @@ def names():
 
 if __name__ == "__main__":
     ran = commands()
+    excerpts()
     format_tables()
     smallest()
+    refused_parts()
     plans()
     found = names()
     print(f"{ran} commands of the guide print what it says; {found} names in the documents are there")

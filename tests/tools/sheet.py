@@ -1,4 +1,5 @@
-"""tools/sheet: every stored sheet goes to text and back; what no sheet can hold is refused, with its line or its byte."""
+"""tools/sheet: every stored sheet goes to text and back, by the library's writer, each fixed duration of 0 left out; what no sheet can hold is refused, with
+its line or its byte."""
 import random
 import re
 import subprocess
@@ -27,8 +28,14 @@ def check(found, wanted, what):
     assert found == wanted, f"{what}: {found!r}, not {wanted!r}"
 
 
+def shortened(data):
+    """A sheet in bytes, each fixed duration of 0 left out."""
+    (counts, _), *rest = sheets.pieces(data)
+    return counts + b"".join(b"\0" if part == b"\2\0\0" else part for part, _ in rest)
+
+
 def round_trips():
-    rng, seen, gaps, leasts = random.Random(1), Counter(), 0, 0
+    rng, seen, gaps, leasts, shorter = random.Random(1), Counter(), 0, 0, 0
     for number, (data, verdict) in enumerate(stored.sheets()):
         what = f"stored sheet {number}, {verdict}"
         if verdict.removeprefix("refused ") in READER:
@@ -38,19 +45,21 @@ def round_trips():
             seen[verdict] += 1
             continue
         sheet = sheets.from_bytes(data)
-        text = sheets.to_text(sheet)
-        check(sheets.to_bytes(sheets.from_text(text.encode())), data, what)
+        text, wanted = sheets.to_text(sheet), shortened(data)
+        check(sheets.to_bytes(sheets.from_text(text.encode())), wanted, what)
         check(sheets.to_text(sheets.from_text(text.encode())), text, what)
-        check(sheets.to_bytes(sheets.from_text(sheets.to_text(sheet, True).encode())), data, f"{what}, shown with its bytes")
+        check(bytes.fromhex("".join(line.rpartition("# ")[2] for line in sheets.shown(data).splitlines())), data, f"{what}, the bytes that are shown")
+        check(sheets.to_bytes(sheets.from_text(sheets.shown(data).encode())), wanted, f"{what}, shown with its bytes")
         lines = text.splitlines()
         rng.shuffle(lines)
-        check(sheets.to_bytes(sheets.from_text("\r\n \n".join(lines).encode())), data, f"{what}, its lines in another order")
+        check(sheets.to_bytes(sheets.from_text("\r\n \n".join(lines).encode())), wanted, f"{what}, its lines in another order")
+        shorter += wanted != data
         seen["sheets"] += 1
         gaps += stored.has_gap(data)
         leasts += stored.has_least(data)
     check({key.removeprefix("refused ") for key in seen} - {"sheets"}, READER, "refusals among the stored sheets")
-    assert gaps and leasts
-    return seen["sheets"], gaps, leasts, seen.total() - seen["sheets"]
+    assert gaps and leasts and shorter
+    return seen["sheets"], gaps, leasts, shorter, seen.total() - seen["sheets"]
 
 
 STEPS = "step 0 open\nstep 1 fixed 3\nstep 2 open\n"
@@ -66,11 +75,11 @@ TEXTS = [
     (STEPS + "step 1 open\n", "line 4: step 1 stands in line 2 already"),
     (STEPS + "step 64 open\n", "line 4: 64 is too large: a sheet has at most 64 steps, and their numbers are at most 63"),
     (STEPS + "step 3\n", f"line 4: a step has a number, then {FORMS}"),
-    *((STEPS + f"step 3 {form}\n", f"line 4: a step is {FORMS}") for form in ("closed", "open 3", "fixed", "fixed 3 4", "open least 8 9", "open least 8 least 9", "open with-field")),
+    *((STEPS + f"step 3 {form}\n", f"line 4: a step is {FORMS}") for form in ("closed", "open 3", "fixed", "fixed 3 4", "open least 8 9", "open least 8 least 9", "open with-field", "fixed 0 with-field")),
     ("step 0 open least 8\n", "line 1: step 0 is the start and has no least"),
     ("step 0 open least 0\n", "line 1: step 0 is the start and has no least"),
     *((STEPS + f"step 3 {form}\n", "line 4: 'least' stands only behind 'open' (refusal 4)")
-      for form in ("fixed 3 least 8", "fixed least 8", "fixed 0 with-field least 8", "least 8", "least 8 open", "fixed 0 least 0")),
+      for form in ("fixed 3 least 8", "fixed least 8", "least 8", "least 8 open", "fixed 0 least 0")),
     (STEPS + "step 3 open least\n", "line 4: 'least' has no number behind it"),
     (STEPS + "step 3 open least 65536\n", "line 4: 65536 is too large: a least is at most 65535"),
     (STEPS + "step 3 open least -1\n", "line 4: '-1' is no number"),
@@ -79,7 +88,6 @@ TEXTS = [
     (STEPS + "step 3 fixed " + "9" * 5000 + "\n", "line 4: " + "9" * 5000 + " is too large: a duration is at most 65535"),
     (STEPS + "step 3 fixed -1\n", "line 4: '-1' is no number"),
     (STEPS + "step 3 fixed ²\n", "line 4: '²' is no number"),
-    (STEPS + "step 3 fixed 1 with-field\n", "line 4: 'with-field' stands behind a duration of 0 only; every other has its field"),
     (STEPS + "stop 3 open\n", "line 4: 'stop' is neither 'step' nor 'link'"),
     (STEPS + "link 0 1\n", f"line 4: a link has two steps, then one or more of {WORDS}"),
     (STEPS + "link 0 1 before\n", f"line 4: 'before' is none of {WORDS}"),
@@ -117,11 +125,11 @@ BYTES = [
     ("02 01 00 01 01 01 02 01", "byte 6: refused 5"), ("02 01 00 01 01 01 00 02", "byte 7: refused 5"), ("02 01 00 01 01 01 01 01", "byte 7: refused 5"),
     ("02 02 00 01 01 01 00 01 01 00 01", "byte 9: refused 6"), ("02 01 00 01 01 04 00 01 05", "byte 9: refused 1"), ("01 00 00 01 00", "byte 4: refused 7"),
 ]
-# A text, and its bytes: the limits, and both forms of a duration of 0, of a gap of 0 and of a least of 0.
+# A text, and its bytes: the limits, and a duration of 0, which is left out, a gap of 0 and a least of 0, which are not.
 TAKEN = [
     ("step 0 open", "01 00 00 01"),
     ("\ufeffstep 0 open # ein Anfang: Größe\n  step  01\tfixed 065535 \n", "02 00 00 01 02 ff ff"),
-    ("step 0 open\nstep 1 fixed 0\nstep 2 fixed 0 with-field\n", "03 00 00 01 00 02 00 00"),
+    ("step 0 open\nstep 1 fixed 0\nstep 2 fixed 1\n", "03 00 00 01 00 02 01 00"),
     ("link 1 0 at-most 65535\nlink 0 1 at-most-from-finish 5 at-most 4 at-least 3 after\nstep 1 open\nstep 0 open\n",
      "02 02 00 01 01 17 00 01 03 00 04 00 05 00 04 01 00 ff ff"),
     ("step 0 open\nstep 1 open\nlink 0 1 at-most-from-finish 5 at-most 4 after gap 6 at-least 3\n", "02 01 00 01 01 1f 00 01 03 00 04 00 06 00 05 00"),
@@ -210,6 +218,7 @@ def command():
         check(sheets.to_text(sheets.from_text(text.read_bytes())), ran("text", path)[1].decode(), text.name)
         check(ran("bytes", given=ran("show", path)[1]), (0, data, ""), path.name)
         check(ran("text", given=data), ran("text", path), path.name)
+    check(ran("show", given=bytes.fromhex("030000010002 0000")), (0, b"# steps 3, links 0  # 03 00 00\nstep 0 open     # 01\nstep 1 fixed 0  # 00\nstep 2 fixed 0  # 02 00 00\n", ""), "durations of 0")
     check(ran("bytes", given=b"step 0 open\nstep 0 open\n"), (1, b"", "standard input: line 2: step 0 stands in line 1 already\n"), "a step twice")
     check(ran("text", given=b"A"), (1, b"", "standard input: byte 0: refused 2: N is 0 or above 64\n"), "no sheet")
     check(ran("text", ROOT / "tests"), (2, b"", f"{ROOT / 'tests'}: Is a directory\n"), "a directory")
@@ -218,11 +227,11 @@ def command():
 
 
 if __name__ == "__main__":
-    there, gaps, leasts, not_there = round_trips()
+    there, gaps, leasts, shorter, not_there = round_trips()
     refusals_and_limits()
     step_maps()
     link_maps()
     longest()
     loose()
     command()
-    print(f"{there} stored sheets go to text and back, {gaps} of them with gaps, {leasts} with leasts, {not_there} are refused as stored; {len(TEXTS)} texts and {len(BYTES)} inputs refused in their place")
+    print(f"{there} stored sheets go to text and back, {gaps} of them with gaps, {leasts} with leasts, {shorter} shorter by durations of 0, {not_there} are refused as stored; {len(TEXTS)} texts and {len(BYTES)} inputs refused in their place")

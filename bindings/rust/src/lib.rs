@@ -26,6 +26,14 @@
 //! let impossible = [3, 2, 0, 1, 1, 1, 6, 0, 1, 2, 0, 1, 0, 1, 1, 2];
 //! assert_eq!(standplan::judge(&impossible, true), Err(standplan::Refusal::NeverKept));
 //! assert_eq!(standplan::clashes(&impossible)?, [0]);
+//!
+//! // A sheet from its parts: step 1 is open and lasts at least 8 ticks, step 2 lasts 2 and starts after step 1 ends, at most 5 ticks after it.
+//! use standplan::{Link, Step};
+//! let steps = [Step::Open, Step::OpenAtLeast(8), Step::Fixed(2)];
+//! let links = [Link::new(1, 2).after().at_most_from_finish(5), Link::new(0, 1).after()];
+//! let written = standplan::write(&steps, &links)?;
+//! assert_eq!(written, [3, 2, 0, 1, 5, 8, 0, 2, 2, 0, 1, 0, 1, 0x11, 1, 2, 5, 0]);
+//! assert_eq!(standplan::starts(&written, true, &[0, 10, 0])?, [0, 0, 10]);
 //! # Ok::<(), standplan::Refusal>(())
 //! ```
 #![warn(missing_docs)]
@@ -71,6 +79,17 @@ mod raw {
             numbers: *mut u32,
             numbers_len: usize,
             count: *mut usize,
+        ) -> u32;
+        pub fn standplan_write(
+            n: usize,
+            steps: *const u16,
+            steps_len: usize,
+            r: usize,
+            records: *const u16,
+            records_len: usize,
+            buffer: *mut u8,
+            buffer_len: usize,
+            length: *mut usize,
         ) -> u32;
         pub fn standplan_begin(
             words: *mut [u64; 4],
@@ -183,7 +202,7 @@ refusals! {
     3 RecordCount "R is above 512"
     4 BadMap "a map that is not allowed or has an unknown bit"
     5 BadPair "i or j is N or more, or i = j"
-    6 BadOrder "the pair does not rise"
+    6 BadOrder "the pair does not rise, or, in parts to be written, comes twice"
     7 Trailing "bytes follow the last record"
     8 Circle "forward links close a circle"
     9 Unreached "retired: no sheet is refused so"
@@ -191,7 +210,7 @@ refusals! {
     11 NotAlwaysKept "for some list of durations no start times keep every link"
     12 WaitsNeeded "waits are needed and the caller did not allow them"
     13 BadDuration "a duration is above 16,777,215 or below its step's least duration, or is not 0 and belongs to step 0 or to a fixed step"
-    14 TooShort "a lent table or list is too short"
+    14 TooShort "a lent table, list or buffer is too short"
     15 NotBegun "no run has begun, or the state's step count is not 1 to 64"
     16 HasBegun "Begin on a run that has begun"
     17 CannotFinish "Finish of a step that is not open, is 0, has not started, or has finished"
@@ -370,6 +389,120 @@ pub fn clashes(sheet: &[u8]) -> Result<Vec<u32>, Refusal> {
 pub fn clashes_into(sheet: &[u8], numbers: &mut [u32], count: &mut usize) -> Result<(), Refusal> {
     match unsafe { raw::standplan_clashes(sheet.as_ptr(), sheet.len(), numbers.as_mut_ptr(), numbers.len(), count) } {
         0 => Ok(()),
+        code => Err(Refusal::from_code(code)),
+    }
+}
+
+/// A step of a sheet that is to be written.
+#[derive(Clone, Copy, Debug, PartialEq, Eq, Hash)]
+pub enum Step {
+    /// The step is open; step 0 is.
+    Open,
+    /// It is open, and lasts at least so many ticks.
+    OpenAtLeast(u16),
+    /// It lasts so many ticks.
+    Fixed(u16),
+}
+
+impl Step {
+    /// Its map and its ticks.
+    const fn numbers(self) -> [u16; 2] {
+        match self {
+            Step::Open => [1, 0],
+            Step::OpenAtLeast(ticks) => [5, ticks],
+            Step::Fixed(ticks) => [2, ticks],
+        }
+    }
+}
+
+/// A link record of a sheet that is to be written, for the pair (i, j): `Link::new(3, 4).after().at_most(2)`.
+#[must_use]
+#[derive(Clone, Copy, Debug, PartialEq, Eq, Hash)]
+pub struct Link {
+    /// The step that is counted from.
+    pub i: usize,
+    /// The step whose start is said.
+    pub j: usize,
+    /// j starts after i ends.
+    pub after: bool,
+    /// j starts at least so many ticks after i starts.
+    pub at_least: Option<u16>,
+    /// j starts at most so many ticks after i starts.
+    pub at_most: Option<u16>,
+    /// The gap of the after link: j starts at least so many ticks after i ends. Without `after` writing is refused 4.
+    pub gap: Option<u16>,
+    /// j starts at most so many ticks after i ends. Without `after` writing is refused 26.
+    pub at_most_from_finish: Option<u16>,
+}
+
+impl Link {
+    /// The record of a pair, as yet with no link.
+    pub const fn new(i: usize, j: usize) -> Link {
+        Link { i, j, after: false, at_least: None, at_most: None, gap: None, at_most_from_finish: None }
+    }
+
+    /// With an after link.
+    pub const fn after(self) -> Link {
+        Link { after: true, ..self }
+    }
+
+    /// With a gap of the after link.
+    pub const fn gap(self, ticks: u16) -> Link {
+        Link { gap: Some(ticks), ..self }
+    }
+
+    /// With an at-least link.
+    pub const fn at_least(self, ticks: u16) -> Link {
+        Link { at_least: Some(ticks), ..self }
+    }
+
+    /// With an at-most link.
+    pub const fn at_most(self, ticks: u16) -> Link {
+        Link { at_most: Some(ticks), ..self }
+    }
+
+    /// With an at-most link from the finish.
+    pub const fn at_most_from_finish(self, ticks: u16) -> Link {
+        Link { at_most_from_finish: Some(ticks), ..self }
+    }
+
+    /// Its map, i, j and its fields. What no byte holds is no step: it is lent as 255.
+    fn numbers(self) -> [u16; 7] {
+        let fields = [(2, self.at_least), (4, self.at_most), (8, self.gap), (16, self.at_most_from_finish)];
+        let map = fields.iter().filter(|(_, field)| field.is_some()).fold(u16::from(self.after), |map, (bit, _)| map | bit);
+        let [at_least, at_most, gap, at_most_from_finish] = fields.map(|(_, field)| field.unwrap_or(0));
+        [map, self.i.min(255) as u16, self.j.min(255) as u16, at_least, at_most, gap, at_most_from_finish]
+    }
+}
+
+/// The bytes of the sheet with these steps and links. The links come in any order and are written rising. A fixed duration of 0 is left out, any other field is
+/// kept, 0 or not. Refusals 2, 3, 4, 26, 5 and 6 (a pair comes twice), the first that holds of all the parts.
+pub fn write(steps: &[Step], links: &[Link]) -> Result<Vec<u8>, Refusal> {
+    let mut buffer = vec![0; MAX_SHEET];
+    let length = write_into(steps, links, &mut buffer)?;
+    buffer.truncate(length);
+    Ok(buffer)
+}
+
+/// The same, into the front of `buffer`; returns how many bytes the sheet has. The rest stays as lent; on a refusal all of it does. Refusal 14 beside those of [`write()`].
+pub fn write_into(steps: &[Step], links: &[Link], buffer: &mut [u8]) -> Result<usize, Refusal> {
+    let operations: Vec<u16> = steps.iter().flat_map(|step| step.numbers()).collect();
+    let records: Vec<u16> = links.iter().flat_map(|link| link.numbers()).collect();
+    let mut length = 0;
+    match unsafe {
+        raw::standplan_write(
+            steps.len(),
+            operations.as_ptr(),
+            operations.len(),
+            links.len(),
+            records.as_ptr(),
+            records.len(),
+            buffer.as_mut_ptr(),
+            buffer.len(),
+            &mut length,
+        )
+    } {
+        0 => Ok(length),
         code => Err(Refusal::from_code(code)),
     }
 }

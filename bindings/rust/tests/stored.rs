@@ -1,11 +1,13 @@
 //! The library's answers against those of the reference planner, stored by tests/rust/store.py.
 use standplan::{
-    clashes, clashes_into, judge, plan, plan_into, starts, starts_into, steps, steps_into, waits, waits_into, Refusal, Run, Verdict, MAX_SHEET, MAX_TABLE, STACK, UNDECIDED,
+    clashes, clashes_into, judge, plan, plan_into, starts, starts_into, steps, steps_into, waits, waits_into, write, write_into, Link, Refusal, Run, Step, Verdict,
+    MAX_RECORDS, MAX_SHEET, MAX_STEPS, MAX_TABLE, STACK, UNDECIDED,
 };
 use std::collections::BTreeSet;
 use std::thread;
 
 const STORED: &str = include_str!("../../../tests/rust/data/answers.txt");
+const PARTS: &str = include_str!("../../../tests/rust/data/parts.txt");
 
 fn sheet_of(hex: &str) -> Vec<u8> {
     (0..hex.len()).step_by(2).map(|i| u8::from_str_radix(&hex[i..i + 2], 16).unwrap()).collect()
@@ -142,6 +144,88 @@ fn stored_answers() {
     assert_eq!(seen.len(), 18, "{seen:?}");
 }
 
+/// `open`, `open/8` or `3`; none for a fixed step with a least, which no [`Step`] is.
+fn step_of(word: &str) -> Option<Step> {
+    let (lasts, least) = word.split_once('/').map_or((word, None), |(lasts, least)| (lasts, Some(least.parse().unwrap())));
+    match (lasts, least) {
+        ("open", None) => Some(Step::Open),
+        ("open", Some(least)) => Some(Step::OpenAtLeast(least)),
+        (ticks, None) => Some(Step::Fixed(ticks.parse().unwrap())),
+        (_, Some(_)) => None,
+    }
+}
+
+/// The pair, then a letter for each link, with its number: `3,4,a,m2`.
+fn link_of(word: &str) -> Link {
+    let parts: Vec<&str> = word.split(',').collect();
+    parts[2..].iter().fold(Link::new(parts[0].parse().unwrap(), parts[1].parse().unwrap()), |link, field| {
+        let number = || field[1..].parse().unwrap();
+        match &field[..1] {
+            "a" => link.after(),
+            "l" => link.at_least(number()),
+            "m" => link.at_most(number()),
+            "g" => link.gap(number()),
+            "f" => link.at_most_from_finish(number()),
+            letter => panic!("no link: {letter}"),
+        }
+    })
+}
+
+/// Parts that are written, and refused. Lists that are shorter or longer than their counts cannot be said here.
+#[test]
+fn stored_parts() {
+    let (mut seen, mut count) = (BTreeSet::new(), 0);
+    for (at, line) in PARTS.lines().enumerate() {
+        let parts = fields(line);
+        let place = format!("line {}", at + 1);
+        let [n, r, room] = [1, 2, 3].map(|k| parts[0][k].parse::<usize>().unwrap());
+        let links: Vec<Link> = parts[2].iter().map(|word| link_of(word)).collect();
+        let Some(steps) = parts[1].iter().map(|word| step_of(word)).collect::<Option<Vec<Step>>>() else { continue };
+        if (steps.len(), links.len()) != (n, r) {
+            continue;
+        }
+        let lent: Vec<u8> = (0..room).map(|k| (k + 100) as u8).collect();
+        let (mut buffer, data) = (lent.clone(), sheet_of(parts[4].first().unwrap_or(&"")));
+        let (answer, whole) = (write_into(&steps, &links, &mut buffer), write(&steps, &links));
+        if parts[3][0] == "ok" {
+            assert_eq!((answer, parts[3][1]), (Ok(data.len()), data.len().to_string().as_str()), "{place}");
+            assert_eq!((&buffer[..data.len()], &buffer[data.len()..]), (&data[..], &lent[data.len()..]), "{place}");
+            assert_eq!(whole, Ok(data), "{place}");
+        } else {
+            let refusal = verdict_of(&parts[3]).unwrap_err();
+            assert_eq!((answer, buffer), (Err(refusal), lent), "{place}");
+            assert!(if refusal == Refusal::TooShort { whole.is_ok() } else { whole == Err(refusal) }, "{place}");
+        }
+        seen.insert(if parts[3][0] == "ok" { "ok".into() } else { parts[3].join(" ") });
+        count += 1;
+    }
+    assert!(count > 250, "{count}");
+    // What is written, and refusals 2 to 6, 26 and 14.
+    assert_eq!(seen.len(), 8, "{seen:?}");
+}
+
+/// Numbers at their ends, and what is said of a field twice: the last counts.
+#[test]
+fn parts() {
+    let most = [&[Step::Open][..], &[Step::Fixed(u16::MAX); MAX_STEPS - 1]].concat();
+    assert_eq!(write(&most, &[]).map(|sheet| sheet.len()), Ok(3 + 1 + 3 * 63));
+    assert_eq!(write(&[], &[]), Err(Refusal::StepCount));
+    assert_eq!(write(&[Step::Open; MAX_STEPS + 1], &[]), Err(Refusal::StepCount));
+    assert_eq!(write(&most, &[Link::new(0, 1); MAX_RECORDS + 1]), Err(Refusal::RecordCount));
+    assert_eq!(write(&[Step::Fixed(0)], &[]), Err(Refusal::BadMap));
+    assert_eq!(write(&most, &[Link::new(0, 1)]), Err(Refusal::BadMap));
+    assert_eq!(write(&most, &[Link::new(0, 1).gap(0)]), Err(Refusal::BadMap));
+    assert_eq!(write(&most, &[Link::new(0, 1).at_most_from_finish(0)]), Err(Refusal::LimitWithoutAfter));
+    for far in [64, 255, 256, 65536 + 1, usize::MAX] {
+        assert_eq!(write(&most, &[Link::new(0, far).after()]), Err(Refusal::BadPair));
+        assert_eq!(write(&most, &[Link::new(far, 1).after()]), Err(Refusal::BadPair));
+    }
+    assert_eq!(write(&most, &[Link::new(0, 1).after(), Link::new(0, 2).after(), Link::new(0, 1).at_least(3)]), Err(Refusal::BadOrder));
+    assert_eq!(write_into(&[Step::Open], &[], &mut []), Err(Refusal::TooShort));
+    let all = Link::new(1, 0).at_most_from_finish(5).gap(6).at_most(3).at_most(4).at_least(3).after();
+    assert_eq!(write(&[Step::Open, Step::OpenAtLeast(0)], &[all]), Ok(vec![2, 1, 0, 1, 5, 0, 0, 31, 1, 0, 3, 0, 4, 0, 6, 0, 5, 0]));
+}
+
 #[test]
 fn nothing_lent() {
     assert_eq!(judge(&[], true), Err(Refusal::Truncated));
@@ -192,19 +276,23 @@ fn leasts() {
     assert_eq!(steps(&[2, 1, 0, 1, 1, 1, 1, 0]).map(|given| given.open), Ok(0b11));
 }
 
-/// The longest sheet: 64 steps, 512 records, every field there. Step v + 1 to v + 9 follow v, as far as there are records, and may take as long as they like.
+/// The pairs of the longest sheet: step v + 1 to v + 9 follow v, as far as there are records.
+fn pairs() -> Vec<(u8, u8)> {
+    (0..64u8).flat_map(|i| (i + 1..64.min(i + 10)).map(move |j| (i, j))).take(MAX_RECORDS).collect()
+}
+
+/// The longest sheet: 64 steps, 512 records, every field there. Steps may take as long as they like.
 fn longest() -> Vec<u8> {
     let mut sheet = vec![64, 0, 2, 1];
     sheet.extend([2, 1, 0].repeat(63));
-    let pairs = (0..64u8).flat_map(|i| (i + 1..64.min(i + 10)).map(move |j| (i, j)));
-    for (i, j) in pairs.take(512) {
+    for (i, j) in pairs() {
         sheet.extend([0x1f, i, j, 1, 0, 255, 255, 1, 0, 255, 255]);
     }
     sheet
 }
 
 /// Several threads with no more stack than the crate says, and what a thread needs itself, plan the longest sheet at once, and ask which of its records clash
-/// when step 1 is to start at tick 0, which is too early: the first record alone.
+/// when step 1 is to start at tick 0, which is too early: the first record alone. They write the sheet too, from records that fall.
 #[test]
 fn threads() {
     let sheet = longest();
@@ -214,8 +302,12 @@ fn threads() {
     let mut early = sheet.clone();
     let limit = 4 + 63 * 3 + 5;
     early[limit..limit + 2].fill(0);
+    let steps = [&[Step::Open][..], &[Step::Fixed(1); MAX_STEPS - 1]].concat();
+    let link = |(i, j)| Link::new(usize::from(i), usize::from(j)).after().at_least(1).at_most(u16::MAX).gap(1).at_most_from_finish(u16::MAX);
+    let links: Vec<Link> = pairs().into_iter().rev().map(link).collect();
+    let planned = || (0..200).all(|_| plan(&sheet, true).as_ref() == Ok(&alone));
     thread::scope(|scope| {
-        let work = || (0..200).all(|_| plan(&sheet, true).as_ref() == Ok(&alone)) && clashes(&early) == Ok(vec![0]);
+        let work = || planned() && clashes(&early) == Ok(vec![0]) && write(&steps, &links).as_ref() == Ok(&sheet);
         let all: Vec<_> = (0..4).map(|_| thread::Builder::new().stack_size(STACK + 16384).spawn_scoped(scope, work).unwrap()).collect();
         assert!(all.into_iter().all(|one| one.join().unwrap()));
     });

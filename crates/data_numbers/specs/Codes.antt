@@ -35,7 +35,7 @@ abbrev pub tally-code : Outcome ℕ → ℕ
 tally-code (given k) = 0
 tally-code (refused k) = refusals-past + k
 
--- What a call that writes numbers and counts them (request L14) returns to C, and what it leaves where numbers and a count are lent: on a refusal what was lent.
+-- What a call that writes numbers and counts them (requests L14, L4) returns to C, and what it leaves where numbers and a count are lent: on a refusal what was lent.
 abbrev pub count-left : Outcome ℕ → ℕ → ℕ
 count-left (given k) lent = k
 count-left (refused k) lent = lent

@@ -10,6 +10,7 @@ pub mod Plan
 pub mod Rival
 pub mod Answers
 pub mod Clashes
+pub mod Writer
 pub mod Dispatcher
 pub mod Output
 pub mod Worked

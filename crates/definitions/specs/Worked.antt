@@ -1,9 +1,10 @@
 -- "Marked and unmarked sheets": the sheets marked ★ in document 01, and sheets of ours for readings that those do not tell apart and for requests L11, L1, L3, L6 and L14. One table, proved against the definitions in one go; one more for the calls of L14.
+-- And one of parts for the writer of request L4.
 use mathlib.Core.Path.{_≡_, refl}
 use mathlib.Core.Bool.{Bool, true, false}
 use mathlib.Core.Logic.{_⊎_, inl, inr}
-use mathlib.Core.List.{List, [], _∷_, map, flatMap, List·Memᴰ, List·Memᴰ·not-nil, List·Memᴰ·cases-cons, head-eq-of-cons-eq, tail-eq-of-cons-eq}
-use Prim.Native.Nat.{ℕ}
+use mathlib.Core.List.{List, [], _∷_, _++_, map, flatMap, List·Memᴰ, List·Memᴰ·not-nil, List·Memᴰ·cases-cons, head-eq-of-cons-eq, tail-eq-of-cons-eq}
+use Prim.Native.Nat.{ℕ, _+_}
 use lib.ListN.{length, replicate}
 use Rattle.definitions.specs.Limits.{most-steps}
 use Rattle.definitions.specs.Basics.{any, all, without, any-below, all-below, tabulate, select-below, largest, test-bit, bits-below, Outcome, given, refused, refuse-if, when-given}
@@ -16,7 +17,13 @@ use Rattle.definitions.specs.Plan.{first-row, offset-row, offset, start-
 use Rattle.definitions.specs.Answers.{closes-circle, infeasible, inconsistent, unserializable, judge-edges, edges-of, serialized-of, judge-records, Written, written, too-short, starts-verdict, starts-read, starts-answer, plan-verdict, plan-read, planned, open-map, beginning, steps-read, steps-answer, bad-count}
 use Rattle.definitions.specs.Clashes.{is-impossible, impossible, part-of, drop-records, few, few-verdict, few-read, few-answer}
 use Rattle.definitions.specs.Plan.{undecided}
+use Rattle.definitions.specs.Writer.{two-bytes-of, field-of, bit-of, duration-of, open-bit, operation-map-of, operation-bytes, link-map-of, link-bytes, put-in, rising, sheet-bytes, steps-mapped, bad-maps, unsequenced, bad-ends, same-pair, comes-twice, parts-short, write-verdict, write-answer}
 use Rattle.definitions.specs.Dispatcher.{entry, names, due, ready, starting, start-ticks, Progress, sweep, begun, not-running, kept-leasts, fresh, with-source, begin, ticked, tick, cannot-finish, too-early, ended, finish, state-after, called}
+use Rattle.definitions.specs.declared.Delay.the-variants.{Open, Fixed}
+use Rattle.definitions.specs.declared.Operation.{Operation}
+use Rattle.definitions.specs.declared.Bound.{Bound}
+use Rattle.definitions.specs.declared.Bound.the-variants.{Absent, Ticks}
+use Rattle.definitions.specs.declared.Link.{Link}
 use Rattle.definitions.specs.declared.Call.{Call}
 use Rattle.definitions.specs.declared.Call.the-variants.{Begin, Tick, Finish}
 use Rattle.definitions.specs.declared.State.{State}
@@ -54,6 +61,10 @@ every-text = tt
 unfoldable every-runner : Unit {0}
 unfolding entry names due ready starting start-ticks sweep begun not-running kept-leasts fresh with-source begin ticked tick cannot-finish too-early ended finish state-after
 every-runner = tt
+
+unfoldable every-writing : Unit {0}
+unfolding two-bytes-of field-of bit-of duration-of open-bit operation-map-of operation-bytes link-map-of link-bytes put-in rising sheet-bytes steps-mapped bad-maps unsequenced bad-ends same-pair comes-twice parts-short write-verdict write-answer
+every-writing = tt
 
 unfoldable pub every-definition : Unit {0}
 unfolding every-basics every-reading every-links every-plan every-answers every-clashes every-text every-runner
@@ -513,3 +524,115 @@ worked-clashes =
 pub few-worked : map (λ w. few-answer (w .bytes) (w .lent)) worked-clashes ≡ map (λ w. w .expected) worked-clashes
 unfolding every-definition worked-clashes
 few-worked = refl
+
+-- Request L4. Parts, with the numbers of steps and records that are to be written, and so many bytes lent, each 9; and what is answered.
+pub record WorkedWriting : Type 0 where
+  pub n : ℕ
+  pub r : ℕ
+  pub steps : List Operation
+  pub links : List Link
+  pub room : ℕ
+  pub expected : Written
+
+unfoldable pub writes : WorkedWriting → Written
+writes w = write-answer (w .n) (w .r) (w .steps) (w .links) (replicate (w .room) 9)
+
+-- So many of the parts as the counts say are to be written, and these bytes are; `spare` more are lent. Or they are turned away, and the bytes stay.
+abbrev counts-written : ℕ → ℕ → List Operation → List Link → List ℕ → ℕ → WorkedWriting
+counts-written n r steps links bytes spare =
+    record { n = n; r = r; steps = steps; links = links; room = length bytes + spare; expected = record { verdict = given (length bytes); numbers = bytes ++ replicate spare 9 } }
+
+abbrev counts-refused : ℕ → ℕ → List Operation → List Link → ℕ → ℕ → WorkedWriting
+counts-refused n r steps links room k = record { n = n; r = r; steps = steps; links = links; room = room; expected = record { verdict = refused k; numbers = replicate room 9 } }
+
+-- All of the parts.
+abbrev written-as : List Operation → List Link → List ℕ → ℕ → WorkedWriting
+written-as steps links bytes spare = counts-written (length steps) (length links) steps links bytes spare
+
+abbrev parts-refused : List Operation → List Link → ℕ → ℕ → WorkedWriting
+parts-refused steps links room k = counts-refused (length steps) (length links) steps links room k
+
+abbrev open-step : Operation
+open-step = record { delay = Open; least = Absent }
+
+abbrev slow-step : ℕ → Operation
+slow-step l = record { delay = Open; least = Ticks l }
+
+abbrev fixed-step : ℕ → Operation
+fixed-step x = record { delay = Fixed x; least = Absent }
+
+-- A record: whether it has an after link, at least, at most, the gap, at most from the finish.
+abbrev record-of : ℕ → ℕ → Bool → Bound → Bound → Bound → Bound → Link
+record-of i j after least most gap latest = record { from = i; to = j; sequencing = after; minimum = least; maximum = most; gap = gap; latest = latest }
+
+abbrev after : ℕ → ℕ → Link
+after i j = record-of i j true Absent Absent Absent Absent
+
+-- The stand sheet's parts, its records from the last to the first.
+abbrev stand-steps : List Operation
+stand-steps = open-step ∷ fixed-step 3 ∷ open-step ∷ fixed-step 2 ∷ fixed-step 1 ∷ []
+
+abbrev stand-links : List Link
+stand-links = record-of 3 4 true Absent (Ticks 2) Absent Absent ∷ after 2 3 ∷ after 1 4 ∷ after 0 2 ∷ after 0 1 ∷ []
+
+-- Three steps, to which the records with a fault belong.
+abbrev three : List Operation
+three = open-step ∷ open-step ∷ fixed-step 0 ∷ []
+
+abbrev empty : ℕ → ℕ → Link
+empty i j = record-of i j false Absent Absent Absent Absent
+
+abbrev limit-alone : ℕ → ℕ → Link
+limit-alone i j = record-of i j false Absent Absent Absent (Ticks 5)
+
+-- The stand sheet, with room for it just so and with two bytes more; the smallest sheet; zeros, of which only the fixed duration is left out; numbers with two bytes that differ, in records out of order; faults past the counts, which are
+-- not looked at; then each refusal, and parts with more than one fault. The ends of a record are judged against N, however many steps there are.
+unfoldable pub worked-parts : List WorkedWriting
+worked-parts =
+    written-as stand-steps stand-links (stand 2) 0 ∷
+    written-as stand-steps stand-links (stand 2) 2 ∷
+    written-as (open-step ∷ []) [] smallest 0 ∷
+    written-as (open-step ∷ fixed-step 0 ∷ slow-step 0 ∷ [])
+    (record-of 0 2 true Absent (Ticks 0) Absent (Ticks 0) ∷ record-of 0 1 true (Ticks 0) Absent (Ticks 0) Absent ∷ [])
+    (0x03 ∷ 0x02 ∷ 0x00 ∷ 0x01 ∷ 0x00 ∷ 0x05 ∷ 0x00 ∷ 0x00 ∷ 0x0b ∷ 0x00 ∷ 0x01 ∷ 0x00 ∷ 0x00 ∷ 0x00 ∷ 0x00 ∷ 0x15 ∷ 0x00 ∷ 0x02 ∷ 0x00 ∷ 0x00 ∷ 0x00 ∷ 0x00 ∷ [])
+    1 ∷
+    written-as (open-step ∷ fixed-step 0x0102 ∷ slow-step 0x0304 ∷ [])
+    (record-of 2 0 false (Ticks 0x1112) Absent Absent Absent ∷ record-of 1 2 true (Ticks 0x2122) (Ticks 0x2324) (Ticks 0x2526) (Ticks 0x2728) ∷ record-of 1 0 false Absent (Ticks 0x3132) Absent Absent ∷ [])
+    (0x03 ∷ 0x03 ∷ 0x00 ∷ 0x01 ∷ 0x02 ∷ 0x02 ∷ 0x01 ∷ 0x05 ∷ 0x04 ∷ 0x03 ∷
+    0x04 ∷ 0x01 ∷ 0x00 ∷ 0x32 ∷ 0x31 ∷
+    0x1f ∷ 0x01 ∷ 0x02 ∷ 0x22 ∷ 0x21 ∷ 0x24 ∷ 0x23 ∷ 0x26 ∷ 0x25 ∷ 0x28 ∷ 0x27 ∷
+    0x02 ∷ 0x02 ∷ 0x00 ∷ 0x12 ∷ 0x11 ∷ [])
+    0 ∷
+    counts-written 2 1 (open-step ∷ fixed-step 0 ∷ record { delay = Fixed 1; least = Ticks 1 } ∷ []) (after 0 1 ∷ empty 0 0 ∷ limit-alone 5 1 ∷ after 0 1 ∷ []) (0x02 ∷ 0x01 ∷ 0x00 ∷ 0x01 ∷ 0x00 ∷ 0x01 ∷ 0x00 ∷ 0x01 ∷ []) 1 ∷
+    parts-refused [] [] 4 2 ∷
+    counts-refused 65 0 (open-step ∷ []) [] 4 2 ∷
+    counts-refused 0 513 [] [] 4 2 ∷
+    counts-refused 1 513 (fixed-step 1 ∷ []) [] 4 3 ∷
+    parts-refused (fixed-step 0 ∷ []) [] 4 4 ∷
+    parts-refused (slow-step 0 ∷ []) [] 6 4 ∷
+    parts-refused (open-step ∷ record { delay = Fixed 0; least = Ticks 0 } ∷ []) [] 9 4 ∷
+    parts-refused (open-step ∷ record { delay = Fixed 1; least = Ticks 1 } ∷ []) [] 9 4 ∷
+    parts-refused three (after 0 1 ∷ empty 0 2 ∷ []) 99 4 ∷
+    parts-refused three (record-of 0 1 false (Ticks 1) Absent (Ticks 1) Absent ∷ []) 99 4 ∷
+    parts-refused three (record-of 0 1 false Absent Absent (Ticks 1) (Ticks 1) ∷ []) 99 4 ∷
+    parts-refused three (limit-alone 0 1 ∷ []) 99 26 ∷
+    parts-refused three (after 0 1 ∷ record-of 1 2 false (Ticks 1) Absent Absent (Ticks 0) ∷ []) 99 26 ∷
+    parts-refused three (after 3 1 ∷ []) 99 5 ∷
+    parts-refused three (after 1 3 ∷ []) 99 5 ∷
+    parts-refused three (after 0 2 ∷ after 1 1 ∷ []) 99 5 ∷
+    parts-refused three (after 0 2 ∷ after 0 1 ∷ record-of 0 2 false (Ticks 1) Absent Absent Absent ∷ []) 99 6 ∷
+    parts-refused stand-steps stand-links 30 14 ∷
+    counts-refused 4 0 three [] 99 14 ∷
+    counts-refused 3 2 three (after 0 1 ∷ []) 99 14 ∷
+    counts-refused 4 1 three (after 3 1 ∷ []) 99 14 ∷
+    counts-refused 4 1 three (after 4 1 ∷ []) 99 5 ∷
+    parts-refused three (after 3 1 ∷ limit-alone 0 1 ∷ empty 0 2 ∷ []) 99 4 ∷
+    parts-refused three (after 3 1 ∷ limit-alone 0 1 ∷ []) 99 26 ∷
+    parts-refused three (after 0 1 ∷ after 0 1 ∷ after 2 2 ∷ []) 99 5 ∷
+    parts-refused three (after 0 1 ∷ after 0 1 ∷ []) 4 6 ∷
+    counts-refused 4 2 three (empty 0 1 ∷ []) 0 4 ∷
+    []
+
+pub write-worked : map writes worked-parts ≡ map (λ w. w .expected) worked-parts
+unfolding every-definition every-writing writes worked-parts
+write-worked = refl

@@ -32,8 +32,8 @@ pub struct Operation {
     pub least: Bound,
 }
 
-// ---- What a link record says. No code holds these two: the reader turns each record into edges as its fields are read (DECISIONS 15). The definitions are written with them (specs/Bytes.antt, specs/Links.antt),
-// and the sheet writer of request L4 will take its records as `Link`.
+// ---- What a link record says. The reader does not hold these two: it turns each record into edges as its fields are read (DECISIONS 15). The definitions are written with them (specs/Bytes.antt, specs/Links.antt),
+// and the sheet writer of request L4 takes its records as `Link`.
 
 // A link record for the pair (from, to): after, at least, at most, the gap of the after link, and at most from the finish.
 pub struct Link {
@@ -110,7 +110,7 @@ pub enum Status {
     Refused(Refusal),
 }
 
-// How many numbers a call wrote (request L14), or its refusal.
+// How many numbers or bytes a call wrote (requests L14, L4), or its refusal.
 pub enum Tally {
     Count(usize),
     Refused(Refusal),

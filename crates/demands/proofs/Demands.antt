@@ -1,8 +1,9 @@
--- The theorems: one for each statement of specs/Demands.antt, in its order, with those of specs/Clashes.antt after request L6's.
+-- The theorems: one for each statement of specs/Demands.antt, in its order, with those of specs/Clashes.antt and specs/Writing.antt after request L6's.
 use mathlib.Core.Path.{refl}
 use Rattle.demands.specs.Demands.{EdgesMeant, ListsMeant, ImpossibleExactly, ReadExactly, WellFormedExactly, JudgedExactly, EachCallRefuses, StartsReturned, CallsExactly, StepsExactly, StartsKept, NobodyEarlier, NobodyEarlierWithWaits, OursAmongRivals, NobodyEarlierWithoutForesight}
 use Rattle.demands.specs.Demands.{OursWithoutForesight, Refused28Exactly, NothingNew, PlansAsBefore, AddedLinksFree, IntoSourceCircle, EnteredAsBefore, LeastlessAsBefore, TestsMeant, WaitsListed, WaitsSound, OffsetsRight, StartRule, DecidingSets, PlanTable, LinesListed, FrontDecides, HypothesesMet}
 use Rattle.demands.specs.Clashes.{PartsJudged, FewClash, FewExactly, FewMet}
+use Rattle.demands.specs.Writing.{RecordsRising, AnyOrder, WrittenRead, ReadWritten, WriteExactly}
 use Rattle.demands.proofs.Reading.{fits-of}
 use Rattle.demands.proofs.FirstBytes.{front-for}
 use Rattle.demands.proofs.Meaning.{meant-for}
@@ -21,6 +22,11 @@ use Rattle.demands.proofs.Leastless.{leastless-all}
 use Rattle.demands.proofs.Completion.{added-free, as-entered, into-source}
 use Rattle.demands.proofs.Clashes.{judged-parts, few-for}
 use Rattle.demands.proofs.Reports.{few-calls}
+use Rattle.demands.proofs.WritingOrder.{rising-for}
+use Rattle.demands.proofs.WritingRefusals.{write-for}
+use Rattle.demands.proofs.WritingAnyOrder.{any-order-for}
+use Rattle.demands.proofs.Writing.{written-all}
+use Rattle.demands.proofs.WritingAgain.{written-again}
 use Rattle.demands.proofs.Examples.{clash-met, examples}
 
 -- ## The words
@@ -140,6 +146,28 @@ few-clash = few-for
 -- The refusals stand in a row behind those of reading.
 pub few-exactly : FewExactly
 few-exactly = few-calls
+
+-- ## Request L4
+
+-- Each record is put in before the first one that it is below.
+pub records-rising : RecordsRising
+records-rising = rising-for
+
+-- No test of the records depends on their order; and without a pair twice only one list of these records rises.
+pub any-order : AnyOrder
+any-order = any-order-for
+
+-- Each parser gives back the part whose bytes it is lent, and leaves what is behind them.
+pub written-read : WrittenRead
+written-read = written-all
+
+-- The bytes that each parser takes are those written of what it gives, but for fixed durations of 0 with a field.
+pub read-written : ReadWritten
+read-written = written-again
+
+-- The tests say what the faults are in words, and stand in a row.
+pub write-exactly : WriteExactly
+write-exactly = write-for
 
 -- ## Demand 2
 

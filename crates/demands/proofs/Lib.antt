@@ -24,4 +24,13 @@ pub mod Completion
 pub mod Clashes
 pub mod Reports
 pub mod Examples
+pub mod WritingOrder
+pub mod WritingRead
+pub mod WritingBytes
+pub mod WritingFaults
+pub mod WritingRefusals
+pub mod WritingAnyOrder
+pub mod Writing
+pub mod WritingFound
+pub mod WritingAgain
 pub mod Demands

@@ -19,12 +19,12 @@ module _ {A : Type 0} (before : A → A → Type 0) where
       go y (inl m) = p .0 y m
       go y (inr m) = h x y (List·Memᴰ·head refl) m
 
-  rising-map : (f : ℕ → A) (l : List ℕ) → ((j k : ℕ) → j < k → before (f j) (f k)) → Rising _<_ l → Rising before (map f l)
+  pub rising-map : (f : ℕ → A) (l : List ℕ) → ((j k : ℕ) → List·Memᴰ j l → List·Memᴰ k l → j < k → before (f j) (f k)) → Rising _<_ l → Rising before (map f l)
   rising-map f [] h p = tt
-  rising-map f (k ∷ l) h p = (λ y m. go y (Memᴰ·of-map f l m), rising-map f l h (p .1))
+  rising-map f (k ∷ l) h p = (λ y m. go y (Memᴰ·of-map f l m), rising-map f l (λ i j m n. h i j (List·Memᴰ·tail m) (List·Memᴰ·tail n)) (p .1))
     where
       go : (y : A) → (j : ℕ) × List·Memᴰ j l × (f j ≡ y) → before (f k) y
-      go y r = subst (before (f k)) (r .2) (h k (r .0) (p .0 (r .0) (r .1)))
+      go y r = subst (before (f k)) (r .2) (h k (r .0) (List·Memᴰ·head refl) (List·Memᴰ·tail (r .1)) (p .0 (r .0) (r .1)))
 
   rising-lists : (g : ℕ → List A) (l : List ℕ) → Rising _<_ l → ((k : ℕ) → Rising before (g k)) → ((j k : ℕ) (x y : A) → j < k → List·Memᴰ x (g j) → List·Memᴰ y (g k) → before x y) → Rising before (flatMap g l)
   unfolding flatMap
@@ -33,7 +33,7 @@ module _ {A : Type 0} (before : A → A → Type 0) where
       rising-join (g k) (flatMap g l) (each k) (rising-lists g l (p .1) each h) (λ x y m i. let r = flatMap-only g l i in h k (r .0) x y (p .0 (r .0) (r .1)) m (r .2))
 
 -- The numbers below n that pass, and all of them.
-select-rising : (test : ℕ → Bool) (n : ℕ) → Rising _<_ (select-below test n)
+pub select-rising : (test : ℕ → Bool) (n : ℕ) → Rising _<_ (select-below test n)
 unfolding select-below
 select-rising test zero = tt
 select-rising test (suc n) =
@@ -63,7 +63,7 @@ module _ {A : Type 0} (f : ℕ → ℕ → A) (test : ℕ → ℕ → Bool) (n :
 
   pub pairs-rising : (before : A → A → Type 0) → ((i j k l : ℕ) → (i < j) ⊎ ((i ≡ j) × (k < l)) → before (f i k) (f j l)) → Rising before pairs
   pairs-rising before h =
-      rising-lists before row (tabulate (λ j. j) n) (tabulate-rising n) (λ j. rising-map before (f j) (select-below (test j) n) (λ k l b. h j j k l (inr (refl, b))) (select-rising (test j) n)) apart
+      rising-lists before row (tabulate (λ j. j) n) (tabulate-rising n) (λ j. rising-map before (f j) (select-below (test j) n) (λ k l m i b. h j j k l (inr (refl, b))) (select-rising (test j) n)) apart
     where
       apart : (i j : ℕ) (x y : A) → i < j → List·Memᴰ x (row i) → List·Memᴰ y (row j) → before x y
       apart i j x y b m k =

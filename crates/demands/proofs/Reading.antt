@@ -80,7 +80,7 @@ unfolding ticks-if
 takes-ticks true = takes-two-bytes
 takes-ticks false = takes-give 0 (omega arith)
 
-bound-fits : (b : Bool) (ticks x : ℕ) → ticks ≤ most-ticks → bound-from b ticks ≡ Ticks x → x ≤ most-ticks
+pub bound-fits : (b : Bool) (ticks x : ℕ) → ticks ≤ most-ticks → bound-from b ticks ≡ Ticks x → x ≤ most-ticks
 unfolding bound-from
 bound-fits true ticks x h e = let z : ticks ≡ x = cc in omega arith
 bound-fits false ticks x h e = let z : _≡_ {A = ℕ} 0 1 = cc in absurd (omega arith)
@@ -91,7 +91,7 @@ pub record OperationFits (first : Bool) (o : Operation) : Type 0 where
   pub ticks : (x : ℕ) → o .delay ≡ Fixed x → x ≤ most-ticks
   pub least-few : (x : ℕ) → o .least ≡ Ticks x → x ≤ most-ticks
 
-delay-fits : (b : Bool) (ticks x : ℕ) → ticks ≤ most-ticks → delay-from b ticks ≡ Fixed x → x ≤ most-ticks
+pub delay-fits : (b : Bool) (ticks x : ℕ) → ticks ≤ most-ticks → delay-from b ticks ≡ Fixed x → x ≤ most-ticks
 unfolding delay-from
 delay-fits true ticks x h e = let z : _≡_ {A = ℕ} 0 1 = cc in absurd (omega arith)
 delay-fits false ticks x h e = let z : ticks ≡ x = cc in omega arith
@@ -123,7 +123,7 @@ pub record LinkFits (n : ℕ) (l : Link) : Type 0 where
   pub gap-few : (g : ℕ) → l .gap ≡ Ticks g → g ≤ most-ticks
   pub latest-few : (u : ℕ) → l .latest ≡ Ticks u → u ≤ most-ticks
 
-endpoints-fit : (n i j : ℕ) → endpoints n i j ≡ true → (i < n) × (j < n) × (i ≢ j)
+pub endpoints-fit : (n i j : ℕ) → endpoints n i j ≡ true → (i < n) × (j < n) × (i ≢ j)
 unfolding endpoints
 endpoints-fit n i j h =
     let r = and-split (ltb i n && ltb j n) (not (eqb i j)) h in
@@ -181,7 +181,7 @@ takes-link n previous =
 
 -- Records in a row: as many as are asked for, each with its property in the state that the one before it leaves. Induction on their number.
 module _ {A S : Type 0} (P : S → A → Type 0) (next : A → S) where
-  abbrev Row : S → List A → Type 0
+  abbrev pub Row : S → List A → Type 0
   Row state [] = Unit {0}
   Row state (x ∷ xs) = P state x × Row (next x) xs
 

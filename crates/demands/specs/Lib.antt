@@ -4,3 +4,4 @@ pub mod Entered
 pub mod Parts
 pub mod Demands
 pub mod Clashes
+pub mod Writing

@@ -31,6 +31,10 @@ pub and-join : {a b : Bool} → a ≡ true → b ≡ true → (a && b) ≡ true
 and-join {a = true} ha hb = hb
 and-join {a = false} ha hb = ha
 
+pub and-fails : (a b : Bool) → (a && b) ≡ false → (a ≡ false) ⊎ (b ≡ false)
+and-fails true b h = inr h
+and-fails false b h = inl h
+
 pub or-split : (a b : Bool) → (a || b) ≡ true → (a ≡ true) ⊎ (b ≡ true)
 or-split true b h = inl refl
 or-split false b h = inr h

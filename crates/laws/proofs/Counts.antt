@@ -1,6 +1,7 @@
 -- Tables of n by n numbers; sums over the numbers below n, and the lengths of selections and of lists made of lists as such sums.
 use mathlib.Core.Path.{_≡_, refl, sym, ap, _∙_}
 use mathlib.Core.Bool.{Bool, true, false, cond}
+use mathlib.Core.Logic.{_⊎_, inl, inr, _≢_}
 use mathlib.Core.List.{List, [], _∷_, flatMap}
 use Prim.Native.Nat.{ℕ, zero, suc, _+_, _-_, _*_, _<_, _≤_}
 use native.Mathlib.Omega.{arith}
@@ -10,6 +11,7 @@ use lib.ListN.{length, length-append}
 use Rattle.definitions.specs.Limits.{most-steps, longest-table}
 use Rattle.definitions.specs.Basics.{select-below, sum-below, tabulate}
 use Rattle.laws.proofs.Lists.{flatMap-snoc}
+use Rattle.laws.proofs.Tests.{last-or-below}
 
 -- How many numbers a table has, and where row v ends.
 pub square-small : (n : ℕ) → n ≤ most-steps → n * n ≤ longest-table
@@ -56,6 +58,16 @@ sum-below-cut f n m b h =
     go (suc j) =
         let e : suc j + n ≡ suc (j + n) = omega arith in
         ap (sum-below f) e ∙ omega (arith, go j, h (j + n) (omega arith))
+
+-- One term more by one, the others the same. Induction on n.
+pub sum-below-one-more : (f g : ℕ → ℕ) (n i : ℕ) → i < n → g i ≡ f i + 1 → ((k : ℕ) → k ≢ i → g k ≡ f k) → sum-below g n ≡ sum-below f n + 1
+unfolding sum-below
+sum-below-one-more f g zero i b e h = absurd (omega arith)
+sum-below-one-more f g (suc n) i b e h = go (last-or-below n i b) (λ c. sum-below-one-more f g n i c e h)
+  where
+    go : (i ≡ n) ⊎ (i < n) → (i < n → sum-below g n ≡ sum-below f n + 1) → sum-below g n + g n ≡ sum-below f n + f n + 1
+    go (inl q) below = omega (arith, sum-below-same g f n (λ k c. h k (λ d. omega arith)), ap g q, ap f q, e)
+    go (inr c) below = omega (arith, below c, h n (λ d. omega arith))
 
 sum-below-plus : (f g : ℕ → ℕ) (n : ℕ) → sum-below (λ k. f k + g k) n ≡ sum-below f n + sum-below g n
 unfolding sum-below

@@ -1,7 +1,7 @@
--- Laws of lists: elements by their place; a list without what passes a test; lists of lists that are run together.
+-- Laws of lists: elements by their place; a list rearranged; a list without what passes a test; lists of lists that are run together.
 use mathlib.Core.Path.{_≡_, refl, sym, ap, ap₂, _∙_}
 use mathlib.Core.Bool.{Bool, true, false, cond, true≢false}
-use mathlib.Core.List.{List, [], _∷_, _++_, append-assoc, append-nil, map, flatMap, List·Memᴰ, List·Memᴰ·append-cases, List·Memᴰ·cases-cons, List·Memᴰ·eq-of-singleton, List·Memᴰ·head, List·Memᴰ·not-nil, List·Memᴰ·tail, Memᴰ·append-left, Memᴰ·append-right}
+use mathlib.Core.List.{List, [], _∷_, _++_, append-assoc, append-nil, map, flatMap, List·Memᴰ, List·Memᴰ·append-cases, List·Memᴰ·cases-cons, List·Memᴰ·eq-of-singleton, List·Memᴰ·head, List·Memᴰ·not-nil, List·Memᴰ·tail, Memᴰ·append-left, Memᴰ·append-right, List·Permᴰ, List·Permᴰ·nil, List·Permᴰ·cons, List·Permᴰ·swap, List·Permᴰ·trans}
 use mathlib.Core.Logic.{_⊎_, inl, inr}
 use Prim.Native.Nat.{ℕ, zero, suc, _<_}
 use native.Mathlib.Omega.{arith}
@@ -13,6 +13,12 @@ pub mem-at : {A : Type 0} (l : List A) (i : ℕ) (z : A) → i < length l → Li
 mem-at [] i z h = absurd (omega arith)
 mem-at (x ∷ l) zero z h = List·Memᴰ·head refl
 mem-at (x ∷ l) (suc i) z h = List·Memᴰ·tail (mem-at l i z (omega arith))
+
+-- What stands at a place of a list does not depend on what stands past it. Induction on the list.
+pub inside-same : {A : Type 0} (l : List A) (i : ℕ) (y z : A) → i < length l → getD l i y ≡ getD l i z
+inside-same [] i y z h = absurd (omega arith)
+inside-same (x ∷ l) zero y z h = refl
+inside-same (x ∷ l) (suc i) y z h = inside-same l i y z (omega arith)
 
 -- An element of a list is at some place of it.
 pub record Place {A : Type 0} (l : List A) (z x : A) : Type 0 where
@@ -27,6 +33,31 @@ mem-place (y ∷ l) z {x} m = go (List·Memᴰ·cases-cons m) (mem-place l z)
     go : (x ≡ y) ⊎ List·Memᴰ x l → (List·Memᴰ x l → Place l z x) → Place (y ∷ l) z x
     go (inl e) below = record { index = 0; inside = omega arith; here = sym e }
     go (inr i) below = let P = below i in record { index = suc (P .index); inside = omega (arith, P .inside); here = P .here }
+
+-- A rearranged list has the same members, and as many. Along the way in which it is rearranged.
+pub perm-mem : {A : Type 0} {x : A} {l m : List A} → List·Permᴰ l m → List·Memᴰ x l → List·Memᴰ x m
+perm-mem List·Permᴰ·nil i = i
+perm-mem {A} {x} (List·Permᴰ·cons {a} {b} {l₁} {l₂} e d) i = go (List·Memᴰ·cases-cons i) (perm-mem d)
+  where
+    go : (x ≡ a) ⊎ List·Memᴰ x l₁ → (List·Memᴰ x l₁ → List·Memᴰ x l₂) → List·Memᴰ x (b ∷ l₂)
+    go (inl h) below = List·Memᴰ·head (h ∙ e)
+    go (inr j) below = List·Memᴰ·tail (below j)
+perm-mem {A} {x} (List·Permᴰ·swap {a} {b} {a′} {b′} {l} e f) i = go (List·Memᴰ·cases-cons i)
+  where
+    later : (x ≡ b) ⊎ List·Memᴰ x l → List·Memᴰ x (a′ ∷ b′ ∷ l)
+    later (inl h) = List·Memᴰ·head (h ∙ f)
+    later (inr j) = List·Memᴰ·tail (List·Memᴰ·tail j)
+
+    go : (x ≡ a) ⊎ List·Memᴰ x (b ∷ l) → List·Memᴰ x (a′ ∷ b′ ∷ l)
+    go (inl h) = List·Memᴰ·tail (List·Memᴰ·head (h ∙ e))
+    go (inr j) = later (List·Memᴰ·cases-cons j)
+perm-mem (List·Permᴰ·trans d e) i = perm-mem e (perm-mem d i)
+
+pub perm-length : {A : Type 0} {l m : List A} → List·Permᴰ l m → length l ≡ length m
+perm-length List·Permᴰ·nil = refl
+perm-length (List·Permᴰ·cons e d) = ap suc (perm-length d)
+perm-length (List·Permᴰ·swap e f) = refl
+perm-length (List·Permᴰ·trans d e) = perm-length d ∙ perm-length e
 
 -- Every place of a list of zeros holds 0, and so does every place past it.
 pub zeros-at : (n i : ℕ) → getD (replicate {A = ℕ} n 0) i 0 ≡ 0
@@ -87,3 +118,8 @@ pub flatMap-flatMap : {A B C : Type 0} (f : B → List C) (g : A → List B) (xs
 unfolding flatMap
 flatMap-flatMap f g [] = refl
 flatMap-flatMap {C = C} f g (x ∷ xs) = flatMap-append f (g x) (flatMap g xs) ∙ ap (λ (l : List C). flatMap f (g x) ++ l) (flatMap-flatMap f g xs)
+
+-- Functions that agree on a list's members. Induction on the list.
+pub map-same : {A B : Type 0} (f g : A → B) (xs : List A) → ((x : A) → List·Memᴰ x xs → f x ≡ g x) → map f xs ≡ map g xs
+map-same f g [] h = refl
+map-same {B = B} f g (x ∷ xs) h = ap₂ (λ (y : B) (l : List B). y ∷ l) (h x (List·Memᴰ·head refl)) (map-same f g xs (λ y m. h y (List·Memᴰ·tail m)))

@@ -2,8 +2,8 @@
 use mathlib.Core.Path.{_≡_, refl, sym, ap, subst, _∙_}
 use mathlib.Core.Bool.{Bool, true, false, cond, _||_, false≢true}
 use mathlib.Core.Logic.{_⊎_, inl, inr}
-use mathlib.Core.List.{List, [], _∷_, _++_, List·Memᴰ, List·Memᴰ·head, List·Memᴰ·tail, List·Memᴰ·not-nil, List·Memᴰ·cases-cons, List·Memᴰ·append-cases, List·Memᴰ·eq-of-singleton, Memᴰ·append-left, Memᴰ·append-right, flatMap, map, map-append}
-use Prim.Native.Nat.{ℕ, zero, suc, _≤_, _<_, max}
+use mathlib.Core.List.{List, [], _∷_, _++_, append-assoc, append-nil, map, map-append, List·Memᴰ, List·Memᴰ·head, List·Memᴰ·tail, List·Memᴰ·not-nil, List·Memᴰ·cases-cons, List·Memᴰ·append-cases, List·Memᴰ·eq-of-singleton, Memᴰ·append-left, Memᴰ·append-right, flatMap}
+use Prim.Native.Nat.{ℕ, zero, suc, _+_, _≤_, _<_, max}
 use native.Mathlib.Omega.{arith}
 use native.Mathlib.Decide.{decLe, decLt}
 use lib.ListN.{length, getD, length-append, List·getD-append, List·getD-eq-default}
@@ -142,6 +142,21 @@ select-below-same t u (suc n) f =
     let rest = select-below-same t u n (λ k b. f k (omega arith)) in
     let last = f n (omega arith) in
     rw (rest, last)
+
+-- The first a numbers, and then b more. Induction on b.
+pub select-below-split : (test : ℕ → Bool) (a b : ℕ) → select-below test (a + b) ≡ select-below test a ++ map (λ j. a + j) (select-below (λ j. test (a + j)) b)
+unfolding select-below
+select-below-split test a zero = let e : a + 0 ≡ a = omega arith in ap (select-below test) e ∙ sym (append-nil (select-below test a))
+select-below-split test a (suc b) =
+    let e : a + suc b ≡ suc (a + b) = omega arith in
+    ap (select-below test) e
+    ∙ ap (λ (l : List ℕ). l ++ cond (test (a + b)) ((a + b) ∷ []) []) (select-below-split test a b)
+    ∙ append-assoc (select-below test a) (map (λ j. a + j) (select-below (λ j. test (a + j)) b)) (cond (test (a + b)) ((a + b) ∷ []) [])
+    ∙ ap (λ (l : List ℕ). select-below test a ++ l) (last (test (a + b)) ∙ sym (map-append (λ j. a + j) (select-below (λ j. test (a + j)) b) (cond (test (a + b)) (b ∷ []) [])))
+  where
+    last : (t : Bool) → map (λ j. a + j) (select-below (λ j. test (a + j)) b) ++ cond t ((a + b) ∷ []) [] ≡ map (λ j. a + j) (select-below (λ j. test (a + j)) b) ++ map (λ j. a + j) (cond t (b ∷ []) [])
+    last true = refl
+    last false = refl
 
 -- A table has n entries, and entry k is f k.
 module _ {A : Type 0} (f : ℕ → A) where

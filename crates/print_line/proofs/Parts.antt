@@ -5,7 +5,7 @@ use Prim.Native.Nat.{ℕ, _+_, _≤_}
 use lib.ListN.{length}
 use Rattle.definitions.specs.Output.{newline}
 use Rattle.print_line.specs.Texts.{fields, line}
-use Rattle.print_line.proofs.Writing.{left-room}
+use Rattle.data_buffers.proofs.Writing.{left-room}
 
 module _ (word numbers : List ℕ) where
   pub line-parts : word ++ fields numbers ++ newline ≡ line word numbers

@@ -3,16 +3,9 @@ ghost use mathlib.Core.List.{[], _∷_};
 ghost use Prim.Native.Nat.{_+_, _<_, _≤_};
 ghost use lib.ListN.{length};
 ghost use Rattle.definitions.specs.Output.{decimal, field, newline};
-ghost use Rattle.print_line.specs.Texts.{Put, fields, line};
-
-// One byte.
-fn put_byte(b: u8, out: &mut [u8], at: usize) -> usize
-    requires { ⌜ at < length (now out) ⌝ }
-    ensures { λ r. ⌜ Put (b ∷ []) at r (now (out .entry)) (now (out .exit)) ⌝ }
-{
-    out[at] = b;
-    at + 1
-}
+ghost use Rattle.data_buffers.specs.Texts.{Put};
+ghost use Rattle.print_line.specs.Texts.{fields, line};
+use data_buffers::put_byte;
 
 // The bytes of a word.
 fn put_word(word: &[u8], out: &mut [u8], at: usize) -> usize

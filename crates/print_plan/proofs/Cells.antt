@@ -10,7 +10,8 @@ use Rattle.laws.proofs.Bools.{cond-true, cond-false}
 use Rattle.definitions.specs.Basics.{test-bit}
 use Rattle.definitions.specs.Plan.{undecided}
 use Rattle.definitions.specs.Output.{word-wait, word-start, wait-text, start-text}
-use Rattle.print_line.specs.Texts.{line, texts}
+use Rattle.data_buffers.specs.Texts.{texts}
+use Rattle.print_line.specs.Texts.{line}
 use Rattle.print_plan.specs.Texts.{heading, wait-line, start-line, wait-cell, cell-at, start-cell}
 
 -- Each line is that of its word and its numbers.

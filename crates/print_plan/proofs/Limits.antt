@@ -9,7 +9,7 @@ use lib.ListN.{length, getD, length-append}
 use Rattle.definitions.specs.Basics.{test-bit}
 use Rattle.definitions.specs.Plan.{undecided}
 use Rattle.definitions.specs.Output.{field, newline, word-verdict, word-waits, word-wait, word-start, wait-text, start-text}
-use Rattle.print_line.specs.Texts.{texts}
+use Rattle.data_buffers.specs.Texts.{texts}
 use Rattle.print_plan.specs.Texts.{heading, wait-line, start-line, wait-cell, maps-row, maps-text, cell-at, start-cell, table-row, table-text, plan-room}
 use Rattle.print_line.proofs.Digits.{field-length, field-short}
 

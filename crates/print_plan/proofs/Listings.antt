@@ -22,7 +22,7 @@ use Rattle.laws.proofs.Bools.{bool-cases, and-split, cond-true, cond-false}
 use Rattle.laws.proofs.Lists.{flatMap-append, flatMap-map, flatMap-flatMap}
 use Rattle.theory.proofs.PlanTables.{plan-table-length, plan-table-at}
 use Rattle.theory.proofs.WaitLists.{wait-map-bit, wait-maps-at}
-use Rattle.print_line.specs.Texts.{texts}
+use Rattle.data_buffers.specs.Texts.{texts}
 use Rattle.print_plan.specs.Texts.{heading, wait-line, start-line, wait-cell, maps-text, cell-at, start-cell, table-text, plan-text, refusal-text}
 use Rattle.print_plan.proofs.Cells.{cell-below}
 

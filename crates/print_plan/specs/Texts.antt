@@ -9,7 +9,7 @@ use Rattle.definitions.specs.Basics.{test-bit}
 use Rattle.definitions.specs.Limits.{longest-table, most-steps}
 use Rattle.definitions.specs.Plan.{undecided}
 use Rattle.definitions.specs.Output.{field, newline, word-verdict, word-waits, word-refused, wait-text, start-text}
-use Rattle.print_line.specs.Texts.{texts}
+use Rattle.data_buffers.specs.Texts.{texts}
 
 -- The promise of a function that writes from the front: what it returns is the text's length, and what lies past the text stays.
 pub record Printed (text : List ℕ) (size : ℕ) (old new : List ℕ) : Type 0 where

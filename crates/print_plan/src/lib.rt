@@ -3,7 +3,7 @@ use definitions::UNDECIDED;
 ghost use Prim.Native.Nat.{_+_, _*_, _≤_};
 ghost use lib.ListN.{length};
 ghost use Rattle.definitions.specs.Limits.{most-steps};
-ghost use Rattle.print_line.specs.Texts.{Put};
+ghost use Rattle.data_buffers.specs.Texts.{Put};
 ghost use Rattle.print_plan.specs.Texts.{Printed, StartFits, StartsFit, TableFits, WaitFits, WaitsFit, heading, wait-cell, maps-row, maps-text, start-cell, table-row, table-text, plan-text, refusal-text, plan-room};
 
 // A line of a word and one number.

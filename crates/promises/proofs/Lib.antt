@@ -2,4 +2,5 @@ pub mod Promises
 pub mod Excluded
 pub mod Runs
 pub mod Clashes
+pub mod Writing
 mod Ties

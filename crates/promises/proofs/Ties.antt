@@ -26,6 +26,9 @@ use Rattle.clash_sheet.proofs.clashes.Reads as clashes-says
 use Rattle.run_sheet.specs.Steps.{StepsReturned, memory}
 use Rattle.run_sheet.proofs.steps.Kinds as steps
 use Rattle.run_sheet.proofs.steps.Reads as steps-says
+use Rattle.write_sheet.specs.Written.{Wrote}
+use Rattle.write_sheet.proofs.write.Kinds as write
+use Rattle.write_sheet.proofs.write.Reads as write-says
 
 judge-tied : (κs : Lfts 1) (a : Dens κs judge.ps) (r : resT judge.r κs .Denot) (x : AtExit (endedOf 1 judge.ps judge.r) κs) → judge-says.Post κs a r x → JudgeReturned (now (a .0)) (a .1 .0) r
 judge-tied κs a r x p = p
@@ -55,6 +58,10 @@ steps-tied κs a r x p = p
 clashes-tied : (κs : Lfts 2) (a : Dens κs clashes.ps) (r : resT clashes.r κs .Denot) (x : AtExit (endedOf 2 clashes.ps clashes.r) κs) → clashes-says.Post κs a r x → FewReturned (now (a .0)) (now (a .1 .0)) r (now (x .1 .0))
 clashes-tied κs a r x p = p
 
+write-tied : (κs : Lfts 1) (a : Dens κs write.ps) (r : resT write.r κs .Denot) (x : AtExit (endedOf 1 write.ps write.r) κs)
+    → write-says.Post κs a r x → Wrote (a .0) (a .1 .1 .0) (a .1 .0) (a .1 .1 .1 .0) (now (a .1 .1 .1 .1 .0)) r (now (x .1 .1 .1 .1 .0))
+write-tied κs a r x p = p
+
 judge-asks-nothing : (κs : Lfts 1) (a : Dens κs judge.ps) → judge-says.Pre κs a
 judge-asks-nothing κs a = tt
 
@@ -81,3 +88,6 @@ steps-asks-nothing κs a = tt
 
 clashes-asks-nothing : (κs : Lfts 2) (a : Dens κs clashes.ps) → clashes-says.Pre κs a
 clashes-asks-nothing κs a = tt
+
+write-asks-nothing : (κs : Lfts 1) (a : Dens κs write.ps) → write-says.Pre κs a
+write-asks-nothing κs a = tt

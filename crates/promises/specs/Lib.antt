@@ -1,3 +1,4 @@
 pub mod Promises
 pub mod Runs
 pub mod Clashes
+pub mod Writing

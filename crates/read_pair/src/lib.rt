@@ -33,7 +33,8 @@ pub enum FieldsRead {
     Refused(Refusal),
 }
 
-fn endpoints_allowed(n: usize, i: u8, j: u8) -> bool
+// Whether both ends of a pair are steps, and not one step.
+pub fn endpoints_allowed(n: usize, i: u8, j: u8) -> bool
     ensures { λ r. ⌜ r ≡ endpoints n i j ⌝ }
 {
     let from = byte_index(i);

@@ -10,7 +10,7 @@ use borrow.Fn.Kinds.{In}
 use borrow.Fn.PlainCycle.{Measures, is, falls, and}
 use Rattle.definitions.specs.Output.{decimal}
 use Rattle.print_line.proofs.Digits.{decimal-digit, decimal-tenth}
-use Rattle.print_line.proofs.Writing.{put-as, put-then, put-room}
+use Rattle.data_buffers.proofs.Writing.{put-as, put-then, put-room}
 use Rattle.print_line.proofs.put_number.Reads as put-number
 use Rattle.print_line.proofs.put_number.Kinds as put-number-kinds
 use Rattle.print_line.proofs.+put_number.Lts-put_number as put-number-lts

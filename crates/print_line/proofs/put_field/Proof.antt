@@ -5,7 +5,7 @@ use borrow.Author.Needs.{needs}
 use lib.ListN.{length}
 use Rattle.definitions.specs.Output.{decimal}
 use Rattle.print_line.proofs.Digits.{field-parts}
-use Rattle.print_line.proofs.Writing.{put-as, put-then, put-room}
+use Rattle.data_buffers.proofs.Writing.{put-as, put-then, put-room}
 use Rattle.print_line.proofs.put_field.Statement.{statement}
 use Rattle.print_line.proofs.put_field.Tie as tie
 

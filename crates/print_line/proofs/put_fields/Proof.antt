@@ -4,8 +4,9 @@ use Prim.Native.Nat.{_-_, _≤_}
 use native.Mathlib.Omega.{arith}
 use borrow.Author.Needs.{needs}
 use lib.ListN.{length}
-use Rattle.print_line.specs.Texts.{Put, field-at, texts}
-use Rattle.print_line.proofs.Writing.{put-as, put-none, texts-length, next-room, next-text}
+use Rattle.data_buffers.specs.Texts.{Put, texts}
+use Rattle.print_line.specs.Texts.{field-at}
+use Rattle.data_buffers.proofs.Writing.{put-as, put-none, texts-length, next-room, next-text}
 use Rattle.print_line.proofs.put_fields.Statement.{statement}
 use Rattle.print_line.proofs.put_fields.Tie as tie
 

@@ -4,7 +4,7 @@ use borrow.Author.Needs.{needs}
 use Rattle.definitions.specs.Output.{newline}
 use Rattle.print_line.specs.Texts.{fields}
 use Rattle.print_line.proofs.Parts.{line-parts, line-all-room, line-fields-room, line-word-room}
-use Rattle.print_line.proofs.Writing.{put-as, put-then, put-room}
+use Rattle.data_buffers.proofs.Writing.{put-as, put-then, put-room}
 use Rattle.print_line.proofs.put_line.Statement.{statement}
 use Rattle.print_line.proofs.put_line.Tie as tie
 

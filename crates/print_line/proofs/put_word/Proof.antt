@@ -5,8 +5,8 @@ use Prim.Native.Nat.{ℕ, _-_, _≤_}
 use native.Mathlib.Omega.{arith}
 use borrow.Author.Needs.{needs}
 use lib.ListN.{length}
-use Rattle.print_line.specs.Texts.{Put, texts}
-use Rattle.print_line.proofs.Writing.{put-none, byte-text, texts-word, texts-length, next-room, next-text}
+use Rattle.data_buffers.specs.Texts.{Put, texts}
+use Rattle.data_buffers.proofs.Writing.{put-none, byte-text, texts-word, texts-length, next-room, next-text}
 use Rattle.print_line.proofs.put_word.Statement.{statement}
 use Rattle.print_line.proofs.put_word.Tie as tie
 

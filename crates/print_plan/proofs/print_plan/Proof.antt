@@ -3,7 +3,7 @@ use native.Mathlib.Omega.{arith}
 use Rattle.definitions.specs.Output.{word-verdict, word-waits}
 use Rattle.print_plan.specs.Texts.{heading, maps-text, table-text, plan-text}
 use Rattle.print_plan.proofs.Limits.{heading-limit, headings-room, waits-room, starts-room}
-use Rattle.print_line.proofs.Writing.{put-then, put-room}
+use Rattle.data_buffers.proofs.Writing.{put-then, put-room}
 use Rattle.print_plan.proofs.Fronts.{put-printed}
 use borrow.Author.Needs.{needs}
 use Rattle.print_plan.proofs.print_plan.Statement.{statement}

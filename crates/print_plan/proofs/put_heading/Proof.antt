@@ -2,7 +2,7 @@
 use mathlib.Core.Path.{ap}
 use native.Mathlib.Omega.{arith}
 use lib.ListN.{length}
-use Rattle.print_line.proofs.Writing.{put-as}
+use Rattle.data_buffers.proofs.Writing.{put-as}
 use Rattle.print_plan.proofs.Cells.{heading-as-line}
 use borrow.Author.Needs.{needs}
 use Rattle.print_plan.proofs.put_heading.Statement.{statement}

@@ -4,7 +4,7 @@ use native.Mathlib.Omega.{arith}
 use lib.ListN.{length}
 use Rattle.laws.proofs.Counts.{square-small}
 use Rattle.print_plan.proofs.Cells.{start-stands, start-absent, cell-below}
-use Rattle.print_line.proofs.Writing.{put-as, put-none}
+use Rattle.data_buffers.proofs.Writing.{put-as, put-none}
 use borrow.Author.Needs.{needs}
 use Rattle.print_plan.proofs.put_start_at.Statement.{statement}
 use Rattle.print_plan.proofs.put_start_at.Tie as tie

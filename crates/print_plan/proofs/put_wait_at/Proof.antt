@@ -3,7 +3,7 @@ use mathlib.Core.Path.{ap, sym, _∙_}
 use native.Mathlib.Omega.{arith}
 use lib.ListN.{length}
 use Rattle.print_plan.proofs.Cells.{wait-stands, wait-absent}
-use Rattle.print_line.proofs.Writing.{put-as, put-none}
+use Rattle.data_buffers.proofs.Writing.{put-as, put-none}
 use borrow.Author.Needs.{needs}
 use Rattle.print_plan.proofs.put_wait_at.Statement.{statement}
 use Rattle.print_plan.proofs.put_wait_at.Tie as tie

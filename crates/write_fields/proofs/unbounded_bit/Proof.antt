@@ -1,0 +1,20 @@
+-- By whether the step is open. Assumes nothing.
+use Rattle.write_fields.proofs.Records.{open-there, open-absent}
+use borrow.Author.Needs.{needs}
+use Rattle.write_fields.proofs.unbounded_bit.Statement.{statement}
+use Rattle.write_fields.proofs.unbounded_bit.Tie as tie
+
+enum-told : tie.Need-enum-told
+enum-told c = search needs
+
+enum-told-2 : tie.Need-enum-told-2
+enum-told-2 c = search needs
+
+returns : tie.Need-returns
+returns c = open-there (c .enum-told .given .1)
+
+returns-2 : tie.Need-returns-2
+returns-2 c = open-absent (c .enum-told2 .given .1)
+
+pub unbounded-bit-spec : {M : Type 1} → statement M
+unbounded-bit-spec = tie.close (tie.spec enum-told enum-told-2 returns returns-2)

@@ -1,0 +1,4 @@
+pub mod Rising
+pub mod Verdicts
+pub mod Whole
+pub mod Fits
