@@ -1,5 +1,5 @@
 /* The verified stand planner, for C and C++ (x86-64 Linux). tools/library builds what it is linked with: libstandplan.a and libstandplan.so in
- * target/staticlib; docs/GUIDE.md has the commands, examples/stand.c and examples/write.c use every call.
+ * target/staticlib; docs/GUIDE.md has the commands, examples/stand.c, examples/write.c and examples/price.c use every call.
  *
  * A call returns a verdict, one number: 0, the sheet is sound, or, of steps, clashes, write and the runner, the call is done; 1, the sheet is sound with
  * waits; 256 + k, refused by refusal k (docs/REFUSALS.md). Every input is answered. On a refusal nothing that is lent changes.
@@ -10,7 +10,7 @@
  * Threads: calls are safe from several threads at once, unless one writes to memory that another has lent at that time. So a plan may be
  * shared by any number of runs; a run is held by one thread at a time.
  *
- * Stack, measured on x86-64 Linux (docs/GUIDE.md has the command), at most: judge and waits 78 kB, plan and starts 80 kB, steps 18 kB, clashes 64 kB, write 24 kB, begin, tick and finish 4 kB.
+ * Stack, measured on x86-64 Linux (docs/GUIDE.md has the command), at most: judge and waits 78 kB, plan and starts 80 kB, steps 18 kB, clashes 64 kB, price 100 kB, write 24 kB, begin, tick and finish 4 kB.
  * STANDPLAN_STACK bytes are enough for any call; the least stack that a thread may have (PTHREAD_STACK_MIN) is not.
  *
  * Version 2.0.0 changed the runner's calls (request L6): standplan_begin is lent the least durations, the state has them, and standplan_steps is new; it gives
@@ -28,9 +28,9 @@
 extern "C" {
 #endif
 
-#define STANDPLAN_VERSION "2.3.0"
+#define STANDPLAN_VERSION "2.4.0"
 #define STANDPLAN_VERSION_MAJOR 2
-#define STANDPLAN_VERSION_MINOR 3
+#define STANDPLAN_VERSION_MINOR 4
 #define STANDPLAN_VERSION_PATCH 0
 
 /* The most that there can be: steps and link records of a sheet, bytes of a sheet, numbers of a plan, ticks in a list of durations. */
@@ -41,7 +41,7 @@ extern "C" {
 #define STANDPLAN_MAX_DURATION UINT32_C(16777215)
 
 /* Bytes of stack that are enough for any call. */
-#define STANDPLAN_STACK 81920
+#define STANDPLAN_STACK 102400
 
 /* The number in a plan where a step does not decide another. */
 #define STANDPLAN_UNDECIDED UINT32_C(4294967295)
@@ -70,6 +70,7 @@ enum standplan_refusal {
     STANDPLAN_HAS_BEGUN = 16,
     STANDPLAN_CANNOT_FINISH = 17,
     STANDPLAN_CLOCK_END = 18,
+    STANDPLAN_LARGE_OFFSET = 19,
     STANDPLAN_TOO_EARLY = 20,
     STANDPLAN_LIMIT_WITHOUT_AFTER = 26,
     STANDPLAN_WAITS_CLASH = 28,
@@ -110,6 +111,7 @@ static inline const char *standplan_sentence(uint32_t verdict) {
     case STANDPLAN_HAS_BEGUN: return "Begin on a run that has begun";
     case STANDPLAN_CANNOT_FINISH: return "Finish of a step that is not open, is 0, has not started, or has finished";
     case STANDPLAN_CLOCK_END: return "Tick when the tick is 4,294,967,295";
+    case STANDPLAN_LARGE_OFFSET: return "a largest offset is 1,024 or more";
     case STANDPLAN_TOO_EARLY: return "Finish at a tick below its start tick plus its least duration";
     case STANDPLAN_LIMIT_WITHOUT_AFTER: return "a link map with bit 4, at most from the finish, and without bit 0, after";
     case STANDPLAN_WAITS_CLASH: return "the waits close a circle of forward links, or leave no start times with each open step at its least";
@@ -144,6 +146,16 @@ STANDPLAN_CHECKED uint32_t standplan_steps(const uint8_t *sheet, size_t sheet_le
  * On a refusal, 1 to 8, 26, 31 (the sheet is not refused as 10 or 11) or 14 (the list is shorter than the report), numbers and count stay as lent.
  * STANDPLAN_MAX_RECORDS numbers are enough for any sheet. */
 STANDPLAN_CHECKED uint32_t standplan_clashes(const uint8_t *sheet, size_t sheet_len, uint32_t *numbers, size_t numbers_len, size_t *count);
+
+/* Prices the control box of a sheet of N steps (request L5): the first N numbers of registers become the registers of each step, those that the printed table has
+ * for the largest offset at which it stands in the plan, 0 for a fixed step; the first N numbers of comparisons the members of each step's deciding set; totals
+ * the two sums, in the places below. The rest stays as lent. Returns the verdict, 0 or 1.
+ * On a refusal, 1 to 8, 10 to 12, 26, 28, 19 (a largest offset is 1,024 or more) or 14 (a list is shorter than N), all stay as lent.
+ * STANDPLAN_MAX_STEPS numbers are enough for any sheet. */
+STANDPLAN_CHECKED uint32_t standplan_price(const uint8_t *sheet, size_t sheet_len, bool allow_waits, uint32_t *registers, size_t registers_len, uint32_t *comparisons, size_t comparisons_len, uint32_t totals[2]);
+
+/* The places in totals. */
+enum { STANDPLAN_REGISTERS, STANDPLAN_COMPARISONS };
 
 /* Writes a sheet (request L4): its bytes, from its steps and link records. The parts are numbers of 16 bits here; programs in C call standplan_write_sheet,
  * below, which takes them as structs. steps has two numbers for each of the n steps, its map and its ticks; records seven for each of the r link records: its

@@ -17,6 +17,8 @@
     steps = [Step(), Step(least=8), Step(fixed=2)]      # open; open, at least 8 ticks; 2 ticks
     links = [Link(1, 2, after=True, at_most_from_finish=5), Link(0, 1, after=True)]
     standplan.write(steps, links).hex(" ")              # '03 02 00 01 05 08 00 02 02 00 01 00 01 11 01 02 05 00': the sheet of these
+    standplan.price(sheet, True).registers              # [2, 0, 1, 0, 0]: step 0 needs two registers and step 2 one
+    standplan.price(sheet, True).total_comparisons      # 7
 
 `allow` says whether waits are allowed. What is refused raises Refused, with its number and sentence (docs/REFUSALS.md), and changes nothing.
 The functions of the library are proved; this module is not: it lends them memory.
@@ -33,14 +35,14 @@ from functools import cache
 from pathlib import Path
 from typing import NamedTuple
 
-__version__ = "2.3.0"
+__version__ = "2.4.0"
 __all__ = ["SOUND", "SOUND_WITH_WAITS", "UNDECIDED", "MAX_STEPS", "MAX_RECORDS", "MAX_SHEET", "MAX_TABLE", "MAX_DURATION", "STACK", "SENTENCES",
-           "Refused", "NoLibrary", "Plan", "Step", "Link", "Steps", "Run", "judge", "waits", "plan", "starts", "clashes", "write", "steps"]
+           "Refused", "NoLibrary", "Plan", "Price", "Step", "Link", "Steps", "Run", "judge", "waits", "plan", "starts", "clashes", "price", "write", "steps"]
 
 SOUND, SOUND_WITH_WAITS = 0, 1                          # the verdicts
 UNDECIDED = 4294967295                                  # the number in a plan where a step does not decide another
 MAX_STEPS, MAX_RECORDS, MAX_SHEET, MAX_TABLE, MAX_DURATION = 64, 512, 5825, 4096, 16777215
-STACK = 81920                                           # bytes of stack that are enough for any call
+STACK = 102400                                           # bytes of stack that are enough for any call
 
 SENTENCES = {
     1: "the bytes end before a field is complete",
@@ -61,6 +63,7 @@ SENTENCES = {
     16: "Begin on a run that has begun",
     17: "Finish of a step that is not open, is 0, has not started, or has finished",
     18: "Tick when the tick is 4,294,967,295",
+    19: "a largest offset is 1,024 or more",
     20: "Finish at a tick below its start tick plus its least duration",
     26: "a link map with bit 4, at most from the finish, and without bit 0, after",
     28: "the waits close a circle of forward links, or leave no start times with each open step at its least",
@@ -95,6 +98,7 @@ _CALLS = {
     "starts": [*_SHEET, ctypes.c_bool, _U32, _SIZE, _U32, _SIZE],
     "steps": [*_SHEET, ctypes.POINTER(_SIZE), _U64, _U16, _SIZE],
     "clashes": [*_SHEET, _U32, _SIZE, ctypes.POINTER(_SIZE)],
+    "price": [*_SHEET, ctypes.c_bool, _U32, _SIZE, _U32, _SIZE, _U32],
     "write": [_SIZE, _U16, _SIZE, _SIZE, _U16, _SIZE, ctypes.POINTER(ctypes.c_uint8), _SIZE, ctypes.POINTER(_SIZE)],
     "begin": [*_STATE, _SIZE, ctypes.c_uint64, _U16, _SIZE, _U32, _SIZE],
     "tick": [*_STATE, _U32, _SIZE],
@@ -217,6 +221,24 @@ def clashes(sheet: bytes) -> list[int]:
     numbers, count = (ctypes.c_uint32 * MAX_RECORDS)(), _SIZE()
     _called("clashes", *_lent(sheet), numbers, MAX_RECORDS, ctypes.byref(count))
     return numbers[:count.value]
+
+
+class Price(NamedTuple):
+    """The price of the control box of a sheet: the registers of each step, 0 for a fixed one, the comparisons of each, and the sums of both."""
+
+    registers: list[int]
+    comparisons: list[int]
+    total_registers: int
+    total_comparisons: int
+    verdict: int = SOUND
+
+
+def price(sheet: bytes, allow: bool) -> Price:
+    """Prices the control box of a sheet. Refusals 1 to 8, 10 to 12, 26, 28, and 19 where a largest offset is 1,024 or more."""
+    data, size = _lent(sheet)
+    registers, comparisons, totals = (ctypes.c_uint32 * MAX_STEPS)(), (ctypes.c_uint32 * MAX_STEPS)(), (ctypes.c_uint32 * 2)()
+    verdict = _called("price", data, size, allow, registers, MAX_STEPS, comparisons, MAX_STEPS, totals)
+    return Price(registers[:data[0]], comparisons[:data[0]], *totals, verdict)
 
 
 # ---------------------------------------------------------------- the writer

@@ -18,7 +18,7 @@ HERE, BUILT = Path(__file__).parent, ROOT / "target/staticlib"
 HEADER = (ROOT / "include/standplan.h").read_text("ascii")
 CRATE = (ROOT / "bindings/rust/src/lib.rs").read_text("utf-8")
 RETIRED = "retired: no sheet is refused so"
-CALLS = {f"standplan_{call}" for call in ("judge", "waits", "plan", "starts", "steps", "clashes", "write", "begin", "tick", "finish")}
+CALLS = {f"standplan_{call}" for call in ("judge", "waits", "plan", "starts", "steps", "clashes", "price", "write", "begin", "tick", "finish")}
 
 
 def check(found, wanted, what):
@@ -61,7 +61,7 @@ def header():
             assert good, said
     lines = {"judge": "standplan_judge(s, 1, true)", "waits": "standplan_waits(s, 1, w, t)", "plan": "standplan_plan(s, 1, true, t, 1)",
              "starts": "standplan_starts(s, 1, true, t, 1, t, 1)", "steps": "standplan_steps(s, 1, n, w, l, 1)", "clashes": "standplan_clashes(s, 1, t, 1, n)",
-             "write": "standplan_write(1, l, 2, 1, l, 7, s, 1, n)", "write_sheet": "standplan_write_sheet(p, 1, k, 1, s, 1, n)",
+             "price": "standplan_price(s, 1, true, t, 1, t, 1, t)", "write": "standplan_write(1, l, 2, 1, l, 7, s, 1, n)", "write_sheet": "standplan_write_sheet(p, 1, k, 1, s, 1, n)",
              "step_open": "standplan_step_open()", "step_open_least": "standplan_step_open_least(1)", "step_fixed": "standplan_step_fixed(1)",
              "link_pair": "standplan_link_pair(0, 1)", "link_after": "standplan_link_after(*k)",
              **{f"link_{name}": f"standplan_link_{name}(*k, 1)" for name in ("gap", "at_least", "at_most", "at_most_from_finish")},
@@ -181,9 +181,9 @@ def parts(place):
 
 def stack(place):
     """The stack of each call, on 64 steps with waits, on parts of large impossible sheets, and on the parts of the longest sheet, is not above what the header says."""
-    said = re.search(r"at most: judge and waits (\d+) kB, plan and starts (\d+) kB, steps (\d+) kB, clashes (\d+) kB, write (\d+) kB, begin, tick and finish (\d+) kB", HEADER)
+    said = re.search(r"at most: judge and waits (\d+) kB, plan and starts (\d+) kB, steps (\d+) kB, clashes (\d+) kB, price (\d+) kB, write (\d+) kB, begin, tick and finish (\d+) kB", HEADER)
     assert said, "the header does not say how much stack each call needs"
-    most = dict(zip(("judge", "waits", "plan", "starts", "steps", "clashes", "write", "begin", "tick", "finish"), (int(said[group]) for group in (1, 1, 2, 2, 3, 4, 5, 6, 6, 6))))
+    most = dict(zip(("judge", "waits", "plan", "starts", "steps", "clashes", "price", "write", "begin", "tick", "finish"), (int(said[group]) for group in (1, 1, 2, 2, 3, 4, 5, 6, 7, 7, 7))))
     ran("cc", "-std=c11", "-O2", "-Wall", "-Wextra", "-I", ROOT / "include", HERE / "stack.c", BUILT / "libstandplan.a", "-o", place / "stack")
     found = dict(line.split() for line in ran(place / "stack", *(ROOT / f"bench/sets/{name}.bin" for name in ("small", "large", "worst", "l14"))).splitlines())
     check(list(found), list(most), "calls whose stack was measured")

@@ -1,4 +1,4 @@
-"""The Python module: its answers and its runs, state by state, and the sheets that it writes, against those stored of the reference planner (tests/rust/data);
+"""The Python module: its answers and its runs, state by state, the sheets that it writes and its prices, against those stored of the reference planner (tests/rust/data);
 the stored plans of the examples; what its own example says; and what it does where Python's numbers go further than the library's."""
 import ctypes
 import os
@@ -147,6 +147,36 @@ def parts():
     return count
 
 
+def priced(sheet, allow, rooms):
+    """What the library's call gives: the verdict or the refusal; then the lists, lent as 1000, 1001 and so on and 2000, 2001 and so on, and the totals, as 1000
+    and 1001."""
+    registers, comparisons, totals = ((ctypes.c_uint32 * room)(*range(first, first + room)) for first, room in ((1000, rooms[0]), (2000, rooms[1]), (1000, 2)))
+    found = answer(standplan._called, "price", sheet, len(sheet), allow, registers, rooms[0], comparisons, rooms[1], totals)
+    return found, list(registers), list(comparisons), list(totals)
+
+
+def prices():
+    """Each line by the library's call as C makes it; by `price` where 14 does not come up: it lends room enough."""
+    sheet, count, seen, called = b"", 0, set(), 0
+    for line in (ROOT / "tests/rust/data/prices.txt").read_text("ascii").splitlines():
+        (kind, *rest), *fields = [field.split() for field in line.split(";")]
+        if kind == "sheet":
+            sheet = bytes.fromhex("".join(rest))
+        if kind != "price":                                # a sheet, or a line of the head
+            continue
+        allow, wanted, (registers, comparisons, totals) = rest == ["1"], verdict_of(fields[0]), map(numbers, fields[1:])
+        refused = isinstance(wanted, tuple)
+        check(priced(sheet, allow, (len(registers), len(comparisons))), (wanted, registers, comparisons, [1000, 1001] if refused else totals), f"{line} {sheet.hex()}")
+        if wanted != ("refused", 14):
+            found = answer(standplan.price, sheet, allow)
+            check(found, wanted if refused else (registers[:sheet[0]], comparisons[:sheet[0]], *totals, wanted), f"{line} {sheet.hex()}")
+            called += 1
+        seen.add(wanted)
+        count += 1
+    assert count > 1000 and called > 500 and len(seen) == 17, (count, called, seen)     # both verdicts, refusals 1 to 8, 10 to 12, 14, 19, 26 and 28
+    return count
+
+
 def documented():
     """The example at the head of the module: what stands behind an expression begins with what it gives."""
     names, count = {}, 0
@@ -260,8 +290,8 @@ def borders():
 
 if __name__ == "__main__":
     os.chdir(ROOT)                                         # the module's example opens a file there
-    counts = answers(), runs(), parts(), plans()
+    counts = answers(), runs(), parts(), prices(), plans()
     documented()
     writer_borders()
     borders()
-    print("the Python module gives {} stored answers, {} stored calls of the runner, {} stored answers of the writer and {} stored plans".format(*counts))
+    print("the Python module gives {} stored answers, {} stored calls of the runner, {} stored answers of the writer, {} stored prices and {} stored plans".format(*counts))

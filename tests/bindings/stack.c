@@ -8,9 +8,9 @@
 
 #include "standplan.h"
 
-enum { ROOM = 1 << 20, FILL = 0xa5, CALLS = 10 };
+enum { ROOM = 1 << 20, FILL = 0xa5, CALLS = 11 };
 
-static const char *const names[CALLS + 1] = {"judge", "waits", "plan", "starts", "steps", "clashes", "write", "begin", "tick", "finish", "nothing"};
+static const char *const names[CALLS + 1] = {"judge", "waits", "plan", "starts", "steps", "clashes", "price", "write", "begin", "tick", "finish", "nothing"};
 static _Alignas(64) unsigned char stack[ROOM];
 static uint8_t sheet[STANDPLAN_MAX_SHEET], buffer[STANDPLAN_MAX_SHEET];
 static size_t length, steps, few, written;
@@ -19,6 +19,7 @@ static standplan_link links[STANDPLAN_MAX_RECORDS];
 static uint64_t maps[STANDPLAN_MAX_STEPS], map, open_map;
 static uint16_t leasts[STANDPLAN_MAX_STEPS];
 static uint32_t count, table[STANDPLAN_MAX_TABLE], list[STANDPLAN_MAX_STEPS], out[STANDPLAN_MAX_STEPS], numbers[STANDPLAN_MAX_RECORDS], verdict;
+static uint32_t registers[STANDPLAN_MAX_STEPS], comparisons[STANDPLAN_MAX_STEPS], totals[2];
 static standplan_run run;
 static ucontext_t here, there;
 static int called;
@@ -32,10 +33,11 @@ static void call(void) {
     case 3: verdict = standplan_starts(sheet, length, true, list, n, out, n); break;
     case 4: verdict = standplan_steps(sheet, length, &steps, &open_map, leasts, STANDPLAN_MAX_STEPS); break;
     case 5: verdict = standplan_clashes(sheet, length, numbers, STANDPLAN_MAX_RECORDS, &few); break;
-    case 6: verdict = standplan_write_sheet(parts, STANDPLAN_MAX_STEPS, links, STANDPLAN_MAX_RECORDS, buffer, sizeof buffer, &written); break;
-    case 7: memset(&run, 0, sizeof run); verdict = standplan_run_begin(&run, n, UINT64_MAX, leasts, n, table, n * n, &map); break;
-    case 8: verdict = standplan_run_tick(&run, table, n * n, &map); break;
-    case 9: verdict = standplan_run_finish(&run, 1, table, n * n, &map); break;
+    case 6: verdict = standplan_price(sheet, length, true, registers, n, comparisons, n, totals); break;
+    case 7: verdict = standplan_write_sheet(parts, STANDPLAN_MAX_STEPS, links, STANDPLAN_MAX_RECORDS, buffer, sizeof buffer, &written); break;
+    case 8: memset(&run, 0, sizeof run); verdict = standplan_run_begin(&run, n, UINT64_MAX, leasts, n, table, n * n, &map); break;
+    case 9: verdict = standplan_run_tick(&run, table, n * n, &map); break;
+    case 10: verdict = standplan_run_finish(&run, 1, table, n * n, &map); break;
     }
 }
 

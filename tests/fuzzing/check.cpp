@@ -198,6 +198,19 @@ void Met::add_report(size_t count, size_t records) {
     most_clash = std::max(most_clash, count);
 }
 
+// The largest offset of a sheet that is priced or refused 19 is looked at in its plan.
+void Met::add_price(const Bytes &sheet, bool allow, uint32_t verdict) {
+    if (verdict >= 256 && verdict != 256 + 19) return;
+    Numbers plan(most_steps * most_steps);
+    need(second_plan(sheet.data(), sheet.size(), allow, plan.data(), plan.size()) < 256, "the second planner prices what it does not plan");
+    uint32_t largest = 0;
+    for (size_t k = 0; k < size_t(sheet[0]) * sheet[0]; k++)
+        if (plan[k] != STANDPLAN_UNDECIDED) largest = std::max(largest, plan[k]);
+    just_priced += verdict < 256 && largest + 1 == register_entries;
+    just_too_large += verdict >= 256 && largest == register_entries;
+    large_priced += verdict < 256 && sheet[0] == most_steps && record_count(sheet) == most_links;
+}
+
 void Examiner::sheet(const Bytes &bytes, Random &random) {
     const Current current(bytes);
     const uint8_t *const at = address(bytes);
@@ -312,6 +325,43 @@ void Examiner::sheet(const Bytes &bytes, Random &random) {
     }
 
     clashing_records(bytes, is_impossible(allowed), random);
+    price_of(bytes, random);
+}
+
+// The price, by the printed table; the two lists are lent at lengths of their own.
+void Examiner::price_of(const Bytes &bytes, Random &random) {
+    static const std::vector<uint16_t> printed = [] {
+        std::vector<uint16_t> entries(register_entries);
+        second_printed(entries.data());
+        return entries;
+    }();
+    const bool allow = random.chance(80);
+    const size_t n = bytes.empty() ? 0 : bytes[0];
+    auto before_of = [&] { return draw_numbers(random, draw_length(random, std::min(n, most_steps), longest_list)); };
+    const Numbers registers_before = before_of(), comparisons_before = before_of(), totals_before = draw_numbers(random, 2);
+    Numbers registers = registers_before, comparisons = comparisons_before, totals = totals_before;
+    const uint32_t expected = second_price(address(bytes), bytes.size(), allow, printed.data(), address(registers), registers.size(), address(comparisons), comparisons.size(), totals.data());
+    need_rule(expected, registers_before, registers, n);
+    need_rule(expected, comparisons_before, comparisons, n);
+    need_rule(expected, totals_before, totals, totals.size());
+    met.add_price(bytes, allow, expected);
+    each_side(
+        price, "price", bytes, expected,
+        [&](Side &side) {
+            lend(side.registers, registers_before);
+            lend(side.comparisons, comparisons_before);
+            lend(side.totals, totals_before);
+            return calls.price(side.sheet.lent(), bytes.size(), allow, numbers_at(side.registers), registers_before.size(), numbers_at(side.comparisons), comparisons_before.size(), numbers_at(side.totals));
+        },
+        [&](Side &side) {
+            need_lent(side.registers, registers.data(), "registers");
+            need_lent(side.comparisons, comparisons.data(), "comparisons");
+            need_lent(side.totals, totals.data(), "totals");
+        },
+        [&] {
+            return std::string("waits ") + (allow ? "allowed" : "not allowed") + ", registers of " + std::to_string(registers.size()) + ", comparisons of " + std::to_string(comparisons.size()) + "\n  expected " + list_of(registers.data(), registers.size()) + "; " +
+                   list_of(comparisons.data(), comparisons.size()) + "; " + list_of(totals.data(), totals.size());
+        });
 }
 
 // Which records clash. The call takes a judgement for each record: small sheets are tried with two lengths of what is lent, large ones with one, the largest now and then.
@@ -665,12 +715,13 @@ uint32_t second_written(const Parts &parts, Bytes &buffer, size_t &length) {
     return second_write(parts.n, address(parts.steps), parts.steps.size(), parts.r, address(parts.records), parts.records.size(), address(buffer), buffer.size(), &length);
 }
 
-// All that the library says of a sheet: verdicts, waits, plan, steps, and starts for its leasts.
+// All that the library says of a sheet: verdicts, waits, plan, steps, price, and starts for its leasts.
 struct Answers {
     std::vector<uint32_t> verdicts;
     std::array<uint64_t, 64> maps{};
     uint32_t count = 0;
     Numbers plan = Numbers(most_steps * most_steps), starts = Numbers(most_steps), leasts;
+    Numbers registers = Numbers(most_steps), comparisons = Numbers(most_steps), totals = Numbers(2);
     size_t n = 0;
     uint64_t open = 0;
 
@@ -683,11 +734,13 @@ struct Answers {
         verdicts.push_back(calls.plan(at, length, true, plan.data(), plan.size()));
         verdicts.push_back(calls.steps(at, length, &n, &open, given.data(), given.size()));
         leasts.assign(given.begin(), given.end());
+        verdicts.push_back(calls.price(at, length, true, registers.data(), most_steps, comparisons.data(), most_steps, totals.data()));
         verdicts.push_back(calls.starts(at, length, true, leasts.data(), leasts.size(), starts.data(), starts.size()));
     }
 
     bool operator==(const Answers &other) const {
-        return verdicts == other.verdicts && maps == other.maps && count == other.count && plan == other.plan && starts == other.starts && leasts == other.leasts && n == other.n && open == other.open;
+        return verdicts == other.verdicts && maps == other.maps && count == other.count && plan == other.plan && starts == other.starts && leasts == other.leasts && n == other.n && open == other.open && registers == other.registers &&
+               comparisons == other.comparisons && totals == other.totals;
     }
 };
 

@@ -18,6 +18,7 @@ struct Calls {
     decltype(&standplan_starts) starts = standplan_starts;
     decltype(&standplan_steps) steps = standplan_steps;
     decltype(&standplan_clashes) clashes = standplan_clashes;
+    decltype(&standplan_price) price = standplan_price;
     decltype(&standplan_begin) begin = standplan_begin;
     decltype(&standplan_tick) tick = standplan_tick;
     decltype(&standplan_finish) finish = standplan_finish;
@@ -32,7 +33,7 @@ struct Failure {
     std::string what;
 };
 
-enum Call { judge, waits, plan, starts, steps, clashes, begin, tick, finish, write_sheet, call_count };
+enum Call { judge, waits, plan, starts, steps, clashes, price, begin, tick, finish, write_sheet, call_count };
 
 // What was met.
 struct Met {
@@ -50,6 +51,9 @@ struct Met {
     uint64_t many_clash = 0;   // of 40 or more
     uint64_t large_clash = 0;  // reports of sheets with R = 512
     size_t most_clash = 0;     // records of the longest report
+    uint64_t just_priced = 0;  // prices where the largest offset is the last one that the table has
+    uint64_t just_too_large = 0; // refused where it is one more
+    uint64_t large_priced = 0; // prices of sheets with N = 64 and R = 512
     uint64_t proper_runs = 0;  // runs of an accepted sheet's plan
     uint64_t least_runs = 0;   // those of a sheet with leasts above 0
     uint64_t just_long = 0;    // steps of theirs that finished at exactly their least above 0
@@ -66,6 +70,7 @@ struct Met {
     size_t longest_written = 0; // bytes of a written sheet
 
     void add_report(size_t count, size_t records);
+    void add_price(const Bytes &sheet, bool allow, uint32_t verdict);
 };
 
 // From now on a call that faults is a failure, and one that does not answer ends the program with the case that has begun.
@@ -77,6 +82,7 @@ class Examiner {
         Guard guard;
         Lent sheet{guard, Lent::pages_for(longest_input)}, table{guard, Lent::pages_for(longest_table * sizeof(uint32_t))}, list{guard, 1}, out{guard, 1}, maps{guard, 1}, count{guard, 1}, leasts{guard, 1}, n{guard, 1}, open{guard, 1};
         Lent report{guard, Lent::pages_for(longest_report * sizeof(uint32_t))};
+        Lent registers{guard, 1}, comparisons{guard, 1}, totals{guard, 1};
         Lent step_list{guard, Lent::pages_for(longest_step_numbers * sizeof(uint16_t))}, record_list{guard, Lent::pages_for(longest_record_numbers * sizeof(uint16_t))};
         Lent buffer{guard, Lent::pages_for(longest_buffer)}, length{guard, 1};
         Lent words{guard, 1}, tick{guard, 1}, start{guard, 1}, finish{guard, 1}, least{guard, 1}, map{guard, 1};
@@ -89,6 +95,7 @@ class Examiner {
     template <class Ours, class Look, class Tell> void both_sides(const char *name_of_call, uint32_t expected, Ours ours, Look look, Tell tell);
     template <class Ours, class Look, class Tell> void each_side(Call call, const char *name_of_call, const Bytes &sheet, uint32_t expected, Ours ours, Look look, Tell tell);
     void clashing_records(const Bytes &sheet, bool impossible, Random &random);
+    void price_of(const Bytes &sheet, Random &random);
     void lend_report(const Bytes &sheet, const Numbers &expected_report, Random &random);
     void proper_run(Random &random);
     void any_run(Random &random);
@@ -102,7 +109,7 @@ public:
 
     explicit Examiner(const Calls &calls = {}) : calls(calls) {}
 
-    // Judges, lists the waits of, plans, works out starts of, says what begins a run of and which records clash in one input, on both sides of a guard page.
+    // Judges, lists the waits of, plans, works out starts of, says what begins a run of and which records clash in, and prices one input, on both sides of a guard page.
     void sheet(const Bytes &bytes, Random &random);
 
     // One run: of an accepted sheet's plan, or of states and tables from anywhere.

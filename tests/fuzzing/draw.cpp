@@ -331,6 +331,19 @@ void add_crossed_hands(Random &random, Sheet &sheet) {
     limit_finish(add_after(b, joint), few());
 }
 
+// A step more, for prices: it comes after step 0 or an open step, by a gap near 1,024 or a power of two.
+void add_far_step(Random &random, Sheet &sheet) {
+    if (sheet.steps.size() >= most_steps || sheet.links.size() >= most_links) return;
+    std::vector<uint8_t> open;
+    for (size_t v = 0; v < sheet.steps.size(); v++)
+        if (sheet.steps[v].open) open.push_back(uint8_t(v));
+    const uint8_t from = open[random.below(uint32_t(open.size()))], far = uint8_t(sheet.steps.size());
+    sheet.steps.push_back({});
+    Link &link = sheet.links[{from, far}];
+    link.map |= after;
+    put_gap(link, (random.chance(50) ? 1024u : 1u << random.below(11)) + random.below(4) - std::min(1u, random.below(3)));
+}
+
 // So that nothing weighs anything and nothing is limited: what clashes is then what is added.
 void make_quiet(Random &random, Aim &aim) {
     aim.heaviest = aim.widest = 0;
@@ -444,6 +457,7 @@ Bytes draw_input(Random &random) {
     Sheet sheet = draw_sheet(random, aim);
     for (uint32_t k = 0; k < clashes; k++) add_clash(random, sheet);
     if (random.chance(4)) add_crossed_hands(random, sheet);
+    if (random.chance(15)) add_far_step(random, sheet);
     if (kind >= 66 && kind < 69 && !sheet.links.empty()) { // a link map that is not allowed, all else whole
         Link &link = any_link(random, sheet);
         uint32_t map = link.map, fields = 2 * random.below(4);

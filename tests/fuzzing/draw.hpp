@@ -44,6 +44,7 @@ constexpr uint8_t step_field_bits = 6;               // of a step map: those wit
 constexpr size_t longest_table = most_steps * most_steps + 64;
 constexpr size_t longest_list = most_steps + 64;
 constexpr size_t longest_leasts = most_steps + 64;
+constexpr uint32_t register_entries = 1024; // of the printed table
 constexpr size_t longest_report = most_links + 64;
 constexpr uint32_t heaviest_field = 65535, longest_duration = 16777215;
 constexpr uint32_t largest_offset = heaviest_field + (most_steps - 2) * 2 * heaviest_field; // a gap after step 0, then a duration and a gap at each link

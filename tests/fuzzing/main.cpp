@@ -105,6 +105,7 @@ int self_test(uint64_t seed) {
     size_t noticed = 0;
     std::vector<Planted> all = planted_faults();
     for (const Planted &planted : planted_in_writes()) all.push_back(planted);
+    for (const Planted &planted : planted_in_prices()) all.push_back(planted);
     for (const Planted &planted : all) {
         uint64_t number = first_failure(planted.calls, planted.kind, met);
         if (number < cases && met.what.find(planted.noticed) != std::string::npos) noticed++;
@@ -126,6 +127,7 @@ const struct {
     {"starts", {1, 2, 3, 4, 26, 5, 6, 7, 8, 10, 11, 28, 12, 13, 14}, true},
     {"steps", {1, 2, 3, 4, 26, 5, 6, 7, 14}, false},
     {"clashes", {1, 2, 3, 4, 26, 5, 6, 7, 8, 31, 14}, false},
+    {"price", {1, 2, 3, 4, 26, 5, 6, 7, 8, 10, 11, 28, 12, 19, 14}, true},
     {"begin", {16, 2, 14}, false},
     {"tick", {15, 14, 18}, false},
     {"finish", {15, 14, 17, 20}, false},
@@ -155,12 +157,14 @@ bool report(const Met &met, bool all_sheets, bool all_runs, bool all_writes) {
     std::cout << "accepted sheets with N = 64 and R = 512: " << met.largest << ", with steps that follow nothing: " << met.loose << ", both: " << met.large_loose << "; the longest: " << met.longest << " bytes; the largest offset: " << met.heaviest << "\n";
     std::cout << "accepted sheets with leasts: " << met.leasts << ", of these with N = 64 and R = 512: " << met.large_leasts << "; lists refused 13 only by entries below their leasts: " << met.below_least << "\n";
     std::cout << "reports of one record that clashes: " << met.one_clash << ", of several: " << met.some_clash << ", of 40 or more: " << met.many_clash << "; the longest: " << met.most_clash << "; of sheets with R = 512: " << met.large_clash << "\n";
+    std::cout << "prices with a largest offset of " << register_entries - 1 << ": " << met.just_priced << ", refused with one of " << register_entries << ": " << met.just_too_large << "; prices of sheets with N = 64 and R = 512: " << met.large_priced << "\n";
     std::cout << "runs of a plan: " << met.proper_runs << ", with leasts: " << met.least_runs << ", steps of these that finished at exactly their least: " << met.just_long << "; to their end: " << met.ended_runs << ", starts compared: " << met.started << "; most calls in one run: " << met.fullest << "\n";
     std::cout << "sheets written with no byte to spare: " << met.just_room << ", without some duration of 0: " << met.left_out << ", their records in another order: " << met.reordered << "; the longest: " << met.longest_written << " bytes; refused for one byte: " << met.one_short
               << ", for a list: " << met.short_lists << "; sheets written again: " << met.again << ", shorter: " << met.again_shorter << "\n";
     if (all_sheets && (met.large_loose == 0 || met.longest != longest_sheet || met.heaviest != largest_offset)) all = false;
     if (all_sheets && (met.large_leasts == 0 || met.below_least == 0)) all = false;
     if (all_sheets && (met.one_clash == 0 || met.some_clash == 0 || met.many_clash == 0 || met.large_clash == 0)) all = false;
+    if (all_sheets && (met.just_priced == 0 || met.just_too_large == 0 || met.large_priced == 0)) all = false;
     if (all_runs && (met.ended_runs == 0 || met.least_runs == 0 || met.just_long == 0)) all = false;
     if (all_writes && (met.just_room == 0 || met.left_out == 0 || met.reordered == 0 || met.longest_written != longest_sheet || met.one_short == 0 || met.short_lists == 0 || met.again_shorter == 0)) all = false;
     return all;
@@ -189,7 +193,7 @@ int fuzz(const Options &options) {
     std::cout << "seed " << options.seed;
     if (options.parts > 1) std::cout << ", part " << options.part << " of " << options.parts;
     std::cout << ": " << tried[sheet_kind] << " sheets, " << tried[run_kind] << " runs and " << tried[write_kind] << " writes, each with the guard pages past the end and before the start: ";
-    std::cout << (all ? "no difference" : "no difference, but not every verdict, not the largest answers, not every kind of report, nothing at a least or not every kind of writing was met");
+    std::cout << (all ? "no difference" : "no difference, but not every verdict, not the largest answers, not every kind of report or of price, nothing at a least or not every kind of writing was met");
     std::cout << ", " << int(seconds() + 0.5) << " s" << std::endl;
     return all ? 0 : 1;
 }

@@ -14,3 +14,4 @@ struct Planted {
 
 std::vector<Planted> planted_faults();
 std::vector<Planted> planted_in_writes();
+std::vector<Planted> planted_in_prices();

@@ -1,4 +1,4 @@
-"""How ./standplan comes by its program, in small clones of this repository with an rt that proves nothing: progress, log, lock, age, statuses; and clones
+"""How ./standplan and ./standprice come by their programs, in small clones of this repository with an rt that proves nothing: progress, log, lock, age, statuses; and clones
 that cannot be written to. tools/library says that it builds; a text needs it, and what is wrong with the text is said before."""
 import os
 import pty
@@ -10,10 +10,11 @@ from pathlib import Path
 
 ROOT = Path(__file__).resolve().parents[2]
 SHEET, PLAN = ROOT / "examples/stand.sheet", (ROOT / "examples/stand.plan").read_bytes()
+PRICE = (ROOT / "crates/standprice/stdout").read_bytes()
 NOT_BUILT, OLDER = "standplan: the program is not built yet", "standplan: the program is older than the crates"
 FIRST = "; proving and building it first, which can take some minutes\n"
 PROGRESS = "".join(f"standplan: proving crate {k} of 3: {name}\n" for k, name in ((1, "ground"), (2, "walls"), (3, "standplan")))
-# It does with the program, stamps and lines what rt does; `mode` says what goes wrong.
+# It does with the program, stamps and lines what rt does; `mode` says what goes wrong. It is called as `rt check NAME`.
 RT = """#!/bin/sh
 echo "$*" >> "$CALLS"
 mode=$(cat "$CALLS.mode")
@@ -23,14 +24,14 @@ echo "rt: ground proved (1 s)"
 while [ "$mode" = held ] && [ ! -e "$CALLS.go" ]; do sleep 0.05; done
 if [ "$mode" = broken ]; then
     echo "rt: walls NOT PROVED (exit 1, 2 s)"
-    echo "rt: standplan NOT PROVED: its dependency walls is not proved"
-    echo "rt: FAILED: walls standplan"
+    echo "rt: $2 NOT PROVED: its dependency walls is not proved"
+    echo "rt: FAILED: walls $2"
     exit 1
 fi
 echo "rt: walls proved (2 s)"
-[ -e target/stamp/standplan ] && [ "$mode" != changed ] || cp "$PROGRAM" target/bin/standplan
-touch target/stamp/standplan
-echo "rt: standplan proved (3 s)"
+[ -e "target/stamp/$2" ] && [ "$mode" != changed ] || cp "$PROGRAMS/$2" "target/bin/$2"
+touch "target/stamp/$2"
+echo "rt: $2 proved (3 s)"
 echo "rt: ok, 3 crates proved"
 """
 
@@ -44,15 +45,15 @@ class Clone:
         self.at, self.tools, self.calls = place / "clone", place / "bin", place / "calls"
         for folder in ("crates/ground/src", ".ci", "docs", "tools", "bindings/python"):
             (self.at / folder).mkdir(parents=True)
-        for name in ("standplan", "VERSION", ".ci/toolchain", "docs/REFUSALS.md", "tools/sheet", "tools/sheets.py", "tools/library", "bindings/python/standplan.py"):
+        for name in ("standplan", "standprice", "tools/program.sh", "VERSION", ".ci/toolchain", "docs/REFUSALS.md", "tools/sheet", "tools/sheets.py", "tools/library", "bindings/python/standplan.py"):
             shutil.copy(ROOT / name, self.at / name)
-        (self.at / "crates.txt").write_text("# Crates.\nground:\nwalls: ground\nroof: walls ground\nstandplan: walls io libc   # the program\n")
+        (self.at / "crates.txt").write_text("# Crates.\nground:\nwalls: ground\nroof: walls ground\nstandplan: walls io libc   # the program\nstandprice: walls io libc\n")
         (self.at / "crates/ground/src/lib.rt").touch()
         self.tools.mkdir()
         (self.tools / "rt").write_text(RT)
         (self.tools / "rt").chmod(0o755)
         self.mode("proves")
-        self.env = {**os.environ, "PATH": f"{self.tools}:{os.environ['PATH']}", "CALLS": str(self.calls), "PROGRAM": str(ROOT / "target/bin/standplan")}
+        self.env = {**os.environ, "PATH": f"{self.tools}:{os.environ['PATH']}", "CALLS": str(self.calls), "PROGRAMS": str(ROOT / "target/bin")}
 
     def mode(self, mode):
         self.calls.with_suffix(".mode").write_text(mode)
@@ -103,6 +104,20 @@ def first_and_later(place):
     # A program that fails is no answer.
     (clone.at / "target/bin/standplan").write_text("#!/bin/sh\necho verdict 0\nexit 5\n")
     check(clone.ran(SHEET), (3, b"", f"standplan: the program {clone.at}/target/bin/standplan ended with status 5\n"), "a program that fails")
+
+
+def the_other(place):
+    """./standprice beside ./standplan: each has its own program and its own log, and neither builds the other's."""
+    clone = Clone(place)
+    said = (NOT_BUILT + FIRST + PROGRESS).replace("standplan", "standprice")
+    check(clone.ran(SHEET, script="standprice"), (0, PRICE, said), "the first call")
+    check(clone.calls.read_text(), "check standprice\n", "what rt is asked for")
+    assert (clone.at / "target/standprice.log").exists() and not (clone.at / "target/standplan.log").exists()
+    check(clone.ran(SHEET), (0, PLAN, NOT_BUILT + FIRST + PROGRESS), "the plan's first call")
+    check((clone.ran(SHEET, script="standprice"), clone.ran(SHEET), clone.count()), ((0, PRICE, ""), (0, PLAN, ""), 2), "after that")
+    # Another program in its place is no answer.
+    shutil.copy(clone.at / "target/bin/standplan", clone.at / "target/bin/standprice")
+    check(clone.ran(SHEET, script="standprice"), (3, b"", f"standprice: the program {clone.at}/target/bin/standprice ended with status 0\n"), "a plan in the place of a price")
 
 
 def failures(place):
@@ -222,7 +237,7 @@ def library(place):
 
 
 if __name__ == "__main__":
-    tests = (first_and_later, failures, on_a_terminal, beside_each_other, read_only, library)
+    tests = (first_and_later, the_other, failures, on_a_terminal, beside_each_other, read_only, library)
     for test in tests:
         with tempfile.TemporaryDirectory() as name:
             place = Path(name) / "place"

@@ -1,4 +1,4 @@
-"""Outputs that cannot be written to: a full device, a pipe that nobody reads, none. ./standplan and the tools say so in one line, with a status that is not 0."""
+"""Outputs that cannot be written to: a full device, a pipe that nobody reads, none. ./standplan, ./standprice and the tools say so in one line, with a status that is not 0."""
 import os
 import subprocess
 from pathlib import Path
@@ -7,6 +7,7 @@ ROOT = Path(__file__).resolve().parents[2]
 STAND, TEXT = ROOT / "examples/stand.sheet", ROOT / "examples/stand.text"
 COMMANDS = [
     ["standplan", STAND], ["standplan", TEXT], ["standplan", "-"], ["standplan", "--help"], ["standplan", "--version"],
+    ["standprice", STAND], ["standprice", TEXT], ["standprice", "-"], ["standprice", "--help"], ["standprice", "--version"],
     ["tools/sheet", "bytes", TEXT], ["tools/sheet", "text", STAND], ["tools/sheet", "show", STAND], ["tools/sheet", "--help"],
     ["tools/explain", TEXT], ["tools/explain", "-"], ["tools/explain", "--help"],
     ["tools/library", "--help"],

@@ -1,7 +1,8 @@
 """The input of the program compare, and what it has to print, from the reference planner.
 
-    python3 container.py SEED COUNT STDIN STDOUT [--largest] [--finish | --gap | --loose | --least | --clash]
+    python3 container.py SEED COUNT STDIN STDOUT [--largest] [--finish | --gap | --loose | --least | --clash | --price]
                          [--and-finish COUNT] [--and-gap COUNT] [--and-loose COUNT] [--and-least COUNT] [--and-clash COUNT]
+                         [--and-price COUNT]
 
 STDIN holds, for each sheet, two bytes of length and the sheet; two bytes, the length of the list lent for the records that
 clash, at most 600; two bytes, the length of the table lent for its plan; a byte, the number of lists; and for each list a byte
@@ -10,10 +11,11 @@ entries, four bytes each. Numbers have the low byte first.
 With --largest, sheets of N = 64 and R = 512 and one of each fault of the limits stand in front of the random ones.
 With --finish, the sheets have limits from the end of a step (bit 4), with --gap, gaps too (bit 3), with --loose, also steps
 that no forward link enters, with --least, least durations too (step map bit 2), with --clash, all of this, and most of them
-are impossible. With --and-finish, COUNT sheets as with --finish, and the largest ones of this kind if --largest is given,
-follow behind those that the words before ask for, which stay as they are; with --and-gap, behind all of these, COUNT sheets as
-with --gap, and the largest ones likewise; with --and-loose the same as with --loose, then with --and-least the same as with
---least, then with --and-clash the same as with --clash, last.
+are impossible, with --price, as with --least, and most of them have offsets near 1,024 or a power of two. With --and-finish,
+COUNT sheets as with --finish, and the largest ones of this kind if --largest is given, follow behind those that the words
+before ask for, which stay as they are; with --and-gap, behind all of these, COUNT sheets as with --gap, and the largest ones
+likewise; with --and-loose the same as with --loose, then with --and-least the same as with --least, then with --and-clash the
+same as with --clash, then with --and-price the same as with --price, last.
 
 The lengths of the lists for the records that clash are drawn apart from all else, so that every sheet, table and list is the
 same as it was before these were asked for.
@@ -27,6 +29,7 @@ from collections import Counter
 
 import generate as g
 import planner as p
+import price
 
 LENT = 4_294_967_294           # what lent numbers hold before a call; no answer holds it
 MOST = 128                     # entries of a list that the program takes
@@ -455,17 +458,69 @@ def largest_clash_sheets(rng: random.Random) -> list[bytes]:
     return ones + alls + circles + around(longest_least_sheets(rng)[1]) + others
 
 
+def hands_into_one(behind: int) -> bytes:
+    """Hands 1 to 31; step 32 after each of them, and each later step at least `behind` after the one before it. Each hand decides
+    32 steps, the last of them at 31 times `behind`."""
+    links = [bytes([1, a, 32]) for a in range(1, 32)] + [bytes([2, v, v + 1]) + two(behind) for v in range(32, 63)]
+    return bytes([64]) + two(len(links)) + b"\x01" * 32 + b"\x00" * 32 + b"".join(links)
+
+
+def chain_to(first: int, last: int) -> bytes:
+    """A chain of all 64 steps: 1 comes `first` after 0, 62 then 61 times 16 later, and 63 `last` after that; in all 976 more than
+    the two."""
+    links = [bytes([9, 0, 1]) + two(first)] + [bytes([1, v, v + 1]) for v in range(1, 62)] + [bytes([9, 62, 63]) + two(last)]
+    return bytes([64]) + two(63) + b"\x01" + (b"\x02" + two(16)) * 61 + b"\x02\x00\x00" * 2 + b"".join(links)
+
+
+def one_gap(hand: bool, ticks: int) -> bytes:
+    """Step 2 so many ticks after the end of step 1, a hand, or a step of 0 that hangs from the start."""
+    return b"\x03\x01\x00\x01" + bytes([hand, 0, 9, 1, 2]) + two(ticks)
+
+
+def full_price_sheet(rng: random.Random, wanted: p.Verdict, waits: bool) -> bytes:
+    """A sheet of N 64 and R 512 with loose steps, small numbers and this verdict of its price, with waits or without."""
+    while True:
+        draft = loose_draft(rng)
+        draft.top = 90
+        draft.steps = [p.OPEN if step is p.OPEN else step % 20 for step in draft.steps]
+        for fields in draft.fields.values():
+            fields.update({name: fields[name] % 20 for name in ("at_least", "gap") if name in fields})
+        draft.return_part(12 if waits else 0)
+        fill_with_returns(draft)
+        numbers = [fields for fields in draft.fields.values() if "at_least" in fields]
+        if wanted == ("refused", 19):
+            rng.choice(numbers)["at_least"] = 1024
+        sheet = whole_sheet(draft)
+        verdict = price.price(sheet, True, [0] * 64, [0] * 64)[0]
+        if len(draft.fields) == 512 and verdict == wanted and bool(p.waits(sheet)[1]) == waits:
+            return sheet
+
+
+def largest_price_sheets(rng: random.Random) -> list[bytes]:
+    """Sheets at the limits, to be priced: offsets of 1,023 and 1,024 of the start and of a hand, by one gap, by a chain of all
+    steps and of many hands, with many comparisons; the largest offset there can be; and N 64 and R 512, priced and not, with
+    waits and without."""
+    gaps = [one_gap(hand, ticks) for hand in (False, True) for ticks in (1023, 1024, 65535)]
+    chains = [chain_to(first, last) for first, last in ((0, 47), (47, 0), (23, 24), (24, 24), (48, 0), (0, 48))]
+    hands = [hands_into_one(behind) for behind in (0, 1, 32, 33, 34)]
+    full = [full_price_sheet(rng, *wanted) for wanted in ((("ok", 0), False), (("ok", 1), True), (("refused", 19), False),
+                                                          (("refused", 19), True))]
+    return gaps + chains + hands + [heaviest_sheet(), heaviest_before_least()] + full
+
+
 def make(seed: int, count: int, largest: bool, finish: bool = False, gap: bool = False, loose: bool = False,
-         least: bool = False, clash: bool = False, reports: Counter | None = None) -> tuple[bytes, str, Counter]:
+         least: bool = False, clash: bool = False, priced: bool = False,
+         reports: Counter | None = None) -> tuple[bytes, str, Counter]:
     """The input, what has to be printed, and how often each verdict is given; those on the records that clash are counted in
     `reports` alone."""
     rng = random.Random(seed)
-    least = least or clash
+    least = least or clash or priced
     loose = loose or least
     gap = gap or loose
-    at_limits = (largest_clash_sheets if clash else largest_least_sheets if least else largest_loose_sheets if loose else
-                 largest_gap_sheets if gap else largest_finish_sheets if finish else largest_sheets)
-    sheets = (at_limits(rng) if largest else []) + g.generate(seed, count, finish, gap, loose, least, clash)
+    at_limits = (largest_price_sheets if priced else largest_clash_sheets if clash else largest_least_sheets if least else
+                 largest_loose_sheets if loose else largest_gap_sheets if gap else largest_finish_sheets if finish else
+                 largest_sheets)
+    sheets = (at_limits(rng) if largest else []) + g.generate(seed, count, finish, gap, loose, least, clash, priced)
     taken = LONGEST_SHEET + 1 if gap else 4802 if finish else 4095     # bytes; without gaps as the stored ones were taken
     verdicts: Counter = Counter()
     reports = Counter() if reports is None else reports
@@ -498,18 +553,20 @@ def main() -> None:
     words.add_argument("--loose", action="store_true")
     words.add_argument("--least", action="store_true")
     words.add_argument("--clash", action="store_true")
+    words.add_argument("--price", action="store_true")
     words.add_argument("--and-finish", type=int, default=0, metavar="COUNT")
     words.add_argument("--and-gap", type=int, default=0, metavar="COUNT")
     words.add_argument("--and-loose", type=int, default=0, metavar="COUNT")
     words.add_argument("--and-least", type=int, default=0, metavar="COUNT")
     words.add_argument("--and-clash", type=int, default=0, metavar="COUNT")
+    words.add_argument("--and-price", type=int, default=0, metavar="COUNT")
     asked = words.parse_args()
     reports: Counter = Counter()
     stdin, stdout, given = make(asked.seed, asked.count, asked.largest, asked.finish, asked.gap, asked.loose, asked.least,
-                                asked.clash, reports)
-    for count, *kinds in ((asked.and_finish, False, False, False, False), (asked.and_gap, True, False, False, False),
-                          (asked.and_loose, True, True, False, False), (asked.and_least, True, True, True, False),
-                          (asked.and_clash, True, True, True, True)):
+                                asked.clash, asked.price, reports)
+    for count, *kinds in ((asked.and_finish, False, False, False, False, False), (asked.and_gap, True, False, False, False, False),
+                          (asked.and_loose, True, True, False, False, False), (asked.and_least, True, True, True, False, False),
+                          (asked.and_clash, True, True, True, True, False), (asked.and_price, True, True, True, False, True)):
         if count:
             more, lines, verdicts = make(asked.seed, count, asked.largest, True, *kinds, reports)
             stdin, stdout, given = stdin + more, stdout + lines, given + verdicts

@@ -1,12 +1,14 @@
 """The marked and unmarked examples of document 01 as tests, its order of refusals, and worked sheets of requests L1, L3, L4,
-L6, L11 and L14."""
+L5, L6, L11 and L14."""
 from __future__ import annotations
 
 import random
 
 import container
+import generate
 import parts
 import planner as p
+import price
 import runs
 from writer import Part, write
 
@@ -1029,6 +1031,152 @@ def test_write_limits() -> None:
     sheet = bytes.fromhex(written([Part()] * 64, full))
     assert sheet[:3] == b"\x40\x00\x02" and len(sheet) == 3 + 64 + 3 * 512 and p.judge(sheet, True) == ("refused", 8)
     assert refused_write(6, [Part()] * 64, full[:511] + full[:1]) and refused_write(3, [Part()] * 64, full + full[:1])
+
+
+# Request L5. The start stands at 3 at most, the hand at 2.
+STAND_PRICE = """registers 0 2
+registers 2 1
+comparisons 0 1
+comparisons 1 1
+comparisons 2 1
+comparisons 3 2
+comparisons 4 2
+total 3 7
+"""
+# Hand 1 comes 1,000 after the start, 2 comes 1,000 after the hand: 2,000 after the start, but there the start does not decide.
+FAR = encode([None, None, 0], {(0, 1): {"at_least": 1000}, (1, 2): A | {"gap": 1000}})
+# Two hands, 3 waits for hand 2 by its limit on 4 and lasts 24, and 5 comes 1,000 after it: 1,024 after each hand.
+WAITING = encode([None, None, None, 24, 0, 0], {(1, 3): A, (2, 4): A, (3, 4): {"at_most": 5}, (3, 5): A | {"gap": 1000}})
+
+
+def counts(sheet: bytes, allow: bool = True, table: list[int] = price.PRINTED) -> tuple[list[int], list[int], tuple[int, int]]:
+    """Registers, comparisons and totals: with just enough lent, and with more, which stays as lent; one number less is 14."""
+    n = sheet[0]
+    verdict, registers, comparisons, totals = price.price(sheet, allow, [7] * n, [8] * n, table)
+    assert verdict == p.judge(sheet, allow) and totals == (sum(registers), sum(comparisons))
+    more = price.price(sheet, allow, [7] * (n + 2), [8] * (n + 1), table)
+    assert more == (verdict, registers + [7] * 2, comparisons + [8], totals)
+    for less, enough in ((n - 1, n), (n, n - 1), (0, 64), (64, 0)):
+        assert refused_price(sheet, 14, allow, (less, enough))
+    return registers, comparisons, totals
+
+
+def refused_price(sheet: bytes, number: int, allow: bool = True, *lengths: tuple[int, int]) -> bool:
+    """Whether the price is refused so, with no numbers lent, few and plenty, or so many; they stay as lent."""
+    return all(price.price(sheet, allow, list(range(first)), list(range(second)))
+               == (("refused", number), list(range(first)), list(range(second)), (0, 0))
+               for first, second in lengths or ((0, 0), (0, 64), (64, 0), (64, 64)))
+
+
+def test_price_stand() -> None:
+    """Document 01's sheets: the stand sheet, the smallest, two hands, and the refused ones."""
+    assert price.price_text(STAND) == STAND_PRICE
+    assert counts(STAND) == counts(STAND, False) == ([2, 0, 1, 0, 0], [1, 1, 1, 2, 2], (3, 7))
+    assert price.price_text(bytes.fromhex("01 00 00 01")) == "registers 0 0\ncomparisons 0 1\ntotal 0 1\n"
+    # With the wait 2 to 3 each hand is compared at 3, and hand 2 alone at 4.
+    assert price.price_text(TWO_HANDS) == ("registers 0 0\nregisters 1 0\nregisters 2 0\ncomparisons 0 1\ncomparisons 1 1\n"
+                                           "comparisons 2 1\ncomparisons 3 2\ncomparisons 4 1\ntotal 0 6\n")
+    assert counts(TWO_HANDS) == ([0] * 5, [1, 1, 1, 2, 1], (0, 6)) and refused_price(TWO_HANDS, 12, False)
+    assert price.price_text(STAND[:-2] + b"\x01\x00") == "refused 10\n" and refused_price(TIGHT_STAND, 10)
+    assert price.price_text(STAND[:-1]) == "refused 1\n" and price.price_text(b"") == "refused 1\n"
+    assert price.price_text(LOOSE_STAND) == STAND_PRICE and price.price_text(LOOSE_CIRCLE) == "refused 8\n"
+    # A hand that nothing follows stands nowhere; a fixed step has no line.
+    assert price.price_text(LOOSE_ALL) == ("registers 0 0\nregisters 1 0\nregisters 3 0\ncomparisons 0 1\ncomparisons 1 1\n"
+                                           "comparisons 2 1\ncomparisons 3 1\ntotal 0 4\n")
+
+
+def test_price_table() -> None:
+    """The printed table, and the counts at its edges, of the start and of a hand."""
+    assert len(price.PRINTED) == 1024 and price.PRINTED[:10] == [0, 0, 1, 2, 2, 3, 3, 3, 3, 4]
+    for n, b in enumerate(price.PRINTED):
+        assert 2 ** b >= n and (b == 0 or 2 ** (b - 1) < n)
+    for b in range(1, 10):
+        assert price.PRINTED[2 ** b - 1:2 ** b + 2] == [b if b > 1 else 0, b, b + 1]
+    for ticks, registers in ((0, 0), (1, 0), (2, 1), (3, 2), (4, 2), (5, 3), (512, 9), (513, 10), (1023, 10)):
+        assert counts(container.one_gap(False, ticks)) == ([registers, 0, 0], [1, 1, 1], (registers, 3))
+        assert counts(container.one_gap(True, ticks)) == ([0, registers, 0], [1, 1, 1], (registers, 3))
+    for ticks in (1024, 1025, 65535):
+        for hand in (False, True):
+            sheet = container.one_gap(hand, ticks)
+            assert refused_price(sheet, 19) and price.price_text(sheet) == "refused 19\n"
+    # Another table: entry 0 counts for a hand that stands nowhere too, and not for a fixed step.
+    other = [5 + n for n in range(1024)]
+    assert counts(STAND, table=other) == ([8, 0, 7, 0, 0], [1, 1, 1, 2, 2], (15, 7))
+    assert counts(LOOSE_ALL, table=other) == ([5, 5, 0, 5], [1] * 4, (15, 4))
+    assert price.price_text(container.one_gap(True, 1023), other).startswith("registers 0 5\nregisters 1 1028\n")
+
+
+def test_price_plan() -> None:
+    """The offsets are those of the plan, not of the whole start sets."""
+    assert offsets(FAR, 2) == {0: 2000, 1: 1000} and start_lines(FAR, 2) == {1: 1000}
+    assert counts(FAR) == ([10, 10, 0], [1, 1, 1], (20, 3))
+    for at_least, wanted in ((1023, 10), (1024, None)):            # where the start stands
+        sheet = encode([None, None, 0], {(0, 1): {"at_least": at_least}, (1, 2): A | {"gap": 1000}})
+        assert refused_price(sheet, 19) if wanted is None else counts(sheet)[0] == [wanted, 10, 0]
+    # By the limit the start decides step 3 of the stand sheet, at 1; where the limit has room, the hand alone does.
+    assert counts(STAND[:-2] + b"\x03\x00")[:2] == ([2, 0, 1, 0, 0], [1, 1, 1, 1, 2])
+    # The least of its own step is no part of an offset; with a least of 1 or more the start decides neither 3 nor 4.
+    for least, wanted in ((0, ([2, 0, 1, 0, 0], [1, 1, 1, 2, 2], (3, 7))), (1, ([0, 0, 1, 0, 0], [1] * 5, (1, 5))),
+                          (65535, ([0, 0, 1, 0, 0], [1] * 5, (1, 5)))):
+        assert counts(HAND[:8] + least.to_bytes(2, "little") + HAND[10:]) == wanted
+    # A wait counts as a comparison, and what follows it has its offset from the hand that is waited for.
+    assert start_lines(HAND_WAITS, 1) == {2: 0} and start_lines(HAND_WAITS, 3) == {1: 0}
+    assert counts(HAND_WAITS) == ([0] * 4, [1] * 4, (0, 4)) and refused_price(HAND_WAITS, 12, False)
+
+
+def test_price_refused() -> None:
+    """1 to 12, 26 and 28 before 19, 19 before 14."""
+    assert start_lines(WAITING, 5) == {1: 1024, 2: 1024} and refused_price(WAITING, 12, False) and refused_price(WAITING, 19, True)
+    near = bytearray(WAITING)
+    near[7] = 23                                                   # step 3 lasts a tick less
+    assert counts(bytes(near)) == ([0, 10, 10, 0, 0, 0], [1, 1, 1, 2, 1, 2], (20, 8)) and refused_price(bytes(near), 12, False)
+    for sheet, number in ((b"", 1), (b"\x00", 2), (b"\x41", 2), (b"\x01\x01\x02", 3), (b"\x01\x00\x00\x00", 4), (STAND + b"\0", 7),
+                          (bytes([2, 1, 0, 1, 0, 16]), 26), (bytes([2, 1, 0, 1, 0, 1, 1, 1]), 5), (CLASH, 28), (late(8), 28),
+                          (bytes([2, 2, 0, 1, 0, 1, 0, 1, 1, 0, 1]), 6), (container.heaviest_sheet(), 19)):
+        for allow in (False, True):
+            assert refused_price(sheet, number, allow) and price.price_text(sheet) == f"refused {number}\n"
+    # Far offsets and an earlier refusal: 8, 10, 11, 28.
+    far = {(0, 1): A | {"gap": 5000}, (1, 2): A | {"gap": 5000}}
+    for more, number in (({(2, 1): A}, 8), ({(0, 2): {"at_most": 9999}}, 10), ({(0, 2): {"at_most": 10000}}, 11), ({}, 19)):
+        assert refused_price(encode([None, None, 0], far | more), number)
+    assert refused_price(encode([None, None, None, 0], {(1, 3): A | {"gap": 2000, "from_end": 2000},
+                                                        (2, 3): A | {"gap": 2000, "from_end": 2000}}), 28)
+
+
+def test_price_limits() -> None:
+    """64 steps: chains, and 31 hands that are compared at each of 32 steps."""
+    for first, last in ((0, 47), (47, 0), (23, 24)):
+        assert counts(container.chain_to(first, last)) == ([10] + [0] * 63, [1] * 64, (10, 64))
+        assert refused_price(container.chain_to(first + 1, last), 19) and refused_price(container.chain_to(first, last + 1), 19)
+    for behind, registers in ((0, 0), (1, 5), (32, 10), (33, 10)):
+        assert counts(container.hands_into_one(behind)) == \
+            ([0] + [registers] * 31 + [0] * 32, [1] * 32 + [31] * 32, (31 * registers, 1024))
+    assert refused_price(container.hands_into_one(34), 19)
+    largest = [65535] * 1024
+    assert counts(container.hands_into_one(33), table=largest)[2] == (32 * 65535, 1024)
+    for sheet, number in zip(container.largest_price_sheets(random.Random(1))[-4:], (0, 1, 19, 19)):
+        assert sheet[:3] == b"\x40\x00\x02"
+        assert refused_price(sheet, 19) if number == 19 else price.priced(sheet, True).verdict == ("ok", number)
+
+
+def test_price_of_texts() -> None:
+    """What standplan prints gives the price: a comparison for each start line, registers by the largest offset of the lines that
+    name a step as deciding."""
+    for sheet in generate.generate(1, 60, priced=True) + generate.generate(1, 60, least=True):
+        lines = [list(map(int, line.split()[1:])) for line in p.standplan_text(sheet).splitlines() if line.startswith("start")]
+        if not lines:
+            assert price.price_text(sheet) == p.standplan_text(sheet)
+            continue
+        largest = {a: 0 for a, step in enumerate(p.read(sheet)[1][0]) if step is p.OPEN}
+        for _, a, offset in lines:
+            largest[a] = max(largest[a], offset)
+        if max(largest.values()) > 1023:
+            assert refused_price(sheet, 19)
+            continue
+        registers = [f"registers {a} {max(offset - 1, 0).bit_length()}" for a, offset in largest.items()]
+        compared = [f"comparisons {v} {sum(line[0] == v for line in lines)}" for v in range(sheet[0])]
+        total = sum(int(line.split()[2]) for line in registers)
+        assert price.price_text(sheet).splitlines() == registers + compared + [f"total {total} {len(lines)}"]
 
 
 if __name__ == "__main__":

@@ -1,14 +1,15 @@
 """Random sheets of all sizes and verdicts.
 
-    python3 generate.py SEED COUNT FILE [--finish | --gap | --loose | --least | --clash] [--stats]
+    python3 generate.py SEED COUNT FILE [--finish | --gap | --loose | --least | --clash | --price] [--stats]
 
 FILE holds, for each sheet, two bytes of length, low byte first, then its bytes.
 With --finish, sheets have limits from the end of a step (bit 4, request L11);
 with --gap, they have gaps too (bit 3, request L1); with --loose, they also leave out
 the forward links into some steps (request L3); with --least, they also have least
 durations (step map bit 2, request L6); with --clash, they have all of this and most are
-impossible (request L14). Without these words, and with each of them, a seed draws the
-same sheets as before there were any of the kinds that came later.
+impossible (request L14); with --price, they are as with --least, most are accepted and their
+largest offsets come near 1,024 or a power of two (request L5). Without these words, and with
+each of them, a seed draws the same sheets as before there were any of the kinds that came later.
 The planner is used only to aim (which pairs to link, how tight a limit is).
 """
 from __future__ import annotations
@@ -19,6 +20,7 @@ from collections import Counter
 from dataclasses import replace
 
 import planner as p
+import price
 
 # What a sheet aims at: 0 sound, 12 waits, -1 anything, 9 a loose step (that was a refusal before L3), otherwise that refusal.
 AIMS = [0, 0, 0, 12, 12, 12, 12, 1, 2, 3, 4, 5, 6, 7, 8, 9, 10, 10, 11, 11, -1, -1]
@@ -33,6 +35,10 @@ LOOSE_AIMS = [0] * 6 + [12] * 6 + [28] * 2 + [-28] * 2 + [8] * 3 + [10] * 6 + [1
 LEAST_AIMS = [0] * 8 + [12] * 7 + [28] * 2 + [-28] * 5 + [8] + [10] * 7 + [11] * 5 + [1, 1, 4, 4, 4, 26, -1, -1]
 # The same for sheets whose records clash; 21: by clashes of both kinds.
 CLASH_AIMS = [10] * 14 + [11] * 19 + [21] * 5 + [8, 8, 0, 0, 12, 12, 28, -28, 1, 4, 26]
+# The same for sheets to be priced.
+PRICE_AIMS = [0] * 16 + [12] * 12 + [28, -28, 8, 10, 11, 1, 4, 26, -1]
+# Where the count of registers changes or there is no entry any more; these are met most often.
+PRICE_EDGES = [1023, 1024] * 8 + [1022, 1025] + [2 ** b + more for b in range(10) for more in (0, 1)]
 
 IMPOSSIBLE = (("refused", 10), ("refused", 11))
 
@@ -611,6 +617,76 @@ class Draft:
         return steps, [record_bytes(record) for record in self.records()]
 
 
+class PriceDraft(Draft):
+    """A draft with gaps, leasts and distances of some hundred ticks at most, whose offsets are then moved to an edge."""
+
+    def __init__(self, rng: random.Random, smallest: int) -> None:
+        super().__init__(rng, smallest, finish=True, gap=True, loose=True, least=True)
+        if self.n > 24 and rng.random() < 0.6:     # most are small
+            self.n = rng.randint(smallest, 16)
+        self.flat, self.top = False, rng.choice([20, 100, 300, 600, 900])
+        self.steps = [p.OPEN] + [p.OPEN if step is p.OPEN else self.number() for step in self.steps[1:self.n]]
+        self.order = [0] + rng.sample(range(1, self.n), self.n - 1)
+        self.leasts = [0] * self.n
+        self.draw_leasts()
+
+    def draw_leasts(self) -> None:
+        """Least durations for some of the open steps; at times the largest there is."""
+        share = self.rng.choice([0, 0.3, 0.7])
+        for a in p.open_steps(self.steps):
+            if self.rng.random() < share:
+                self.leasts[a] = self.rng.choice([self.number()] * 9 + [65535])
+
+    def after(self) -> dict[str, int]:
+        """The fields of an after link, often with a gap."""
+        return {"after": 1} if self.rng.random() < 0.5 else {"after": 1, "gap": self.number()}
+
+    def largest(self) -> dict[int, int]:
+        """Of step 0 and each open step the largest offset in the plan; none where the sheet is refused."""
+        try:
+            accepted = p.accept_read(self.steps, self.records(), self.leasts, True)
+        except p.Refusal:
+            return {}
+        return price.largest_offsets(self.steps, accepted.deciding)
+
+    def numbers(self) -> list[tuple[dict | list, int | str]]:
+        """The places of the numbers that make offsets: fixed durations, leasts, at leasts and gaps."""
+        places = [(self.steps, v) for v, step in enumerate(self.steps) if step is not p.OPEN]
+        places += [(self.leasts, a) for a in p.open_steps(self.steps)]
+        return places + [(fields, name) for fields in self.fields.values() for name in ("at_least", "gap") if name in fields]
+
+    def scale(self) -> None:
+        """Bring every number down by the same factor, if some offset is far above the table, so that it comes near its end."""
+        most = max(self.largest().values(), default=0)
+        if most > 2 * price.ENTRIES:
+            factor = self.rng.choice([400, 900, 1023, 1023, 1100]) / most
+            for held, key in self.numbers():
+                held[key] = int(held[key] * factor)
+            for fields in self.fields.values():    # rounded up, so that most of what was possible still is
+                fields.update({name: min(65535, int(fields[name] * factor) + self.n) for name in ("at_most", "from_end")
+                               if name in fields})
+
+    def to_edge(self) -> None:
+        """Move a number so that the largest offset of some step, often that with the largest of all, is at an edge; at times those
+        of a few. Nothing, if that is soon found for none."""
+        self.scale()
+        for _ in range(self.rng.choice([1, 1, 2, 4])):
+            now = self.largest()
+            for _ in range(12 if self.n < 25 and now else 4 if now else 0):
+                a = self.rng.choice([max(now, key=now.get), self.rng.choice(sorted(now)), max(list(now)[1:] or [0], key=now.get)])
+                edge = self.rng.choice(PRICE_EDGES)
+                places = [(held, key) for held, key in self.numbers() if 0 <= held[key] + edge - now[a] <= 65535]
+                if not places or now[a] == edge:
+                    continue
+                held, key = self.rng.choice(places)
+                before = held[key]
+                held[key] += edge - now[a]
+                moved = self.largest()
+                if moved.get(a) == edge and max(moved.values()) <= max(edge, price.ENTRIES + 1):
+                    break
+                held[key] = before
+
+
 def record_bytes(record: p.Record) -> bytes:
     """A link record in bytes."""
     fields = (record.at_least, record.at_most, record.gap, record.from_end)
@@ -692,9 +768,11 @@ def cut_in_gap(rng: random.Random, records: list[bytes]) -> list[bytes]:
 
 
 def random_sheet(rng: random.Random, finish: bool = False, gap: bool = False, loose: bool = False,
-                 least: bool = False, clash: bool = False) -> bytes:
+                 least: bool = False, clash: bool = False, priced: bool = False) -> bytes:
     """One random sheet in bytes; one with gaps has limits from the end of a step too, one with loose steps both, one with
-    leasts all of these, and one whose records clash, mostly, too."""
+    leasts all of these, and one whose records clash, mostly, too, and one to be priced."""
+    if priced:
+        return price_sheet(rng)
     if clash:
         return clash_sheet(rng)
     loose = loose or least
@@ -713,6 +791,16 @@ def met(sheet: bytes, aim: int) -> bool:
     """Whether a sheet that aims at 12, 10 or 11 is refused so, by the links from 0 if it is 10 or 11."""
     verdict = p.judge(sheet, False)
     return verdict == ("refused", aim) and (aim == 12 or "by the links from 0" in loose_facts(sheet, verdict))
+
+
+def price_sheet(rng: random.Random) -> bytes:
+    """One random sheet in bytes, with everything that there is, whose offsets are at an edge, mostly."""
+    aim = rng.choice(PRICE_AIMS)
+    for _ in range(3):
+        sheet = aimed_sheet(rng, aim, True, True, True, True, priced=True)
+        if aim != 12 or met(sheet, aim):           # waits are often 28 here
+            break
+    return sheet
 
 
 def clash_sheet(rng: random.Random) -> bytes:
@@ -796,10 +884,11 @@ def long_clash(rng: random.Random, aim: int) -> Draft:
     return draft
 
 
-def aimed_sheet(rng: random.Random, aim: int, finish: bool, gap: bool, loose: bool, least: bool) -> bytes:
-    """One random sheet in bytes that aims at this."""
+def aimed_sheet(rng: random.Random, aim: int, finish: bool, gap: bool, loose: bool, least: bool, priced: bool = False) -> bytes:
+    """One random sheet in bytes that aims at this; one to be priced has its offsets at an edge."""
     smallest = 6 if least and aim == -28 else 4 if aim in (12, 28, -28) else 1
-    draft = Draft(rng, smallest=smallest, finish=finish, gap=gap, loose=loose, least=least)
+    draft = PriceDraft(rng, smallest) if priced else \
+        Draft(rng, smallest=smallest, finish=finish, gap=gap, loose=loose, least=least)
     if aim == -1:
         draft.anything()
     elif least and aim == -28 and rng.random() < 0.6:
@@ -831,6 +920,8 @@ def aimed_sheet(rng: random.Random, aim: int, finish: bool, gap: bool, loose: bo
             faulty[k]()
         if least and aim in (10, 11, -28) and rng.random() < 0.7:
             draft.at_edge(with_waits=aim == -28)
+    if priced:
+        draft.to_edge()
     if loose:
         draft.unsaid()
     steps, records = draft.pieces()
@@ -858,11 +949,11 @@ def aimed_sheet(rng: random.Random, aim: int, finish: bool, gap: bool, loose: bo
 
 
 def generate(seed: int, count: int, finish: bool = False, gap: bool = False, loose: bool = False,
-             least: bool = False, clash: bool = False) -> list[bytes]:
+             least: bool = False, clash: bool = False, priced: bool = False) -> list[bytes]:
     """`count` random sheets for a seed, with limits from the end of a step, gaps too, loose steps too, leasts too, records
-    that clash too, or as before these."""
+    that clash too, to be priced, or as before these."""
     rng = random.Random(seed)
-    return [random_sheet(rng, finish, gap, loose, least, clash) for _ in range(count)]
+    return [random_sheet(rng, finish, gap, loose, least, clash, priced) for _ in range(count)]
 
 
 def container(sheets: list[bytes]) -> bytes:
@@ -943,6 +1034,28 @@ def least_facts(sheet: bytes, verdict: p.Verdict) -> set[str]:
             facts.add("other deciding sets, were the least of b not added")
         if bare == verdict and names != [set(row) for row in p.accept(with_leasts(sheet, [0] * len(steps)), True).deciding]:
             facts.add("other deciding sets without the leasts")
+    return facts
+
+
+def price_facts(sheet: bytes, verdict: p.Verdict) -> set[str]:
+    """What is to be counted of a sheet that is read, about its price."""
+    if verdict not in (("ok", 0), ("refused", 12)):
+        return set()
+    accepted = p.accept(sheet, True)
+    largest = price.largest_offsets(accepted.steps, accepted.deciding)
+    facts = {"priced" if max(largest.values()) < price.ENTRIES else "not priced, 19"}
+    for a, offset in largest.items():
+        near = [edge for edge in range(1022, 1026) if edge == offset]
+        facts |= {f"{step_kind(accepted.steps, a)} at {edge}" for edge in near}
+        if 2 < offset < 1000 and (offset & offset - 1 == 0 or offset - 1 & offset - 2 == 0):
+            facts.add("at a power of two or just past it")
+    if len(largest) > 1 and max(largest, key=largest.get):
+        facts.add("the largest offset of all not of 0")
+    whole = {a: max((row[a] for row in accepted.offsets if a in row), default=0) for a in largest}
+    if whole != largest:
+        facts.add("other largest offsets over whole start sets")
+        if max(largest.values()) < price.ENTRIES <= max(whole.values()):
+            facts.add("19 only over whole start sets")
     return facts
 
 
@@ -1059,7 +1172,7 @@ def statistics(sheets: list[bytes]) -> str:
                   f"R {'0-16' if r < 17 else '17-128' if r < 129 else '129-511' if r < 512 else '512'}",
                   "waits" if verdict[1] == 12 else "sound"] += 1
         if p.read(sheet)[0] == "ok":
-            every = (finish_facts, gap_facts, loose_facts, least_facts, clash_facts)
+            every = (finish_facts, gap_facts, loose_facts, least_facts, clash_facts, price_facts)
             facts = set().union(*(about(sheet, verdict) for about in every))
             told.update(f"{verdict[0]} {verdict[1]}, {about}" for about in facts)
     lines = [f"{kind} {k}: {verdicts[kind, k]}" for kind, k in sorted(verdicts)]
@@ -1069,7 +1182,7 @@ def statistics(sheets: list[bytes]) -> str:
 
 
 if __name__ == "__main__":
-    kinds = (f"--{word}" in sys.argv[4:] for word in ("finish", "gap", "loose", "least", "clash"))
+    kinds = (f"--{word}" in sys.argv[4:] for word in ("finish", "gap", "loose", "least", "clash", "price"))
     made = generate(int(sys.argv[1]), int(sys.argv[2]), *kinds)
     with open(sys.argv[3], "wb") as file:
         file.write(container(made))

@@ -304,7 +304,11 @@ def outgrown(steps: list[Step], links: list[Link]) -> bool:
 
 def accept(sheet: bytes, allow_waits: bool) -> Accepted:
     """The accepted sheet; raises refusals 1 to 8, 10 to 12, 26 and 28."""
-    steps, records, leasts = _read(sheet)
+    return accept_read(*_read(sheet), allow_waits)
+
+
+def accept_read(steps: list[Step], records: list[Record], leasts: list[int], allow_waits: bool) -> Accepted:
+    """The accepted sheet with these steps, link records and least durations; raises refusals 8, 10 to 12 and 28."""
     n = len(steps)
     links = completed(n, links_of(steps, records, leasts))
     if circle(n, forward(links)):

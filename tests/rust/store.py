@@ -4,6 +4,7 @@ data/answers.txt: for sheets of every verdict a line for the sheet, then lines f
 that clash.
 data/runs.txt: runs, by lines that set the table or the state, and lines for calls, with the answer and the state after it.
 data/parts.txt: parts of sheets to be written: the counts of steps and records and the bytes of room, the steps, the records, the answer, and the bytes written.
+data/prices.txt: for the sheets of data/answers.txt and for more of them, drawn to be priced, lines for their prices; its head says how they read.
 Fields are parted by semicolons; '-' is the number for undecided.
 """
 import random
@@ -12,10 +13,12 @@ from functools import cache
 from pathlib import Path
 
 sys.path.insert(0, str(Path(__file__).parent.parent / "reference"))
+import container  # noqa: E402
 import examples  # noqa: E402
 import generate  # noqa: E402
 import parts as apart  # noqa: E402
 import planner as p  # noqa: E402
+import price  # noqa: E402
 import runs as drawn  # noqa: E402
 import writer  # noqa: E402
 
@@ -25,6 +28,16 @@ EACH_LOOSE = 1                 # the same with steps that no forward link enters
 EACH_LEAST = 2                 # the same with least durations
 EACH_CLASH = 2                 # the same with records that clash, for each length of the report
 EACH_PARTS = 20                # parts for each answer of the writer
+EACH_PRICED = 24               # sheets to be priced, for each verdict of an accepted sheet's price, with waits and without
+EACH_UNPRICED = 2              # the same for each other verdict
+PRICES_HEAD = """\
+# Prices of the control box (request L5), of the reference planner, stored by tests/rust/store.py.
+# A line `sheet HEX` has the bytes of a sheet in hexadecimal; lines for calls on it follow:
+#   price ALLOW; VERDICT; REGISTERS; COMPARISONS; TOTALS
+# ALLOW is 1 where waits are allowed, else 0. VERDICT is `ok 0` (sound), `ok 1` (sound with waits) or `refused k`.
+# REGISTERS and COMPARISONS are the two lent lists after the call, whole. Before it number i is 1000 + i in the first and 2000 + i in the second.
+# Past the first N they stay so, and on a refusal all do. TOTALS are the two sums, registers first; on a refusal there are none.
+"""
 
 
 def words(numbers):
@@ -112,6 +125,30 @@ def chosen_clash():
     return sheets
 
 
+@cache
+def chosen_price():
+    """Sheets to be priced: the worked ones, at the edges of the table, then random ones, some for each verdict, among them two of 64 steps."""
+    sheets = [container.one_gap(hand, ticks) for hand in (False, True) for ticks in (0, 1, 2, 3, 512, 513, 1023, 1024, 65535)]
+    sheets += [examples.FAR, examples.WAITING, container.chain_to(23, 24), container.chain_to(24, 24), container.hands_into_one(33), container.hands_into_one(34)]
+    counts, largest = {}, 0
+    for sheet in generate.generate(2026, 400, priced=True):
+        found = price_of(sheet, False, 64, 64)[0], price_of(sheet, True, 64, 64)[0]
+        priced = found[1] in (("ok", 0), ("ok", 1), ("refused", 19))
+        n = sheet[0] if sheet else 0
+        if priced and n == 64 and largest < 2:
+            largest += 1
+            sheets.append(sheet)
+        elif counts.get(found, 0) < (EACH_PRICED if priced else EACH_UNPRICED) and n <= 16 and len(sheet) < 400:
+            counts[found] = counts.get(found, 0) + 1
+            sheets.append(sheet)
+    return sheets
+
+
+def price_of(sheet, allow, first, second):
+    """The price where lists of these lengths are lent."""
+    return price.price(sheet, allow, lent(first), [x + 1000 for x in lent(second)])
+
+
 def steps_of(sheet, lent_):
     """What a run of the sheet is begun with: the verdict, N, the map of the open steps, step 0 among them, and the leasts in the numbers lent."""
     verdict, read = p.read(sheet)
@@ -142,10 +179,15 @@ def words_of(verdict):
     return f"{verdict[0]} {verdict[1]}"
 
 
+def of_answers():
+    """The sheets of data/answers.txt."""
+    return chosen() + chosen_finish() + chosen_loose() + chosen_least() + chosen_clash()
+
+
 def answers():
     """The lines of data/answers.txt."""
     rng = random.Random(1)
-    for sheet in chosen() + chosen_finish() + chosen_loose() + chosen_least() + chosen_clash():
+    for sheet in of_answers():
         # A refused sheet is lent little: no size makes a difference.
         n = (sheet[0] if p.judge(sheet, True)[0] == "ok" else 3) if sheet else 0
         yield f"sheet {sheet.hex()}"
@@ -169,6 +211,20 @@ def answers():
         for size in (verdict[1] + 2, verdict[1], verdict[1] - 1, 0) if verdict[0] == "ok" else (2, 0):
             verdict, after = p.clashes(sheet, lent(size))
             yield f"clashes; {words_of(verdict)}; {words(after)}"
+
+
+def prices():
+    """The lines of data/prices.txt."""
+    yield PRICES_HEAD.rstrip("\n")
+    for sheet in of_answers() + chosen_price():
+        yield f"sheet {sheet.hex()}"
+        # A refused sheet is lent little, but what 19 refuses is lent enough: no size makes a difference.
+        found = price_of(sheet, True, 64, 64)[0]
+        n = sheet[0] if found[0] == "ok" or found[1] == 19 else 2
+        sizes = [(0, n, n + 1), (1, n, n), (1, n + 2, n + 1), (1, n - 1, n), (1, n, n - 1)] if found[0] == "ok" else [(0, n, n), (1, n + 1, n), (1, 0, 0)]
+        for allow, first, second in sizes:
+            verdict, registers, comparisons, totals = price_of(sheet, bool(allow), first, second)
+            yield f"price {allow}; {words_of(verdict)}; {words(registers)}; {words(comparisons)}; {words(totals) if verdict[0] == 'ok' else ''}"
 
 
 def ticks(numbers):
@@ -359,8 +415,9 @@ def parts():
 
 def main():
     data = Path(__file__).parent / "data"
-    for name, lines in (("answers.txt", answers()), ("runs.txt", runs()), ("parts.txt", parts())):
+    for name, lines in (("answers.txt", answers()), ("runs.txt", runs()), ("parts.txt", parts()), ("prices.txt", prices())):
         (data / name).write_text("".join(line + "\n" for line in lines))
 
 
-main()
+if __name__ == "__main__":
+    main()

@@ -1,9 +1,11 @@
 """Compares the second planner, the second runner and the second writer with the reference: python3 check.py LIBRARY SEED COUNT [KIND]
 
-COUNT sheets of the kind, finish (limits from the finish), gap (gaps after the finish), loose (steps that follow nothing), least (least durations) or clash
-(records that clash), and the largest ones of it; without a kind, COUNT sheets with neither limit from the finish nor gap and COUNT of the kind finish. Of each:
-judging with and without waits, listing waits, planning, starts for one to three lists, what a run is begun with, and the records that clash for several lengths
-of the list that is lent, verdicts and every lent number. Of each that is accepted: a random run, verdicts, maps and every part of the state, before and after.
+COUNT sheets of the kind, finish (limits from the finish), gap (gaps after the finish), loose (steps that follow nothing), least (least durations), clash
+(records that clash) or price (offsets near the end of the register table), and the largest ones of it; without a kind, COUNT sheets with neither limit from the
+finish nor gap and COUNT of the kind finish. Of each: judging with and without waits, listing waits, planning, starts for one to three lists, what a run is
+begun with, the records that clash for several lengths of the list that is lent, and the price for several lengths, by the printed table and by another,
+verdicts and every lent number, and the price report as text. Of each that is accepted: a random run, verdicts, maps and every part of the state, before and
+after.
 With write, COUNT random parts of sheets, with faults: the verdict, every byte of the buffer and the length.
 The first difference ends the run with status 1."""
 import ctypes as c
@@ -19,6 +21,7 @@ import encode  # noqa: E402
 import generate  # noqa: E402
 import parts  # noqa: E402
 import planner  # noqa: E402
+import price as reference_price  # noqa: E402
 import runs  # noqa: E402
 import writer  # noqa: E402
 
@@ -114,6 +117,53 @@ def check_clashes(rng: random.Random, sheet: bytes, seen: Counter, same) -> None
         lend(room)
 
 
+def price(sheet: bytes, allow: bool, table: list[int], rooms: tuple[int, int]) -> tuple[int, list[int], list[int], list[int]]:
+    """The second planner's price: verdict, the lent registers and comparisons afterwards, and the totals afterwards."""
+    registers, comparisons, totals = lent([LENT] * rooms[0]), lent([LENT] * rooms[1]), lent([LENT] * 2)
+    verdict = library.second_price(sheet, c.c_size_t(len(sheet)), c.c_bool(allow), lent(table, c.c_uint16), registers, c.c_size_t(rooms[0]), comparisons,
+                                   c.c_size_t(rooms[1]), totals)
+    return verdict, list(registers)[:rooms[0]], list(comparisons)[:rooms[1]], list(totals)
+
+
+def expected_price(sheet: bytes, allow: bool, table: list[int], rooms: tuple[int, int]) -> tuple[int, list[int], list[int], list[int]]:
+    """The same by the reference."""
+    verdict, registers, comparisons, totals = reference_price.price(sheet, allow, [LENT] * rooms[0], [LENT] * rooms[1], table)
+    return number(verdict), registers, comparisons, list(totals) if verdict[0] == "ok" else [LENT] * 2
+
+
+def report(sheet: bytes, table: list[int]) -> str:
+    """What the second planner's price report says."""
+    text = c.create_string_buffer(4096)
+    library.second_report(sheet, c.c_size_t(len(sheet)), lent(table, c.c_uint16), text)
+    return text.value.decode("ascii")
+
+
+def second_table() -> list[int]:
+    """The second planner's printed table."""
+    entries = lent([LENT_LEAST] * reference_price.ENTRIES, c.c_uint16)
+    library.second_printed(entries)
+    return list(entries)
+
+
+def other_table(rng: random.Random) -> list[int]:
+    """A register table that does not fall, from any entry on, at times up to the largest number."""
+    return sorted(rng.randint(0, rng.choice([9, 700, 65535])) for _ in range(reference_price.ENTRIES))
+
+
+def check_price(rng: random.Random, sheet: bytes, seen: Counter, same) -> None:
+    """The price by the printed table with just enough lent, and with other lengths, too short ones among them, at times by another table; and the report."""
+    n = sheet[0] if sheet and 1 <= sheet[0] <= 64 else 8
+    some = [0, n - 1, n, n, n, n + rng.choice([1, 64]), rng.randint(0, n)]
+    tables = [reference_price.PRINTED, rng.choice([reference_price.PRINTED, other_table(rng)])]
+    for table, rooms in zip(tables, ((n, n), (rng.choice(some), rng.choice(some)))):
+        for allow in (False, True):
+            expected = expected_price(sheet, allow, table, rooms)
+            seen["price", expected[0]] += 1
+            same(f"price {allow} {rooms} {table}", price(sheet, allow, table, rooms), expected)
+    table = rng.choice(tables)
+    same(f"report {table}", report(sheet, table), reference_price.price_text(sheet, table))
+
+
 def run_call(call: runs.Call, before: planner.State, table: list[int]) -> tuple[int, int, planner.State]:
     """The second runner's answer to a call on a state: verdict, the map afterwards and the state afterwards."""
     words = lent([before.n, before.open, before.started, before.finished], c.c_uint64)
@@ -170,6 +220,7 @@ def check(rng: random.Random, sheet: bytes, seen: Counter) -> None:
         seen["sheets", number(verdict)] += 1
         same(f"starts {allow} {entries} {room}", starts(sheet, allow, entries, room), (number(verdict), times))
     check_clashes(rng, sheet, seen, same)
+    check_price(rng, sheet, seen, same)
     if planner.judge(sheet, True)[0] == "ok":
         check_run(rng, sheet, seen, same)
 
@@ -193,6 +244,8 @@ def check_write(rng: random.Random, seen: Counter) -> None:
 
 def draw(rng: random.Random, kind: str, seed: int, count: int) -> list[bytes]:
     """The largest sheets of a kind, and so many others."""
+    if kind == "price":
+        return container.largest_price_sheets(rng) + generate.generate(seed, count, priced=True)
     if kind == "clash":
         return container.largest_clash_sheets(rng) + generate.generate(seed, count, clash=True)
     if kind == "least":
@@ -215,7 +268,7 @@ def main() -> None:
     """Check the kind that is asked for, or the first two, and say how often each verdict was given."""
     seed, count = int(sys.argv[2]), int(sys.argv[3])
     said = {"": "", "finish": " with limits from the finish", "gap": " with gaps", "loose": " with steps that follow nothing",
-            "least": " with least durations", "clash": " with records that clash"}
+            "least": " with least durations", "clash": " with records that clash", "price": " to be priced"}
     kinds = sys.argv[4:] or ["", "finish"]
     if kinds == ["write"]:
         rng, seen = random.Random(seed), Counter()
@@ -224,14 +277,16 @@ def main() -> None:
         print(f"parts of {count} sheets, no difference; verdicts {given(seen, 'writes')}")
         return
     if not set(kinds) <= set(said):
-        sys.exit("a kind is finish, gap, loose, least, clash or write")
+        sys.exit("a kind is finish, gap, loose, least, clash, price or write")
+    if second_table() != reference_price.PRINTED:
+        sys.exit("the printed register tables differ")
     for kind in kinds:
         rng, seen = random.Random(seed), Counter()
         sheets = draw(rng, kind, seed, count)
         for sheet in sheets:
             check(rng, sheet, seen)
         print(f"{len(sheets)} sheets{said[kind]}, no difference; verdicts {given(seen, 'sheets')}")
-        print("; ".join(f"{call}: {given(seen, call)}" for call in ("steps", "clashes", "begin", "tick", "finish")))
+        print("; ".join(f"{call}: {given(seen, call)}" for call in ("steps", "clashes", "price", "begin", "tick", "finish")))
 
 
 main()

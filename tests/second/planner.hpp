@@ -1,4 +1,4 @@
-// A planner from document 01 and requests L1, L3, L6, L11 and L14, generic in how heaviest walks are found.
+// A planner from document 01 and requests L1, L3, L5, L6, L11 and L14, generic in how heaviest walks are found.
 //
 // A Kernel has three functions over a Graph (below):
 //   static int stride(const Graph &g)    the cells of a row, at least g.anchors and at most 64;
@@ -10,6 +10,7 @@
 
 #include <cstddef>
 #include <cstdint>
+#include <cstdio>
 #include <cstring>
 
 namespace planner {
@@ -24,7 +25,8 @@ using std::int32_t;
 constexpr int most_steps = 64, most_records = 512;
 constexpr int most_loose = most_steps - 1;                       // steps that follow nothing
 constexpr int most_forward = most_loose + most_records, most_returns = 2 * most_records;
-constexpr uint32_t longest = 16777215u, refused = 256;
+constexpr uint32_t longest = 16777215u, refused = 256, undecided = 4294967295u;
+constexpr int price_entries = 1024;                              // of a register table
 
 inline uint64_t bit(int k) { return uint64_t(1) << k; }
 inline int lowest(uint64_t map) { return __builtin_ctzll(map); }
@@ -329,7 +331,7 @@ template <class Kernel> uint32_t plan(const uint8_t *sheet, size_t length, bool 
     const int n = g.steps;
     if (table_len < size_t(n * n)) return refused + 14;
     const int stride = Kernel::stride(g);
-    std::memset(table, 0xff, size_t(n * n) * sizeof *table);      // undecided
+    for (int at = 0; at < n * n; at++) table[at] = undecided;
     for (int v = 0; v < n; v++)
         for (uint64_t map = deciding(g, walk, stride, v); map; map &= map - 1)
             table[v * n + g.step[lowest(map)]] = walk[v * stride + lowest(map)];
@@ -359,6 +361,78 @@ uint32_t starts(const uint8_t *sheet, size_t length, bool allow, const uint32_t 
         if (v == 0 || (g.open >> v & 1)) end[g.anchor[v]] = start + list[v];
     }
     return g.waits;
+}
+
+// The printed register table: one more power of two is needed for n than for half of n, rounded up.
+inline void printed(uint16_t *entries) {
+    entries[0] = entries[1] = 0;
+    for (int n = 2; n < price_entries; n++) entries[n] = entries[(n + 1) / 2] + 1;
+}
+
+// The price by maps of anchors: each deciding map adds its count of bits to the comparisons, and raises the largest offset of each of its anchors.
+template <class Kernel>
+uint32_t price(const uint8_t *sheet, size_t length, bool allow, const uint16_t *entries, uint32_t *registers, size_t registers_len, uint32_t *comparisons,
+               size_t comparisons_len, uint32_t *totals) {
+    Graph g;
+    int32_t walk[most_steps * most_steps], largest[most_steps] = {};
+    if (int k = offsets<Kernel>(g, sheet, length, walk)) return refused + k;
+    if (g.waits && !allow) return refused + 12;
+    const int stride = Kernel::stride(g);
+    uint64_t map[most_steps];
+    for (int v = 0; v < g.steps; v++) {
+        map[v] = deciding(g, walk, stride, v);
+        for (uint64_t left = map[v]; left; left &= left - 1) {
+            const int32_t offset = walk[v * stride + lowest(left)];
+            if (offset >= price_entries) return refused + 19;
+            if (offset > largest[lowest(left)]) largest[lowest(left)] = offset;
+        }
+    }
+    const size_t n = g.steps;
+    if (registers_len < n || comparisons_len < n) return refused + 14;
+    totals[0] = totals[1] = 0;
+    for (size_t v = 0; v < n; v++) {
+        registers[v] = 0;
+        totals[1] += comparisons[v] = __builtin_popcountll(map[v]);
+    }
+    for (int k = 0; k < g.anchors; k++) totals[0] += registers[g.step[k]] = entries[largest[k]];
+    return g.waits;
+}
+
+// The report as text, its end marked by 0, from the plan's table: of each column its largest number, of each row how many numbers there are. The text has
+// room for longest_report bytes.
+constexpr int longest_report = 4096;
+
+template <class Kernel> void report(const uint8_t *sheet, size_t length, const uint16_t *entries, char *text) {
+    uint32_t table[most_steps * most_steps], largest[most_steps] = {}, rows[most_steps] = {}, farthest = 0;
+    const uint32_t verdict = plan<Kernel>(sheet, length, true, table, most_steps * most_steps);
+    if (verdict >= refused) {
+        std::sprintf(text, "refused %u\n", verdict - refused);
+        return;
+    }
+    Graph g;
+    read(g, sheet, length);
+    const int n = g.steps;
+    for (int at = 0; at < n * n; at++) {
+        if (table[at] == undecided) continue;
+        rows[at / n]++;
+        if (table[at] > largest[at % n]) largest[at % n] = table[at];
+        if (table[at] > farthest) farthest = table[at];
+    }
+    if (farthest >= uint32_t(price_entries)) {
+        std::strcpy(text, "refused 19\n");
+        return;
+    }
+    uint32_t total = 0, compared = 0;
+    for (int a = 0; a < n; a++) {
+        if (!((g.open | 1) >> a & 1)) continue;
+        text += std::sprintf(text, "registers %d %d\n", a, entries[largest[a]]);
+        total += entries[largest[a]];
+    }
+    for (int v = 0; v < n; v++) {
+        text += std::sprintf(text, "comparisons %d %u\n", v, rows[v]);
+        compared += rows[v];
+    }
+    std::sprintf(text, "total %u %u\n", total, compared);
 }
 
 // What a run is begun with: the steps, the map of the open ones, step 0 among them, and their leasts.

@@ -19,6 +19,19 @@ uint32_t second_starts(const uint8_t *sheet, size_t sheet_len, bool allow_waits,
     return planner::starts<Kernel>(sheet, sheet_len, allow_waits, list, list_len, out, out_len);
 }
 
+void second_printed(uint16_t entries[1024]) {
+    planner::printed(entries);
+}
+
+uint32_t second_price(const uint8_t *sheet, size_t sheet_len, bool allow_waits, const uint16_t entries[1024], uint32_t *registers, size_t registers_len,
+                      uint32_t *comparisons, size_t comparisons_len, uint32_t totals[2]) {
+    return planner::price<Kernel>(sheet, sheet_len, allow_waits, entries, registers, registers_len, comparisons, comparisons_len, totals);
+}
+
+void second_report(const uint8_t *sheet, size_t sheet_len, const uint16_t entries[1024], char text[4096]) {
+    planner::report<Kernel>(sheet, sheet_len, entries, text);
+}
+
 uint32_t second_steps(const uint8_t *sheet, size_t sheet_len, size_t *n, uint64_t *open, uint16_t *leasts, size_t leasts_len) {
     return planner::steps(sheet, sheet_len, n, open, leasts, leasts_len);
 }

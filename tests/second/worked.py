@@ -1,5 +1,5 @@
-"""Sheets with least durations, worked out by hand from document 01 and requests L6 and L11, a run, records that clash (L14), and parts that are written (L4):
-python3 worked.py LIBRARY
+"""Sheets with least durations, worked out by hand from document 01 and requests L6 and L11, a run, records that clash (L14), parts that are written (L4), and
+prices (L5): python3 worked.py LIBRARY
 
 LIBRARY is made of second.cpp, runner.cpp and writer.cpp. The first difference ends the run with status 1."""
 import ctypes as c
@@ -88,6 +88,36 @@ def written(steps_there: list[tuple], records: list[tuple], room: int = 5825, n:
         return verdict - 256
     assert list(buffer)[length.value:] == [77] * (5900 - length.value)
     return bytes(buffer)[:length.value]
+
+
+def printed() -> list[int]:
+    """The printed register table."""
+    entries = (c.c_uint16 * 1024)(*[LENT] * 1024)
+    library.second_printed(entries)
+    return list(entries)
+
+
+def price(data: bytes, allow: bool = True, rooms: tuple[int, int] = (64, 64), table: list[int] | None = None):
+    """Registers, comparisons and totals, or the refusal."""
+    registers, comparisons, totals = (c.c_uint32 * 64)(*[LENT] * 64), (c.c_uint32 * 64)(*[LENT] * 64), (c.c_uint32 * 2)(LENT, LENT)
+    entries = (c.c_uint16 * 1024)(*(table or printed()))
+    verdict = library.second_price(data, c.c_size_t(len(data)), c.c_bool(allow), entries, registers, c.c_size_t(rooms[0]), comparisons,
+                                   c.c_size_t(rooms[1]), totals)
+    n = 0 if verdict >= 256 else data[0]
+    assert list(registers)[n:] == list(comparisons)[n:] == [LENT] * (64 - n)
+    if verdict >= 256:
+        assert list(totals) == [LENT] * 2
+        return verdict - 256
+    assert verdict == library.second_judge(data, c.c_size_t(len(data)), c.c_bool(allow))
+    return list(registers)[:n], list(comparisons)[:n], list(totals)
+
+
+def report(data: bytes) -> str:
+    """The price report, its lines joined by a semicolon."""
+    text = c.create_string_buffer(4096)
+    library.second_report(data, c.c_size_t(len(data)), (c.c_uint16 * 1024)(*printed()), text)
+    assert text.value.endswith(b"\n")
+    return ";".join(text.value.decode("ascii").splitlines())
 
 
 def same(what: str, given, wanted) -> None:
@@ -380,6 +410,78 @@ def parts_refused() -> None:
     same("more than the counts", written([start, start, (3, 0)], [link, link, none], n=2, r=1), bytes.fromhex("02 01 00 01 01 01 00 01"))
 
 
-for part in (bytes_read, plans, limits_from_the_finish, lists, runs, no_clashes, reports, parts_written, parts_refused):
+def valued(what: str, data: bytes, registers: dict[int, int], comparisons: list[int]) -> None:
+    """The price of a sheet, registers of step 0 and the open steps: as numbers and as a report; with just enough lent, and 14."""
+    n, totals = data[0], [sum(registers.values()), sum(comparisons)]
+    wanted = [registers.get(v, 0) for v in range(n)], comparisons, totals
+    same(what, price(data), wanted)
+    same(f"{what}, just enough lent", price(data, rooms=(n, n)), wanted)
+    for rooms in ((n - 1, 64), (64, n - 1), (0, 0)):
+        same(f"{what}, {rooms} lent", price(data, rooms=rooms), 14)
+    lines = [f"registers {a} {count}" for a, count in registers.items()] + [f"comparisons {v} {count}" for v, count in enumerate(comparisons)]
+    same(f"{what}, the report", report(data), ";".join(lines + [f"total {totals[0]} {totals[1]}"]))
+
+
+def not_valued(what: str, data: bytes, wanted: int, allow: bool = True) -> None:
+    """The refusal of a sheet's price, whatever is lent."""
+    for rooms in ((0, 0), (64, 0), (0, 64), (64, 64)):
+        same(what, price(data, allow, rooms), wanted)
+    if allow:
+        same(f"{what}, the report", report(data), f"refused {wanted}")
+
+
+def prices() -> None:
+    """The price of the control box."""
+    table, hand, still = printed(), open_step(), fixed(0)
+    same("the table's front", table[:18], [0, 0, 1, 2, 2, 3, 3, 3, 3, 4, 4, 4, 4, 4, 4, 4, 4, 5])
+    for n in range(2, 1024):
+        same(f"entry {n}", (2 ** table[n] >= n, 2 ** (table[n] - 1) < n), (True, True))
+    valued("the start", bytes.fromhex("01 00 00 01"), {0: 0}, [1])
+    valued("stand", stand(None), {0: 2, 2: 1}, [1, 1, 1, 2, 2])         # 0 at 3 in row 4, the hand at 2
+    valued("stand, a least", stand(8), {0: 0, 2: 1}, [1, 1, 1, 1, 1])
+    valued("hands that nothing follows", sheet([hand, fixed(9), open_step(7)], []), {0: 0, 1: 0, 3: 0}, [1] * 4)
+    # Each of three hands is compared at 4, which comes 1, 5 and 9 after them; 5 comes 8 later, 9, 13 and 17 after them, and 18 after the start.
+    three = sheet([hand, hand, hand, fixed(8), still],
+                  [(AFTER | GAP, 1, 4, 1), (AFTER | GAP, 2, 4, 5), (AFTER | GAP, 3, 4, 9), (AFTER, 4, 5), (AT_LEAST, 0, 5, 18)])
+    valued("three hands", three, {0: 5, 1: 4, 2: 4, 3: 5}, [1, 1, 1, 1, 3, 4])
+    # Hand 2 comes 700 after the start; 3 comes later by the gap, but there the hand alone decides.
+    for gap, wanted in ((700, 10), (512, 9), (256, 8), (257, 9)):
+        valued("a hand far off", sheet([still, hand, still], [(AT_LEAST, 0, 2, 700), (AFTER | GAP, 2, 3, gap)]), {0: 10, 2: wanted}, [1] * 4)
+    # 3 comes 900 after hand 1, and at most 300 after hand 2, which waits for hand 1 and comes 600 after it.
+    two_hands = [(AFTER | GAP, 1, 3, 900), (AT_MOST, 2, 3, 300)]
+    valued("a wait by a limit", sheet([hand, hand, still], two_hands), {0: 0, 1: 10, 2: 0}, [1, 1, 1, 1])
+    not_valued("a wait that is not allowed", sheet([hand, hand, still], two_hands), 12, False)
+    not_valued("a wait that is not allowed, and far off", sheet([hand, hand, still], [(AFTER | GAP, 1, 3, 9000), (AT_MOST, 2, 3, 300)]), 12, False)
+    not_valued("a wait, and far off", sheet([hand, hand, still], [(AFTER | GAP, 1, 3, 9000), (AT_MOST, 2, 3, 300)]), 19)
+    for ticks, wanted in ((1, 0), (2, 1), (1022, 10), (1023, 10)):      # the start's, and a hand's
+        valued("fixed steps", sheet([fixed(ticks), fixed(0), still], [(AFTER, 1, 2), (AFTER, 2, 3)]), {0: wanted}, [1] * 4)
+        valued("at least after a hand", sheet([hand, still, still], [(AFTER, 1, 2), (AT_LEAST, 2, 3, ticks)]), {0: 0, 1: wanted}, [1] * 4)
+    for ticks in (1024, 1025, 65535):
+        not_valued("fixed steps, too far", sheet([fixed(ticks), fixed(0), still], [(AFTER, 1, 2), (AFTER, 2, 3)]), 19)
+        not_valued("after a hand, too far", sheet([hand, still, still], [(AFTER, 1, 2), (AT_LEAST, 2, 3, ticks)]), 19)
+        valued("a long least", sheet([open_step(ticks), still, still], [(AFTER, 1, 2), (AT_LEAST, 2, 3, 5)]), {0: 0, 1: 3}, [1] * 4)
+    # An at least out of a hand counts from its start: from step 0.
+    valued("from the hand's start", sheet([hand, still], [(AT_LEAST, 1, 2, 1023)]), {0: 10, 1: 0}, [1] * 3)
+    not_valued("from the hand's start, too far", sheet([hand, still], [(AT_LEAST, 1, 2, 1024)]), 19)
+    # Refusals that come first, on sheets whose offsets are too far.
+    far = (AFTER | GAP, 1, 2, 2000)
+    not_valued("a circle", sheet([hand, still], [far, (AFTER, 2, 1)]), 8)
+    not_valued("too tight", sheet([hand, still], [far, (AT_MOST, 0, 2, 1999)]), 10)
+    not_valued("no room for the hand", sheet([hand, still], [far, (AT_MOST, 0, 2, 2000)]), 11)
+    not_valued("28", sheet([hand, hand, still], [(AFTER | GAP | FINISH, 1, 3, 2000, 2000), (AFTER | GAP | FINISH, 2, 3, 2000, 2000)]), 28)
+    for wanted, text in ((1, ""), (2, "41"), (3, "01 01 02"), (4, "01 00 00 05"), (26, "02 01 00 01 00 10"), (5, "01 01 00 01 01 00 00"),
+                         (6, "02 02 00 01 00 01 00 01 01 00 01"), (7, "01 00 00 01 00")):
+        not_valued(text, bytes.fromhex(text), wanted)
+    # Another table: its entry 0 counts too, for hands alone.
+    other = [3] * 3 + [40] * 1021
+    same("another table", price(stand(None), table=other), ([40, 0, 3, 0, 0], [1, 1, 1, 2, 2], [43, 7]))
+    same("another table, hands that nothing follows", price(sheet([hand, fixed(9)], []), table=other), ([3, 3, 0], [1] * 3, [6, 3]))
+    # 31 hands, a step after all of them, and 31 more steps in a row.
+    for behind, wanted in ((2, 6), (33, 10)):
+        row = sheet([hand] * 31 + [still] * 32, [(AFTER, a, 32) for a in range(1, 32)] + [(AT_LEAST, v, v + 1, behind) for v in range(32, 63)])
+        valued("31 hands", row, {0: 0} | {a: wanted for a in range(1, 32)}, [1] * 32 + [31] * 32)
+
+
+for part in (bytes_read, plans, limits_from_the_finish, lists, runs, no_clashes, reports, parts_written, parts_refused, prices):
     part()
 print("worked sheets: as worked out")

@@ -1,4 +1,4 @@
-"""The documents for newcomers: each command of docs/GUIDE.md prints what stands under it, its lines of C, Rust and Python are those of the examples, the tables
+"""The documents for newcomers: each command of docs/GUIDE.md and docs/PRICE.md prints what stands under it, its lines of C, Rust and Python are those of the examples, the tables
 of docs/FORMAT.md hold the bytes and the text of the examples, the smallest sheets of docs/REFUSALS.md and the parts in it are refused as it says, each stored
 plan is its sheet's, and files, theorems and contracts that docs/ names are there."""
 import re
@@ -18,28 +18,33 @@ def printed(command):
 
 def commands():
     """Blocks marked console: a line behind '$ ' is a command, the lines up to the next one are what it prints."""
-    count = 0
-    for block in re.findall(r"^```console\n(.*?)^```$", (ROOT / "docs/GUIDE.md").read_text("utf-8"), re.MULTILINE | re.DOTALL):
-        for part in re.split(r"^\$ ", block, flags=re.MULTILINE)[1:]:
+    counts = []
+    for page in ("docs/GUIDE.md", "docs/PRICE.md"):
+        blocks = re.findall(r"^```console\n(.*?)^```$", (ROOT / page).read_text("utf-8"), re.MULTILINE | re.DOTALL)
+        parts = [part for block in blocks for part in re.split(r"^\$ ", block, flags=re.MULTILINE)[1:]]
+        for part in parts:
             command, _, wanted = part.partition("\n")
             found = printed(command)
-            assert found == wanted, f"docs/GUIDE.md: {command}\nprints\n{found}not\n{wanted}"
-            count += 1
-    assert count >= 12, count
+            assert found == wanted, f"{page}: {command}\nprints\n{found}not\n{wanted}"
+        counts.append(len(parts))
+    assert min(counts) >= 12, counts
     assert (ROOT / "target/stand.svg").read_bytes() == (ROOT / "examples/stand.svg").read_bytes(), "README's picture is not the guide's"
     assert printed("target/stand examples/stand.sheet 10") == (ROOT / "examples/stand.run").read_text("ascii"), "examples/stand.run"
     for program in ("target/stand", "target/rust/debug/examples/stand", "PYTHONPATH=bindings/python python3 -B examples/stand.py"):
         assert printed(f"{program} target/late.sheet 10 2> /dev/null") == "records that clash 4\nrefused 10\n", f"{program}: records that clash"
-    return count
+    for program in ("target/price", "target/rust/debug/examples/price", "PYTHONPATH=bindings/python python3 -B examples/price.py"):
+        for path in sorted((ROOT / "examples").glob("*.sheet")):
+            assert printed(f"{program} examples/{path.name}") == printed(f"./standprice examples/{path.name}"), f"{program}: {path.name}"
+    return sum(counts)
 
 
 def excerpts():
-    """Blocks marked c, rust or python: lines that stand so in an example of that language."""
+    """Blocks marked c, rust or python: lines that stand so in an example of that language, first of what writes a sheet, then of what prices one."""
     found = re.findall(r"^```(c|rust|python)\n(.*?)^```$", (ROOT / "docs/GUIDE.md").read_text("utf-8"), re.MULTILINE | re.DOTALL)
-    for language, lines in found:
-        path = ROOT / f"examples/write.{dict(c='c', rust='rs', python='py')[language]}"
+    for at, (language, lines) in enumerate(found):
+        path = ROOT / f"examples/{'write' if at < 3 else 'price'}.{dict(c='c', rust='rs', python='py')[language]}"
         assert lines in path.read_text("utf-8"), f"docs/GUIDE.md: not in {path.name}:\n{lines}"
-    assert [language for language, _ in found] == ["c", "rust", "python"], found
+    assert [language for language, _ in found] == ["c", "rust", "python"] * 2, found
 
 
 def format_tables():
@@ -126,4 +131,4 @@ if __name__ == "__main__":
     refused_parts()
     plans()
     found = names()
-    print(f"{ran} commands of the guide print what it says; {found} names in the documents are there")
+    print(f"{ran} commands of the guide and of the page on prices print what they say; {found} names in the documents are there")

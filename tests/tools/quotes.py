@@ -1,5 +1,5 @@
 """Text in double quotation marks, in docs/ and in comments of specifications, is quoted: it stands in docs/SCOPE.md, which has the demands, document 01 and
-requests L1, L3, L6 and L11 word for word. The first letter may be of the other size, and ' .. ' leaves words out. What is quoted there stands behind a bar."""
+the requests that are in word for word. The first letter may be of the other size, and ' .. ' leaves words out. What is quoted there stands behind a bar."""
 import re
 
 from stored import ROOT
@@ -13,6 +13,7 @@ def plain(text):
 
 
 SCOPE = plain((ROOT / "docs/SCOPE.md").read_text("utf-8"))
+SCOPE += re.sub(r"`[^`]*`", "``", SCOPE)               # and once more without what is in code type
 
 
 def stands(part):

@@ -34,6 +34,12 @@
 //! let written = standplan::write(&steps, &links)?;
 //! assert_eq!(written, [3, 2, 0, 1, 5, 8, 0, 2, 2, 0, 1, 0, 1, 0x11, 1, 2, 5, 0]);
 //! assert_eq!(standplan::starts(&written, true, &[0, 10, 0])?, [0, 0, 10]);
+//!
+//! // Its price: step 2 starts 10 ticks after step 1 ends, which takes 4 registers, and step 1 alone decides it, 1 comparison.
+//! let late = standplan::write(&steps, &[Link::new(1, 2).after().gap(10)])?;
+//! let price = standplan::price(&late, true)?;
+//! assert_eq!((price.registers, price.comparisons), (vec![0, 4, 0], vec![1, 1, 1]));
+//! assert_eq!((price.totals.registers, price.totals.comparisons), (4, 3));
 //! # Ok::<(), standplan::Refusal>(())
 //! ```
 #![warn(missing_docs)]
@@ -79,6 +85,16 @@ mod raw {
             numbers: *mut u32,
             numbers_len: usize,
             count: *mut usize,
+        ) -> u32;
+        pub fn standplan_price(
+            sheet: *const u8,
+            sheet_len: usize,
+            allow: bool,
+            registers: *mut u32,
+            registers_len: usize,
+            comparisons: *mut u32,
+            comparisons_len: usize,
+            totals: *mut [u32; 2],
         ) -> u32;
         pub fn standplan_write(
             n: usize,
@@ -142,7 +158,7 @@ pub const MAX_TABLE: usize = 4096;
 /// The most ticks of a step in a list of durations.
 pub const MAX_DURATION: u32 = 16_777_215;
 /// Bytes of stack that are enough for any call, measured on x86-64 Linux.
-pub const STACK: usize = 81920;
+pub const STACK: usize = 102400;
 
 /// What the planner says of a sheet that it does not refuse.
 #[must_use]
@@ -215,6 +231,7 @@ refusals! {
     16 HasBegun "Begin on a run that has begun"
     17 CannotFinish "Finish of a step that is not open, is 0, has not started, or has finished"
     18 ClockEnd "Tick when the tick is 4,294,967,295"
+    19 LargeOffset "a largest offset is 1,024 or more"
     20 TooEarly "Finish at a tick below its start tick plus its least duration"
     26 LimitWithoutAfter "a link map with bit 4, at most from the finish, and without bit 0, after"
     28 WaitsClash "the waits close a circle of forward links, or leave no start times with each open step at its least"
@@ -294,6 +311,29 @@ pub struct Steps {
     pub open: u64,
     /// The least duration of each of the n steps, 0 for one without.
     pub leasts: Vec<u16>,
+}
+
+/// The price of the control box of a sheet of n steps.
+#[must_use]
+#[derive(Clone, Debug, PartialEq, Eq)]
+pub struct Price {
+    /// What the planner says of the sheet.
+    pub verdict: Verdict,
+    /// The registers of each of the n steps: 0 for a fixed one.
+    pub registers: Vec<u32>,
+    /// The comparisons of each of the n steps: the members of its deciding set.
+    pub comparisons: Vec<u32>,
+    /// Their sums.
+    pub totals: Totals,
+}
+
+/// The sums of a [`Price`].
+#[derive(Clone, Copy, Debug, Default, PartialEq, Eq)]
+pub struct Totals {
+    /// All registers.
+    pub registers: u32,
+    /// All comparisons.
+    pub comparisons: u32,
 }
 
 /// The number of steps, for a sheet that is not refused.
@@ -391,6 +431,40 @@ pub fn clashes_into(sheet: &[u8], numbers: &mut [u32], count: &mut usize) -> Res
         0 => Ok(()),
         code => Err(Refusal::from_code(code)),
     }
+}
+
+/// Prices the control box of a sheet. Refusals 1 to 8, 10 to 12, 26, 28, and 19 where a largest offset is 1,024 or more.
+pub fn price(sheet: &[u8], allow: bool) -> Result<Price, Refusal> {
+    let n = count(sheet);
+    let (mut registers, mut comparisons, mut totals) = (vec![0; n], vec![0; n], Totals::default());
+    let verdict = price_into(sheet, allow, &mut registers, &mut comparisons, &mut totals)?;
+    Ok(Price { verdict, registers, comparisons, totals })
+}
+
+/// The same, into the first n numbers of `registers` and of `comparisons`, and `totals`. The rest stays as lent; on a refusal all of it does. Refusal 14 beside
+/// those of [`price`], after them.
+pub fn price_into(
+    sheet: &[u8],
+    allow: bool,
+    registers: &mut [u32],
+    comparisons: &mut [u32],
+    totals: &mut Totals,
+) -> Result<Verdict, Refusal> {
+    let mut sums = [totals.registers, totals.comparisons];
+    let code = unsafe {
+        raw::standplan_price(
+            sheet.as_ptr(),
+            sheet.len(),
+            allow,
+            registers.as_mut_ptr(),
+            registers.len(),
+            comparisons.as_mut_ptr(),
+            comparisons.len(),
+            &mut sums,
+        )
+    };
+    *totals = Totals { registers: sums[0], comparisons: sums[1] };
+    Verdict::from_code(code)
 }
 
 /// A step of a sheet that is to be written.

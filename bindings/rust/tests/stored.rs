@@ -1,12 +1,13 @@
 //! The library's answers against those of the reference planner, stored by tests/rust/store.py.
 use standplan::{
-    clashes, clashes_into, judge, plan, plan_into, starts, starts_into, steps, steps_into, waits, waits_into, write, write_into, Link, Refusal, Run, Step, Verdict,
-    MAX_RECORDS, MAX_SHEET, MAX_STEPS, MAX_TABLE, STACK, UNDECIDED,
+    clashes, clashes_into, judge, plan, plan_into, price, price_into, starts, starts_into, steps, steps_into, waits, waits_into, write, write_into, Link, Refusal,
+    Run, Step, Totals, Verdict, MAX_RECORDS, MAX_SHEET, MAX_STEPS, MAX_TABLE, STACK, UNDECIDED,
 };
 use std::collections::BTreeSet;
 use std::thread;
 
 const STORED: &str = include_str!("../../../tests/rust/data/answers.txt");
+const PRICES: &str = include_str!("../../../tests/rust/data/prices.txt");
 const PARTS: &str = include_str!("../../../tests/rust/data/parts.txt");
 
 fn sheet_of(hex: &str) -> Vec<u8> {
@@ -144,6 +145,42 @@ fn stored_answers() {
     assert_eq!(seen.len(), 18, "{seen:?}");
 }
 
+/// Prices; on a refusal the lists and the totals that are lent stay as they were.
+#[test]
+fn stored_prices() {
+    let (mut sheet, mut seen, mut lines) = (Vec::new(), BTreeSet::new(), 0);
+    let untouched = Totals { registers: 1000, comparisons: 1001 };
+    for (at, line) in PRICES.lines().enumerate().filter(|(_, line)| !line.starts_with('#')) {
+        let (parts, place) = (fields(line), format!("line {}", at + 1));
+        if parts[0][0] == "sheet" {
+            sheet = sheet_of(parts[0].get(1).unwrap_or(&""));
+            continue;
+        }
+        let allow = parts[0][1] == "1";
+        let [registers, comparisons, sums] = [2, 3, 4].map(|k| parts[k].iter().map(|word| number_of(word)).collect::<Vec<u32>>());
+        let (mut lent_registers, mut lent_totals) = (lent(registers.len()), untouched);
+        let mut lent_comparisons: Vec<u32> = lent(comparisons.len()).iter().map(|number| 1000 + number).collect();
+        let verdict = price_into(&sheet, allow, &mut lent_registers, &mut lent_comparisons, &mut lent_totals);
+        let totals = if verdict.is_ok() { Totals { registers: sums[0], comparisons: sums[1] } } else { untouched };
+        assert_eq!(verdict, verdict_of(&parts[1]), "{place}");
+        assert_eq!((&lent_registers, &lent_comparisons, lent_totals), (&registers, &comparisons, totals), "{place}");
+        match price(&sheet, allow) {
+            Ok(found) if verdict.is_ok() => {
+                let n = found.registers.len();
+                assert_eq!((Ok(found.verdict), found.totals), (verdict, totals), "{place}");
+                assert_eq!((found.registers, found.comparisons), (registers[..n].to_vec(), comparisons[..n].to_vec()), "{place}");
+            }
+            Ok(_) => assert_eq!(verdict, Err(Refusal::TooShort), "{place}"),
+            Err(refusal) => assert_eq!(verdict, Err(refusal), "{place}"),
+        }
+        seen.insert(parts[1].join(" "));
+        lines += 1;
+    }
+    assert!(lines > 1000, "{lines}");
+    // Both verdicts and refusals 1 to 8, 10 to 12, 14, 19, 26 and 28.
+    assert_eq!(seen.len(), 17, "{seen:?}");
+}
+
 /// `open`, `open/8` or `3`; none for a fixed step with a least, which no [`Step`] is.
 fn step_of(word: &str) -> Option<Step> {
     let (lasts, least) = word.split_once('/').map_or((word, None), |(lasts, least)| (lasts, Some(least.parse().unwrap())));
@@ -238,6 +275,9 @@ fn nothing_lent() {
     assert_eq!(clashes(&[]), Err(Refusal::Truncated));
     assert_eq!(clashes_into(&[1, 0, 0, 1], &mut [], &mut 0), Err(Refusal::NotImpossible));
     assert_eq!(clashes_into(&[2, 1, 0, 1, 0, 6, 0, 1, 1, 0, 0, 0], &mut [], &mut 0), Err(Refusal::TooShort));
+    assert_eq!(price(&[], true), Err(Refusal::Truncated));
+    assert_eq!(price_into(&[1, 0, 0, 1], false, &mut [0], &mut [], &mut Totals::default()), Err(Refusal::TooShort));
+    assert_eq!(price_into(&[1, 0, 0, 1], false, &mut [], &mut [0], &mut Totals::default()), Err(Refusal::TooShort));
     assert_eq!(Run::new().begin(1, 1, &[], &[0]), Err(Refusal::TooShort));
     assert_eq!(Run::new().begin(1, 1, &[0], &[]), Err(Refusal::TooShort));
     assert_eq!(Refusal::Circle.to_string(), "refused 8: forward links close a circle");
@@ -292,13 +332,14 @@ fn longest() -> Vec<u8> {
 }
 
 /// Several threads with no more stack than the crate says, and what a thread needs itself, plan the longest sheet at once, and ask which of its records clash
-/// when step 1 is to start at tick 0, which is too early: the first record alone. They write the sheet too, from records that fall.
+/// when step 1 is to start at tick 0, which is too early: the first record alone. They price the sheet too, and write it, from records that fall.
 #[test]
 fn threads() {
     let sheet = longest();
     assert_eq!(sheet.len(), MAX_SHEET);
     let alone = plan(&sheet, true).unwrap();
     assert_eq!(alone.table.len(), MAX_TABLE);
+    let priced = price(&sheet, true).unwrap();
     let mut early = sheet.clone();
     let limit = 4 + 63 * 3 + 5;
     early[limit..limit + 2].fill(0);
@@ -307,7 +348,7 @@ fn threads() {
     let links: Vec<Link> = pairs().into_iter().rev().map(link).collect();
     let planned = || (0..200).all(|_| plan(&sheet, true).as_ref() == Ok(&alone));
     thread::scope(|scope| {
-        let work = || planned() && clashes(&early) == Ok(vec![0]) && write(&steps, &links).as_ref() == Ok(&sheet);
+        let work = || planned() && price(&sheet, true).as_ref() == Ok(&priced) && clashes(&early) == Ok(vec![0]) && write(&steps, &links).as_ref() == Ok(&sheet);
         let all: Vec<_> = (0..4).map(|_| thread::Builder::new().stack_size(STACK + 16384).spawn_scoped(scope, work).unwrap()).collect();
         assert!(all.into_iter().all(|one| one.join().unwrap()));
     });

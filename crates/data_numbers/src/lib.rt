@@ -34,6 +34,7 @@ pub fn refusal_number(k: Refusal) -> u32
         Refusal::AlreadyBegun => 16,
         Refusal::CannotFinish => 17,
         Refusal::ClockEnd => 18,
+        Refusal::LargeOffset => 19,
         Refusal::TooEarly => 20,
         Refusal::Unsequenced => 26,
         Refusal::Unserializable => 28,

@@ -11,6 +11,7 @@ pub mod Rival
 pub mod Answers
 pub mod Clashes
 pub mod Writer
+pub mod Price
 pub mod Dispatcher
 pub mod Output
 pub mod Worked

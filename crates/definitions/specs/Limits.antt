@@ -75,6 +75,10 @@ longest-record = 1 + 2 + 4 * 2
 abbrev pub longest-sheet : ℕ
 longest-sheet = 3 + 1 + (most-steps - 1) * longest-step + most-records * longest-record
 
+-- "A printed table of 1,024 entries" (request L5): the register counts of largest offsets below it.
+abbrev pub register-entries : ℕ
+register-entries = 1024
+
 -- "Tick when the tick is 4,294,967,295": the runner's clock ends at the largest number of 32 bits.
 abbrev pub last-tick : ℕ
 last-tick = 4294967295

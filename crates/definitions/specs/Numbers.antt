@@ -3,7 +3,7 @@ use Prim.Native.Nat.{ℕ}
 use Rattle.definitions.specs.Basics.{Outcome, given, refused}
 use Rattle.definitions.specs.declared.Refusal.{Refusal}
 use Rattle.definitions.specs.declared.Refusal.the-variants.{Truncated, OperationCount, LinkCount, BadMap, BadEndpoint, BadOrder, Trailing, ForwardCycle, Infeasible}
-use Rattle.definitions.specs.declared.Refusal.the-variants.{Inconsistent, WaitsNeeded, BadDelays, TooShort, NotBegun, AlreadyBegun, CannotFinish, ClockEnd, TooEarly, Unsequenced, Unserializable, NotImpossible}
+use Rattle.definitions.specs.declared.Refusal.the-variants.{Inconsistent, WaitsNeeded, BadDelays, TooShort, NotBegun, AlreadyBegun, CannotFinish, ClockEnd, LargeOffset, TooEarly, Unsequenced, Unserializable, NotImpossible}
 use Rattle.definitions.specs.declared.Verdict.{Verdict}
 use Rattle.definitions.specs.declared.Reading.{Reading}
 use Rattle.definitions.specs.declared.Status.{Status}
@@ -13,7 +13,7 @@ use Rattle.definitions.specs.declared.Status.the-variants as Statuses
 use Rattle.definitions.specs.declared.Reading.the-variants as Readings
 use Rattle.definitions.specs.declared.Tally.the-variants as Tallies
 
--- The refusals of "From the input" and "From the state", but for 9, which is never given since request L3; and those of requests L6, L11 and L14.
+-- The refusals of "From the input" and "From the state", but for 9, which is never given since request L3; and those of requests L5, L6, L11 and L14.
 abbrev pub number : Refusal → ℕ
 number Truncated = 1
 number OperationCount = 2
@@ -32,6 +32,7 @@ number NotBegun = 15
 number AlreadyBegun = 16
 number CannotFinish = 17
 number ClockEnd = 18
+number LargeOffset = 19
 number TooEarly = 20
 number Unsequenced = 26
 number Unserializable = 28

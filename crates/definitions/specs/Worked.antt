@@ -1,5 +1,5 @@
 -- "Marked and unmarked sheets": the sheets marked ★ in document 01, and sheets of ours for readings that those do not tell apart and for requests L11, L1, L3, L6 and L14. One table, proved against the definitions in one go; one more for the calls of L14.
--- And one of parts for the writer of request L4.
+-- And one of parts for the writer of request L4, and one of prices for request L5.
 use mathlib.Core.Path.{_≡_, refl}
 use mathlib.Core.Bool.{Bool, true, false}
 use mathlib.Core.Logic.{_⊎_, inl, inr}
@@ -7,7 +7,7 @@ use mathlib.Core.List.{List, [], _∷_, _++_, map, flatMap, List·Memᴰ, List·
 use Prim.Native.Nat.{ℕ, _+_}
 use lib.ListN.{length, replicate}
 use Rattle.definitions.specs.Limits.{most-steps}
-use Rattle.definitions.specs.Basics.{any, all, without, any-below, all-below, tabulate, select-below, largest, test-bit, bits-below, Outcome, given, refused, refuse-if, when-given}
+use Rattle.definitions.specs.Basics.{any, all, without, any-below, all-below, tabulate, select-below, largest, sum-below, test-bit, bits-below, Outcome, given, refused, refuse-if, when-given}
 use Rattle.definitions.specs.Bytes.{Records, demand, byte, two-bytes, ticks-if, operation-map, delay-from, operation, link-map, sequenced, endpoints, rises, bound-from, link, records, operations, pair-of, links, at-end, sheet, read}
 use Rattle.definitions.specs.Links.{sequencing-of, minimum-of, maximum-of, finish-maximum-of, ticks-said, least-with, least-at, link-constraints, constraints, leads-into, follows-nothing, loose-steps, completed, links-of, delay-at, is-open, sequencing-edge, finish-edge, edge-of, edges, forwards, late-into, usable}
 use Rattle.definitions.specs.Rounds.{extend, raise, round, rounds, stable, source-row, seed, seeds, after-row, bares, reaches, after-reaches}
@@ -18,6 +18,7 @@ use Rattle.definitions.specs.Answers.{closes-circle, infeasible, inconsi
 use Rattle.definitions.specs.Clashes.{is-impossible, impossible, part-of, drop-records, few, few-verdict, few-read, few-answer}
 use Rattle.definitions.specs.Plan.{undecided}
 use Rattle.definitions.specs.Writer.{two-bytes-of, field-of, bit-of, duration-of, open-bit, operation-map-of, operation-bytes, link-map-of, link-bytes, put-in, rising, sheet-bytes, steps-mapped, bad-maps, unsequenced, bad-ends, same-pair, comes-twice, parts-short, write-verdict, write-answer}
+use Rattle.definitions.specs.Price.{power-from, printed-entry, printed-table, entry-at, stands-at, largest-offset, registers-of, comparisons-of, too-large, price-of, plan-of, price-records, price-judged, price-verdict, Priced, price-when, price-read, price-answer, registers-text, comparisons-text, price-text, report-when, report-read, price-report}
 use Rattle.definitions.specs.Dispatcher.{entry, names, due, ready, starting, start-ticks, Progress, sweep, begun, not-running, kept-leasts, fresh, with-source, begin, ticked, tick, cannot-finish, too-early, ended, finish, state-after, called}
 use Rattle.definitions.specs.declared.Delay.the-variants.{Open, Fixed}
 use Rattle.definitions.specs.declared.Operation.{Operation}
@@ -31,7 +32,7 @@ use Rattle.definitions.specs.Output.{StartLine, Listing, lines-of, start
 
 -- To unfold these is to unfold the executable definitions of a part, and the last those of all parts, so that a sheet is worked out by computing.
 unfoldable every-basics : Unit {0}
-unfolding any all without any-below all-below tabulate select-below largest test-bit bits-below refuse-if when-given flatMap
+unfolding any all without any-below all-below tabulate select-below largest sum-below test-bit bits-below refuse-if when-given flatMap
 every-basics = tt
 
 unfoldable every-reading : Unit {0}
@@ -65,6 +66,10 @@ every-runner = tt
 unfoldable every-writing : Unit {0}
 unfolding two-bytes-of field-of bit-of duration-of open-bit operation-map-of operation-bytes link-map-of link-bytes put-in rising sheet-bytes steps-mapped bad-maps unsequenced bad-ends same-pair comes-twice parts-short write-verdict write-answer
 every-writing = tt
+
+unfoldable every-price : Unit {0}
+unfolding power-from printed-entry printed-table entry-at stands-at largest-offset registers-of comparisons-of too-large price-of plan-of price-records price-judged price-verdict price-when price-read price-answer registers-text comparisons-text price-text report-when report-read price-report
+every-price = tt
 
 unfoldable pub every-definition : Unit {0}
 unfolding every-basics every-reading every-links every-plan every-answers every-clashes every-text every-runner
@@ -636,3 +641,110 @@ worked-parts =
 pub write-worked : map writes worked-parts ≡ map (λ w. w .expected) worked-parts
 unfolding every-definition every-writing writes worked-parts
 write-worked = refl
+
+-- Request L5. 1 at least so many ticks after step 0, the low byte first; and 2 after the open step 1, with such a gap.
+abbrev pub far : ℕ → ℕ → List ℕ
+far low high = 0x02 ∷ 0x01 ∷ 0x00 ∷ 0x01 ∷ 0x00 ∷ 0x02 ∷ 0x00 ∷ 0x01 ∷ low ∷ high ∷ []
+
+abbrev pub far-from-open : ℕ → ℕ → List ℕ
+far-from-open low high = 0x03 ∷ 0x02 ∷ 0x00 ∷ 0x01 ∷ 0x01 ∷ 0x00 ∷ 0x01 ∷ 0x00 ∷ 0x01 ∷ 0x09 ∷ 0x01 ∷ 0x02 ∷ low ∷ high ∷ []
+
+-- The slow hand with a least of 1,024: the offset of 2 for step 0 is 1,024, and step 0 does not decide 2.
+abbrev pub far-undecided : List ℕ
+far-undecided = 0x03 ∷ 0x02 ∷ 0x00 ∷ 0x01 ∷ 0x05 ∷ 0x00 ∷ 0x04 ∷ 0x00 ∷ 0x01 ∷ 0x00 ∷ 0x01 ∷ 0x01 ∷ 0x01 ∷ 0x02 ∷ []
+
+-- Two hands, and 3 at least 1,024 ticks after step 0: 12 where waits are not allowed, and 19 where they are.
+abbrev pub far-hands : List ℕ
+far-hands = 0x05 ∷ 0x06 ∷ 0x00 ∷ 0x01 ∷ 0x01 ∷ 0x01 ∷ 0x00 ∷ 0x00 ∷ 0x01 ∷ 0x00 ∷ 0x01 ∷ 0x01 ∷ 0x00 ∷ 0x02 ∷ 0x02 ∷ 0x00 ∷ 0x03 ∷ 0x00 ∷ 0x04 ∷ 0x01 ∷ 0x01 ∷ 0x03 ∷ 0x01 ∷ 0x02 ∷ 0x04 ∷ 0x04 ∷ 0x03 ∷ 0x04 ∷ 0x05 ∷ 0x00 ∷ []
+
+-- A sheet, whether waits are allowed, the numbers that are lent for registers and for comparisons, and what is answered.
+pub record WorkedPrice : Type 0 where
+  pub bytes : List ℕ
+  pub allow : Bool
+  pub registers : List ℕ
+  pub comparisons : List ℕ
+  pub expected : Priced
+
+-- Priced, with just so many numbers lent, and the totals; or turned away, and the lent numbers stay.
+abbrev costs : List ℕ → ℕ → List ℕ → List ℕ → ℕ → ℕ → WorkedPrice
+costs bytes verdict registers comparisons registers-total comparisons-total =
+    record {
+      bytes = bytes;
+      allow = true;
+      registers = replicate (length registers) 9;
+      comparisons = replicate (length comparisons) 9;
+      expected = record { verdict = given verdict; price = record { registers = registers; comparisons = comparisons; register-total = registers-total; comparison-total = comparisons-total } };
+    }
+
+abbrev not-priced : List ℕ → Bool → List ℕ → List ℕ → ℕ → WorkedPrice
+not-priced bytes allow registers comparisons k =
+    record {
+      bytes = bytes;
+      allow = allow;
+      registers = registers;
+      comparisons = comparisons;
+      expected = record { verdict = refused k; price = record { registers = registers; comparisons = comparisons; register-total = 0; comparison-total = 0 } };
+    }
+
+-- The smallest sheet; the stand sheet, whose steps 3 and 4 have two deciders; one with waits; an open step that stands nowhere; an offset that counts only where its step decides; the largest offset that is priced, of step 0 and
+-- of an open step; numbers past N. Then the refusals in their order: what reading and judging refuse, 19 before 14, 14 for each list.
+unfoldable pub worked-prices : List WorkedPrice
+worked-prices =
+    costs smallest 0 (0 ∷ []) (1 ∷ []) 0 1 ∷
+    costs (stand 2) 0 (2 ∷ 0 ∷ 1 ∷ 0 ∷ 0 ∷ []) (1 ∷ 1 ∷ 1 ∷ 2 ∷ 2 ∷ []) 3 7 ∷
+    costs two-hands 1 (0 ∷ 0 ∷ 0 ∷ 0 ∷ 0 ∷ []) (1 ∷ 1 ∷ 1 ∷ 2 ∷ 1 ∷ []) 0 6 ∷
+    costs second-hand 0 (0 ∷ 4 ∷ 0 ∷ 0 ∷ 0 ∷ []) (1 ∷ 1 ∷ 1 ∷ 2 ∷ 1 ∷ []) 4 6 ∷
+    costs all-loose 0 (0 ∷ 0 ∷ 0 ∷ []) (1 ∷ 1 ∷ 1 ∷ []) 0 3 ∷
+    costs (from-start-slow 9) 0 (4 ∷ 0 ∷ 0 ∷ []) (1 ∷ 1 ∷ 2 ∷ []) 4 4 ∷
+    costs (from-start-slow 10) 0 (0 ∷ 0 ∷ 0 ∷ []) (1 ∷ 1 ∷ 1 ∷ []) 0 3 ∷
+    costs far-undecided 0 (0 ∷ 0 ∷ 0 ∷ []) (1 ∷ 1 ∷ 1 ∷ []) 0 3 ∷
+    costs (far 0x00 0x02) 0 (9 ∷ 0 ∷ []) (1 ∷ 1 ∷ []) 9 2 ∷
+    costs (far 0x01 0x02) 0 (10 ∷ 0 ∷ []) (1 ∷ 1 ∷ []) 10 2 ∷
+    costs (far 0xff 0x03) 0 (10 ∷ 0 ∷ []) (1 ∷ 1 ∷ []) 10 2 ∷
+    costs (far-from-open 0xff 0x03) 0 (0 ∷ 10 ∷ 0 ∷ []) (1 ∷ 1 ∷ 1 ∷ []) 10 3 ∷
+    record {
+      bytes = lip;
+      allow = false;
+      registers = 9 ∷ 9 ∷ 9 ∷ 9 ∷ [];
+      comparisons = 8 ∷ 8 ∷ 8 ∷ 8 ∷ 8 ∷ [];
+      expected = record { verdict = given 0; price = record { registers = 0 ∷ 3 ∷ 0 ∷ 9 ∷ []; comparisons = 1 ∷ 1 ∷ 1 ∷ 8 ∷ 8 ∷ []; register-total = 3; comparison-total = 3 } };
+    } ∷
+    not-priced (0x00 ∷ []) true [] [] 2 ∷
+    not-priced (0x02 ∷ 0x01 ∷ 0x00 ∷ 0x01 ∷ 0x00 ∷ 0x10 ∷ []) true (9 ∷ []) (9 ∷ []) 26 ∷
+    not-priced circle true [] [] 8 ∷
+    not-priced (stand 1) true [] [] 10 ∷
+    not-priced own-end true [] [] 11 ∷
+    not-priced both-finish true [] [] 28 ∷
+    not-priced far-hands false [] [] 12 ∷
+    not-priced far-hands true [] [] 19 ∷
+    not-priced (far 0x00 0x04) true (9 ∷ 9 ∷ []) (9 ∷ 9 ∷ []) 19 ∷
+    not-priced (far-from-open 0x00 0x04) true (9 ∷ []) [] 19 ∷
+    not-priced (far 0xff 0x03) true (9 ∷ []) (9 ∷ 9 ∷ []) 14 ∷
+    not-priced (far 0xff 0x03) true (9 ∷ 9 ∷ []) (9 ∷ []) 14 ∷
+    []
+
+-- The computed test, in one go.
+pub all-priced : map (λ w. price-answer printed-table (w .bytes) (w .allow) (w .registers) (w .comparisons)) worked-prices ≡ map (λ w. w .expected) worked-prices
+unfolding every-definition every-price worked-prices
+all-priced = refl
+
+-- With other entries, of which the first is 5 and the second 7 (request L7): an open step that stands nowhere has the entry at 0.
+pub other-entries : price-answer (5 ∷ 7 ∷ []) all-loose false (9 ∷ 9 ∷ 9 ∷ []) (9 ∷ 9 ∷ 9 ∷ []) .price .registers ≡ 5 ∷ 5 ∷ 0 ∷ []
+unfolding every-definition every-price
+other-entries = refl
+
+-- What the price program prints of the sheet of two hands that are far apart, and of the lip: registers of steps 0 and 1, comparisons of each step, the totals.
+pub far-printed : price-report far-hands ≡ 114 ∷ 101 ∷ 102 ∷ 117 ∷ 115 ∷ 101 ∷ 100 ∷ 32 ∷ 49 ∷ 57 ∷ 10 ∷ []
+unfolding every-definition every-price
+far-printed = refl
+
+pub lip-printed : price-report lip ≡
+    114 ∷ 101 ∷ 103 ∷ 105 ∷ 115 ∷ 116 ∷ 101 ∷ 114 ∷ 115 ∷ 32 ∷ 48 ∷ 32 ∷ 48 ∷ 10 ∷
+    114 ∷ 101 ∷ 103 ∷ 105 ∷ 115 ∷ 116 ∷ 101 ∷ 114 ∷ 115 ∷ 32 ∷ 49 ∷ 32 ∷ 51 ∷ 10 ∷
+    99 ∷ 111 ∷ 109 ∷ 112 ∷ 97 ∷ 114 ∷ 105 ∷ 115 ∷ 111 ∷ 110 ∷ 115 ∷ 32 ∷ 48 ∷ 32 ∷ 49 ∷ 10 ∷
+    99 ∷ 111 ∷ 109 ∷ 112 ∷ 97 ∷ 114 ∷ 105 ∷ 115 ∷ 111 ∷ 110 ∷ 115 ∷ 32 ∷ 49 ∷ 32 ∷ 49 ∷ 10 ∷
+    99 ∷ 111 ∷ 109 ∷ 112 ∷ 97 ∷ 114 ∷ 105 ∷ 115 ∷ 111 ∷ 110 ∷ 115 ∷ 32 ∷ 50 ∷ 32 ∷ 49 ∷ 10 ∷
+    116 ∷ 111 ∷ 116 ∷ 97 ∷ 108 ∷ 32 ∷ 51 ∷ 32 ∷ 51 ∷ 10 ∷
+    []
+unfolding every-definition every-price
+lip-printed = refl

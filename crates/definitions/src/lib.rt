@@ -9,6 +9,8 @@ pub const MOST_EDGES: usize = 4 * MOST_RECORDS + MOST_ADDED;
 
 pub const MOST_DURATION: u32 = 16777215;
 
+pub const REGISTER_ENTRIES: usize = 1024;
+
 pub const LAST_TICK: u32 = 4294967295;
 
 // The number of a plan's table where a step does not decide another (specs/Plan.antt).
@@ -54,7 +56,7 @@ pub enum Previous {
 
 // ---- What the calls answer.
 
-// The refusals 1 to 18, in their order, but for 9, which is never given since request L3; then those of later requests, 20, 26, 28 and 31.
+// The refusals 1 to 18, in their order, but for 9, which is never given since request L3; then those of later requests, 19, 20, 26, 28 and 31.
 pub enum Refusal {
     Truncated,
     OperationCount,
@@ -73,6 +75,7 @@ pub enum Refusal {
     AlreadyBegun,
     CannotFinish,
     ClockEnd,
+    LargeOffset,
     TooEarly,
     Unsequenced,
     Unserializable,

@@ -1,9 +1,10 @@
--- The theorems: one for each statement of specs/Demands.antt, in its order, with those of specs/Clashes.antt and specs/Writing.antt after request L6's.
+-- The theorems: one for each statement of specs/Demands.antt, in its order, with those of specs/Clashes.antt, specs/Writing.antt and specs/Pricing.antt after request L6's.
 use mathlib.Core.Path.{refl}
 use Rattle.demands.specs.Demands.{EdgesMeant, ListsMeant, ImpossibleExactly, ReadExactly, WellFormedExactly, JudgedExactly, EachCallRefuses, StartsReturned, CallsExactly, StepsExactly, StartsKept, NobodyEarlier, NobodyEarlierWithWaits, OursAmongRivals, NobodyEarlierWithoutForesight}
 use Rattle.demands.specs.Demands.{OursWithoutForesight, Refused28Exactly, NothingNew, PlansAsBefore, AddedLinksFree, IntoSourceCircle, EnteredAsBefore, LeastlessAsBefore, TestsMeant, WaitsListed, WaitsSound, OffsetsRight, StartRule, DecidingSets, PlanTable, LinesListed, FrontDecides, HypothesesMet}
 use Rattle.demands.specs.Clashes.{PartsJudged, FewClash, FewExactly, FewMet}
 use Rattle.demands.specs.Writing.{RecordsRising, AnyOrder, WrittenRead, ReadWritten, WriteExactly}
+use Rattle.demands.specs.Pricing.{PriceExactly, PriceMet, PricesRight, PrintedRule, StartSetsUncounted}
 use Rattle.demands.proofs.Reading.{fits-of}
 use Rattle.demands.proofs.FirstBytes.{front-for}
 use Rattle.demands.proofs.Meaning.{meant-for}
@@ -22,12 +23,14 @@ use Rattle.demands.proofs.Leastless.{leastless-all}
 use Rattle.demands.proofs.Completion.{added-free, as-entered, into-source}
 use Rattle.demands.proofs.Clashes.{judged-parts, few-for}
 use Rattle.demands.proofs.Reports.{few-calls}
+use Rattle.demands.proofs.Pricing.{price-for, printed-for}
+use Rattle.demands.proofs.PricingCalls.{price-calls}
 use Rattle.demands.proofs.WritingOrder.{rising-for}
 use Rattle.demands.proofs.WritingRefusals.{write-for}
 use Rattle.demands.proofs.WritingAnyOrder.{any-order-for}
 use Rattle.demands.proofs.Writing.{written-all}
 use Rattle.demands.proofs.WritingAgain.{written-again}
-use Rattle.demands.proofs.Examples.{clash-met, examples}
+use Rattle.demands.proofs.Examples.{clash-met, examples, far-uncounted, prices-met}
 
 -- ## The words
 
@@ -169,6 +172,20 @@ read-written = written-again
 pub write-exactly : WriteExactly
 write-exactly = write-for
 
+-- ## Request L5
+
+-- The search for the smallest power passes those that are too small, and ten tries are enough.
+pub printed-rule : PrintedRule
+printed-rule = printed-for
+
+-- An entry of the plan is an offset exactly where a step decides; the largest, the number and the sums are those of the definitions.
+pub prices-right : PricesRight
+prices-right entries s allow q v accepted = price-for accepted entries
+
+-- 19 and 14 stand in a row behind what judging refuses, which is neither.
+pub price-exactly : PriceExactly
+price-exactly = price-calls
+
 -- ## Demand 2
 
 -- Rounds over the edges reach what a walk reaches: a walk can be cut to fewer edges than there are steps.
@@ -217,3 +234,9 @@ hypotheses-met = examples
 
 pub few-met : FewMet
 few-met = clash-met
+
+pub price-met : PriceMet
+price-met = prices-met
+
+pub start-sets-uncounted : StartSetsUncounted
+start-sets-uncounted = far-uncounted

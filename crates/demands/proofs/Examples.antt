@@ -16,20 +16,24 @@ use Rattle.definitions.specs.Anchors.{well-posed}
 use Rattle.definitions.specs.Rival.{Further, DelayAssignment, Lasts}
 use Rattle.definitions.specs.Answers.{closes-circle, infeasible, inconsistent, count-of, leasts-of, edges-of, serialized-of, judged}
 use Rattle.definitions.specs.Clashes.{impossible, few}
-use Rattle.definitions.specs.Worked.{Worked, every-definition, listing, lists, two-clashes, worked-sheets}
+use Rattle.definitions.specs.Price.{comparisons-of, entry-at, largest-offset, plan-of, power-from, price-of, price-records, printed-entry, printed-table, registers-of, stands-at, too-large}
+use Rattle.definitions.specs.Worked.{Worked, every-definition, far-undecided, listing, lists, stand, two-clashes, worked-sheets}
 use Rattle.definitions.specs.declared.Delay.the-variants.{Open}
 use Rattle.definitions.specs.declared.Operation.{Operation}
 use Rattle.laws.proofs.Tests.{all-below-each, all-each}
 use Rattle.laws.proofs.Lists.{mem-at}
 use Rattle.theory.proofs.DelayLimits.{least-past}
 use Rattle.theory.proofs.Reachability.{well-posed-iff}
-use Rattle.demands.specs.Demands.{Bytes, IsSheet, WellFormed, WorkedBytes, RivalMet, ForesightEarlier, HypothesesMet, our-start}
+use Rattle.demands.specs.Demands.{Bytes, IsSheet, WellFormed, Accepted, WorkedBytes, RivalMet, ForesightEarlier, HypothesesMet, our-start}
 use Rattle.demands.specs.Clashes.{FewFor, FewMet}
+use Rattle.demands.specs.Pricing.{PriceMet, StartSetsUncounted}
 use Rattle.demands.proofs.Reading.{fits-of}
 use Rattle.demands.proofs.Edges.{Ends, edges-shape, sheet-ends}
 use Rattle.demands.proofs.Impossibility.{impossible-for}
 use Rattle.demands.proofs.Formed.{formed-regular}
 use Rattle.demands.proofs.Clashes.{few-for, impossible-lists}
+use Rattle.demands.proofs.Pricing.{price-for}
+use Rattle.demands.proofs.PricingCalls.{small-iff}
 
 -- Sheet k of the table, and its records.
 abbrev no-sheet : Worked
@@ -343,3 +347,30 @@ clash-met =
     let formed : WellFormed two-clashes clash = record { sheet = record { bytes = are-bytes two-clashes (computed .clash-bytes); reads = computed .clash-reads }; no-circle = computed .clash-formed } in
     let none = impossible-lists (formed-regular formed) .0 (computed .clash-impossible) in
     (clash, formed, none, computed .clash-records, computed .clash-few, subst (FewFor clash) (computed .clash-few) (few-for two-clashes clash formed none))
+
+-- The stand sheet has a price, and its registers are computed.
+abbrev stand-records : Records
+stand-records = records-in (read (stand 2))
+
+stand-registers : price-records printed-table stand-records .registers ≡ 2 ∷ 0 ∷ 1 ∷ 0 ∷ 0 ∷ []
+unfolding every-definition power-from printed-entry printed-table entry-at stands-at largest-offset registers-of comparisons-of price-of plan-of price-records
+stand-registers = refl
+
+stand-accepted : Accepted (stand 2) true stand-records 0
+unfolding every-definition judged
+stand-accepted = record { sheet = record { bytes = are-bytes (stand 2) refl; reads = refl }; accepts = refl }
+
+pub prices-met : PriceMet
+prices-met = (stand-records, stand-accepted, price-for stand-accepted printed-table, stand-registers)
+
+-- Computed; that 19 does not apply is what the test for it says.
+abbrev far-records : Records
+far-records = records-in (read far-undecided)
+
+far-accepted : Accepted far-undecided true far-records 0
+unfolding every-definition judged
+far-accepted = record { sheet = record { bytes = are-bytes far-undecided refl; reads = refl }; accepts = refl }
+
+pub far-uncounted : StartSetsUncounted
+unfolding every-definition power-from printed-entry printed-table entry-at stands-at largest-offset registers-of comparisons-of price-of plan-of price-records too-large
+far-uncounted = (far-records, record { accepted = far-accepted; member = refl; far = refl; small = small-iff [] far-undecided true far-records [] [] (far-accepted .sheet) far-accepted .0 refl; registers = refl })

@@ -14,6 +14,7 @@ use Rattle.definitions.specs.Limits.{most-steps, most-records, longest-sheet, l
 use Rattle.definitions.specs.Basics.{test-bit, Outcome, given, refused, when-given}
 use Rattle.definitions.specs.Bytes.{Taken, Parser, _>>=_, _>>_, give, demand, byte, two-bytes, ticks-if, operation-map, delay-from, operation, bound-from, link-map, sequenced, endpoints, rises, link, records, operations, pair-of, links, at-end, Records, sheet, read}
 use Rattle.definitions.specs.Output.{listed, list-records, listing-text, standplan}
+use Rattle.definitions.specs.Price.{price-report, printed-table, report-read}
 use Rattle.definitions.specs.declared.Operation.{Operation}
 use Rattle.definitions.specs.declared.Previous.{Previous}
 use Rattle.definitions.specs.declared.Previous.the-variants.{Nothing}
@@ -163,8 +164,8 @@ looks-sheet =
 
 -- The theorem of this file: what is left is dropped in the end, so its cut does not show.
 pub front-for : FrontDecides
-unfolding read listed standplan when-given
-front-for s limit h = record { reads = reads; prints = ap (λ (o : Outcome Records). listing-text (when-given o (λ q. list-records q true))) reads }
+unfolding read listed standplan price-report when-given
+front-for s limit h = record { reads = reads; prints = ap (λ (o : Outcome Records). listing-text (when-given o (λ q. list-records q true))) reads; prices = ap (report-read printed-table) reads }
   where
     dropped : (l : ℕ) (o : Outcome (Taken Records)) → when-given (cut l o) (λ t. given (t .value)) ≡ when-given o (λ t. given (t .value))
     dropped l (given t) = refl

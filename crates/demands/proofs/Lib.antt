@@ -23,6 +23,8 @@ pub mod Leastless
 pub mod Completion
 pub mod Clashes
 pub mod Reports
+pub mod Pricing
+pub mod PricingCalls
 pub mod Examples
 pub mod WritingOrder
 pub mod WritingRead

@@ -9,6 +9,7 @@ use Rattle.definitions.specs.Bytes.{Records, read, blank-operation}
 use Rattle.definitions.specs.Answers.{judged, waits-answer, planned, starts-answer, steps-answer}
 use Rattle.definitions.specs.Clashes.{few-answer}
 use Rattle.definitions.specs.Output.{listed, standplan}
+use Rattle.definitions.specs.Price.{price-answer, price-report}
 use Rattle.definitions.specs.Writer.{two-bytes-of, field-of, duration-of, operation-bytes, link-bytes, rising, sheet-bytes, parts}
 use Rattle.definitions.specs.declared.Operation.{Operation}
 use Rattle.definitions.specs.declared.Link.{Link}
@@ -23,7 +24,7 @@ use Rattle.demands.proofs.WritingFound.{SheetFound, sheet-found}
 
 -- Each call works on what is read.
 same-answers : (s t : List ℕ) → read s ≡ read t → SameAnswers s t
-unfolding judged waits-answer planned starts-answer steps-answer few-answer listed standplan
+unfolding judged waits-answer planned starts-answer steps-answer few-answer price-answer listed standplan price-report
 same-answers s t e = record {
   reads = e;
   judges = λ allow. rw e;
@@ -32,7 +33,9 @@ same-answers s t e = record {
   starts = λ allow list out. rw e;
   steps = λ lent. rw e;
   clashes = λ list. rw e;
+  prices = λ entries allow registers comparisons. rw e;
   prints = rw e;
+  prints-price = rw e;
 }
 
 -- A step of duration 0 is written in one byte, so one that was sent with its field has two bytes more.

@@ -8,6 +8,7 @@
 -- L1. All this holds of after links with a gap, and sheets without one plan as before.
 -- L3. All this is read on the completed sheet; 9 never occurs, and sheets on which nothing is added plan as before.
 -- L6. All this is said of the durations that respect the leasts, and sheets without one plan as before.
+-- L5. The price counts what the plan has: specs/Pricing.antt, after this file.
 -- L14. The records of an impossible sheet that are reported are impossible together, and without any one of them they are not: specs/Clashes.antt, after this file.
 --
 -- Words that are not defined here are those of the crate definitions, in the words of document 01: Bytes, Links, Anchors, Waits, Plan, Rival, Answers, to be read in this order. Quoted sentences are
@@ -30,6 +31,7 @@ use Rattle.definitions.specs.Plan.{Offset, offset, start-times, overrides, deci
 use Rattle.definitions.specs.Rival.{Extension, Lasts, DelayAssignment, DynamicStrategy}
 use Rattle.definitions.specs.Answers.{closes-circle, count-of, leasts-of, edges-of, serialized-of, judge-edges, judged, waits-answer, planned, starts-answer, beginning, steps-answer}
 use Rattle.definitions.specs.Output.{StartLine, start-lines, listed, standplan}
+use Rattle.definitions.specs.Price.{price-report}
 use Rattle.definitions.specs.Worked.{Worked, worked-sheets}
 use Rattle.definitions.specs.declared.Delay.the-variants.{Open, Fixed}
 use Rattle.theory.specs.Counts.{standing-bits}
@@ -532,11 +534,12 @@ LinesListed = (s : List ℕ) (allow : Bool) (q : Records) (v : ℕ) → Accepted
 
 -- ## How much of an input decides
 
--- The longest sheet has 5,825 bytes (`longest-sheet`); one more shows that something follows it. So any longer front of any bytes decides what is read and what `standplan` prints. Proof:
+-- The longest sheet has 5,825 bytes (`longest-sheet`); one more shows that something follows it. So any longer front of any bytes decides what is read and what `standplan` and `standprice` print. Proof:
 -- front-decides.
 pub record FrontFor (s : List ℕ) (limit : ℕ) : Type 0 where
   pub reads : read (take limit s) ≡ read s
   pub prints : standplan (take limit s) ≡ standplan s
+  pub prices : price-report (take limit s) ≡ price-report s
 
 abbrev pub FrontDecides : Type 0
 FrontDecides = (s : List ℕ) (limit : ℕ) → longest-sheet < limit → FrontFor s limit

@@ -4,4 +4,5 @@ pub mod Entered
 pub mod Parts
 pub mod Demands
 pub mod Clashes
+pub mod Pricing
 pub mod Writing

@@ -13,6 +13,7 @@ use Rattle.definitions.specs.Answers.{count-of, judged, waits-answer, planned, 
 use Rattle.definitions.specs.Clashes.{blank-link, few-answer}
 use Rattle.definitions.specs.Writer.{two-bytes-of, operation-bytes, link-bytes, rising, sheet-bytes, parts, write-answer}
 use Rattle.definitions.specs.Output.{standplan}
+use Rattle.definitions.specs.Price.{price-answer, price-report}
 use Rattle.definitions.specs.declared.Delay.the-variants.{Fixed}
 use Rattle.definitions.specs.declared.Operation.{Operation}
 use Rattle.definitions.specs.declared.Bound.{Bound}
@@ -163,7 +164,9 @@ pub record SameAnswers (s t : List ℕ) : Type 0 where
   pub starts : (allow : Bool) (list out : List ℕ) → starts-answer s allow list out ≡ starts-answer t allow list out
   pub steps : (lent : List ℕ) → steps-answer s lent ≡ steps-answer t lent
   pub clashes : (list : List ℕ) → few-answer s list ≡ few-answer t list
+  pub prices : (entries : List ℕ) (allow : Bool) (registers comparisons : List ℕ) → price-answer entries s allow registers comparisons ≡ price-answer entries t allow registers comparisons
   pub prints : standplan s ≡ standplan t
+  pub prints-price : price-report s ≡ price-report t
 
 -- The bytes of step records: each as it is written, but that a fixed duration of 0 may have been sent with its field, as 02 00 00. `kept` counts those.
 pub data StepsSent : List Operation → List ℕ → ℕ → Type 0 where

@@ -1,10 +1,10 @@
-// The lines of what `standplan` prints, each formatted into a lent buffer. A writer puts its text at a position and returns the next one.
+// The lines of what the programs print, each formatted into a lent buffer. A writer puts its text at a position and returns the next one.
 ghost use mathlib.Core.List.{[], _∷_};
 ghost use Prim.Native.Nat.{_+_, _<_, _≤_};
 ghost use lib.ListN.{length};
 ghost use Rattle.definitions.specs.Output.{decimal, field, newline};
 ghost use Rattle.data_buffers.specs.Texts.{Put};
-ghost use Rattle.print_line.specs.Texts.{fields, line};
+ghost use Rattle.print_line.specs.Texts.{Printed, fields, heading, line, refusal-room, refusal-text};
 use data_buffers::put_byte;
 
 // The bytes of a word.
@@ -80,4 +80,21 @@ pub fn put_line(word: &[u8], numbers: &[u32], out: &mut [u8], at: usize) -> usiz
     let p = put_word(word, out, at);
     let q = put_fields(numbers, out, p);
     put_newline(out, q)
+}
+
+// A line of a word and one number.
+pub fn put_heading(word: &[u8], x: u32, out: &mut [u8], at: usize) -> usize
+    requires { ⌜ at + length (heading (now word) x) ≤ length (now out) ⌝ }
+    ensures { λ r. ⌜ Put (heading (now (word .entry)) x) at r (now (out .entry)) (now (out .exit)) ⌝ }
+{
+    let number = [x];
+    put_line(word, &number, out, at)
+}
+
+// What is printed of a sheet that is refused, by the refusal's number. Returns how many bytes there are.
+pub fn print_refusal(number: u32, out: &mut [u8]) -> usize
+    requires { ⌜ refusal-room ≤ length (now out) ⌝ }
+    ensures { λ r. ⌜ Printed (refusal-text number) r (now (out .entry)) (now (out .exit)) ⌝ }
+{
+    put_heading(b"refused", number, out, 0)
 }

@@ -12,13 +12,9 @@ use Rattle.definitions.specs.Plan.{undecided}
 use Rattle.definitions.specs.Output.{word-wait, word-start, wait-text, start-text}
 use Rattle.data_buffers.specs.Texts.{texts}
 use Rattle.print_line.specs.Texts.{line}
-use Rattle.print_plan.specs.Texts.{heading, wait-line, start-line, wait-cell, cell-at, start-cell}
+use Rattle.print_plan.specs.Texts.{wait-line, start-line, wait-cell, cell-at, start-cell}
 
 -- Each line is that of its word and its numbers.
-pub heading-as-line : (word : List ℕ) (x : ℕ) → line word (x ∷ []) ≡ heading word x
-unfolding line texts heading
-heading-as-line word x = refl
-
 wait-as-line : (a i : ℕ) → line word-wait (a ∷ i ∷ []) ≡ wait-line a i
 unfolding line texts wait-text
 wait-as-line a i = refl

@@ -1,4 +1,3 @@
 pub mod Cells
-pub mod Fronts
 pub mod Limits
 pub mod Listings

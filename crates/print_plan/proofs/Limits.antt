@@ -1,36 +1,17 @@
 -- How long the texts can be: a plan of up to 64 steps fits its room, whatever numbers it holds.
-use mathlib.Core.Bool.{Bool, true, false, cond}
-use mathlib.Core.List.{List, [], _++_}
-use Prim.Native.Nat.{ℕ, zero, suc, _+_, _*_, _≤_, _<_}
+use mathlib.Core.List.{List, _++_}
+use Prim.Native.Nat.{ℕ, _≤_, _<_}
 use native.Mathlib.Omega.{arith}
-use native.Mathlib.Nat.{suc-mul}
 use lib.Dec.{eqb}
 use lib.ListN.{length, getD, length-append}
 use Rattle.definitions.specs.Basics.{test-bit}
 use Rattle.definitions.specs.Plan.{undecided}
 use Rattle.definitions.specs.Output.{field, newline, word-verdict, word-waits, word-wait, word-start, wait-text, start-text}
-use Rattle.data_buffers.specs.Texts.{texts}
-use Rattle.print_plan.specs.Texts.{heading, wait-line, start-line, wait-cell, maps-row, maps-text, cell-at, start-cell, table-row, table-text, plan-room}
+use Rattle.data_buffers.proofs.Listing.{texts-limit, cond-limit, cond-limit-else}
+use Rattle.print_line.specs.Texts.{heading}
+use Rattle.print_line.proofs.Fronts.{heading-limit}
+use Rattle.print_plan.specs.Texts.{wait-line, start-line, wait-cell, maps-row, maps-text, cell-at, start-cell, table-row, table-text, plan-room}
 use Rattle.print_line.proofs.Digits.{field-length, field-short}
-
--- n texts of at most m bytes.
-pub texts-limit : (f : ℕ → List ℕ) (m n : ℕ) → ((k : ℕ) → k < n → length (f k) ≤ m) → length (texts f n) ≤ n * m
-unfolding texts
-texts-limit f m zero h = omega arith
-texts-limit f m (suc n) h = omega (arith, length-append (texts f n) (f n), texts-limit f m n (λ k b. h k (omega arith)), h n (omega arith), suc-mul n m)
-
--- A choice between a text and none.
-cond-limit : (b : Bool) (s : List ℕ) (m : ℕ) → length s ≤ m → length (cond b s []) ≤ m
-cond-limit true s m h = h
-cond-limit false s m h = omega arith
-
-cond-limit-else : (b : Bool) (s : List ℕ) (m : ℕ) → length s ≤ m → length (cond b [] s) ≤ m
-cond-limit-else true s m h = omega arith
-cond-limit-else false s m h = h
-
-pub heading-limit : (word : List ℕ) (x : ℕ) → length (heading word x) ≤ length word + 12
-unfolding heading
-heading-limit word x = omega (arith, length-append (word ++ field x) newline, length-append word (field x), field-length x)
 
 wait-line-limit : (a i : ℕ) → a < 100 → i < 100 → length (wait-line a i) ≤ 11
 unfolding wait-text

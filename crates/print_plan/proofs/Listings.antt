@@ -2,7 +2,7 @@
 use mathlib.Core.Path.{_≡_, refl, sym, ap, ap₂, _∙_}
 use mathlib.Core.Bool.{Bool, true, false, cond, _&&_, not}
 use mathlib.Core.Logic.{_⊎_, inl, inr}
-use mathlib.Core.List.{List, [], _∷_, _++_, map, flatMap, append-assoc, append-nil}
+use mathlib.Core.List.{List, [], _∷_, _++_, map, flatMap, append-assoc}
 use Prim.Native.Nat.{ℕ, zero, suc, _+_, _*_, _≤_, _<_}
 use native.Mathlib.Omega.{arith}
 use lib.Dec.{eqb}
@@ -19,37 +19,14 @@ use Rattle.definitions.specs.Plan.{offset, overrides, decides, undecided, plan-
 use Rattle.definitions.specs.Answers.{count-of, leasts-of, edges-of, serialized-of, judge-records, judged}
 use Rattle.definitions.specs.Output.{lines-of, start-lines, Listing, list-records, listed, field, newline, word-verdict, word-waits, wait-text, start-text, listing-text, standplan}
 use Rattle.laws.proofs.Bools.{bool-cases, and-split, cond-true, cond-false}
-use Rattle.laws.proofs.Lists.{flatMap-append, flatMap-map, flatMap-flatMap}
+use Rattle.laws.proofs.Lists.{flatMap-map, flatMap-flatMap}
 use Rattle.theory.proofs.PlanTables.{plan-table-length, plan-table-at}
 use Rattle.theory.proofs.WaitLists.{wait-map-bit, wait-maps-at}
 use Rattle.data_buffers.specs.Texts.{texts}
-use Rattle.print_plan.specs.Texts.{heading, wait-line, start-line, wait-cell, maps-text, cell-at, start-cell, table-text, plan-text, refusal-text}
+use Rattle.data_buffers.proofs.Listing.{texts-same, texts-all, texts-select}
+use Rattle.print_line.specs.Texts.{heading, refusal-text}
+use Rattle.print_plan.specs.Texts.{wait-line, start-line, wait-cell, maps-text, cell-at, start-cell, table-text, plan-text}
 use Rattle.print_plan.proofs.Cells.{cell-below}
-
--- Texts that are the same below n, run together.
-pub texts-same : (f g : ℕ → List ℕ) (n : ℕ) → ((k : ℕ) → k < n → f k ≡ g k) → texts f n ≡ texts g n
-unfolding texts
-texts-same f g zero h = refl
-texts-same f g (suc n) h = ap₂ (λ (x y : List ℕ). x ++ y) (texts-same f g n (λ k b. h k (omega arith))) (h n (omega arith))
-
--- The texts of all numbers below n, and of those that pass a test. Induction on n.
-flatMap-one : {A : Type 0} (f : A → List ℕ) (x : A) → flatMap f (x ∷ []) ≡ f x
-unfolding flatMap
-flatMap-one f x = append-nil (f x)
-
-texts-all : (f : ℕ → List ℕ) (n : ℕ) → texts f n ≡ flatMap f (tabulate (λ k. k) n)
-unfolding texts tabulate flatMap
-texts-all f zero = refl
-texts-all f (suc n) = sym (flatMap-append f (tabulate (λ k. k) n) (n ∷ []) ∙ ap₂ (λ (x y : List ℕ). x ++ y) (sym (texts-all f n)) (flatMap-one f n))
-
-texts-select : (test : ℕ → Bool) (f : ℕ → List ℕ) (n : ℕ) → texts (λ k. cond (test k) (f k) []) n ≡ flatMap f (select-below test n)
-unfolding texts select-below flatMap
-texts-select test f zero = refl
-texts-select test f (suc n) = sym (flatMap-append f (select-below test n) (cond (test n) (n ∷ []) []) ∙ ap₂ (λ (x y : List ℕ). x ++ y) (sym (texts-select test f n)) (last (test n)))
-  where
-    last : (b : Bool) → flatMap f (cond b (n ∷ []) []) ≡ cond b (f n) []
-    last true = flatMap-one f n
-    last false = refl
 
 -- A list of lines by two numbers: those of row a that pass are run together, row after row.
 rows-listed : {A : Type 0} (text : A → List ℕ) (line : ℕ → ℕ → A) (test : ℕ → ℕ → Bool) (n : ℕ) → texts (λ a. texts (λ i. cond (test a i) (text (line a i)) []) n) n ≡ flatMap text (flatMap (λ a. map (line a) (select-below (test a) n)) (tabulate (λ a. a) n))

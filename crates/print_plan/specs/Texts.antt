@@ -1,24 +1,15 @@
 -- What the functions of this crate print, in terms of what is lent to them.
-use mathlib.Core.Path.{_≡_}
 use mathlib.Core.Bool.{cond}
 use mathlib.Core.List.{List, [], _++_}
 use Prim.Native.Nat.{ℕ, _+_, _*_, _<_, _≤_}
 use lib.Dec.{eqb}
-use lib.ListN.{length, getD, drop}
+use lib.ListN.{length, getD}
 use Rattle.definitions.specs.Basics.{test-bit}
 use Rattle.definitions.specs.Limits.{longest-table, most-steps}
 use Rattle.definitions.specs.Plan.{undecided}
-use Rattle.definitions.specs.Output.{field, newline, word-verdict, word-waits, word-refused, wait-text, start-text}
+use Rattle.definitions.specs.Output.{word-verdict, word-waits, wait-text, start-text}
 use Rattle.data_buffers.specs.Texts.{texts}
-
--- The promise of a function that writes from the front: what it returns is the text's length, and what lies past the text stays.
-pub record Printed (text : List ℕ) (size : ℕ) (old new : List ℕ) : Type 0 where
-  pub long : size ≡ length text
-  pub bytes : new ≡ text ++ drop (length text) old
-
--- A line of a word and a number.
-unfoldable pub heading : List ℕ → ℕ → List ℕ
-heading word x = word ++ field x ++ newline
+use Rattle.print_line.specs.Texts.{heading}
 
 -- A wait line and a start line.
 abbrev pub wait-line : ℕ → ℕ → List ℕ
@@ -50,12 +41,9 @@ table-row n table v = texts (start-cell n table v) n
 abbrev pub table-text : ℕ → List ℕ → List ℕ
 table-text n table = texts (table-row n table) n
 
--- The whole of an accepted sheet, and a refusal.
+-- The whole of an accepted sheet.
 unfoldable pub plan-text : ℕ → ℕ → List ℕ → List ℕ → ℕ → List ℕ
 plan-text verdict count maps table n = heading word-verdict verdict ++ heading word-waits count ++ maps-text n maps ++ table-text n table
-
-unfoldable pub refusal-text : ℕ → List ℕ
-refusal-text k = heading word-refused k
 
 -- What a part of the text asks to be put at a place of the buffer: steps that there are, a table with a row for each, and room for the part.
 pub record WaitFits (a i : ℕ) (text : List ℕ) (at : ℕ) (out : List ℕ) : Type 0 where

@@ -4,16 +4,8 @@ ghost use Prim.Native.Nat.{_+_, _*_, _≤_};
 ghost use lib.ListN.{length};
 ghost use Rattle.definitions.specs.Limits.{most-steps};
 ghost use Rattle.data_buffers.specs.Texts.{Put};
-ghost use Rattle.print_plan.specs.Texts.{Printed, StartFits, StartsFit, TableFits, WaitFits, WaitsFit, heading, wait-cell, maps-row, maps-text, start-cell, table-row, table-text, plan-text, refusal-text, plan-room};
-
-// A line of a word and one number.
-fn put_heading(word: &[u8], x: u32, out: &mut [u8], at: usize) -> usize
-    requires { ⌜ at + length (heading (now word) x) ≤ length (now out) ⌝ }
-    ensures { λ r. ⌜ Put (heading (now (word .entry)) x) at r (now (out .entry)) (now (out .exit)) ⌝ }
-{
-    let number = [x];
-    print_line::put_line(word, &number, out, at)
-}
+ghost use Rattle.print_line.specs.Texts.{Printed};
+ghost use Rattle.print_plan.specs.Texts.{StartFits, StartsFit, TableFits, WaitFits, WaitsFit, wait-cell, maps-row, maps-text, start-cell, table-row, table-text, plan-text, plan-room};
 
 // The wait line of a and i, where bit a of map i stands.
 fn put_wait_at(maps: &[u64; 64], a: usize, i: usize, out: &mut [u8], at: usize) -> usize
@@ -108,16 +100,8 @@ pub fn print_plan(
     requires { ⌜ (n ≤ most-steps) × (n * n ≤ length (now table)) × (plan-room ≤ length (now out)) ⌝ }
     ensures { λ r. ⌜ Printed (plan-text verdict count (now (maps .entry)) (now (table .entry)) n) r (now (out .entry)) (now (out .exit)) ⌝ }
 {
-    let p = put_heading(b"verdict", verdict, out, 0);
-    let q = put_heading(b"waits", count, out, p);
+    let p = print_line::put_heading(b"verdict", verdict, out, 0);
+    let q = print_line::put_heading(b"waits", count, out, p);
     let s = put_waits(maps, n, out, q);
     put_starts(table, n, out, s)
-}
-
-// What is printed of a sheet that is refused, by the refusal's number. Returns how many bytes there are.
-pub fn print_refusal(number: u32, out: &mut [u8]) -> usize
-    requires { ⌜ 19 ≤ length (now out) ⌝ }
-    ensures { λ r. ⌜ Printed (refusal-text number) r (now (out .entry)) (now (out .exit)) ⌝ }
-{
-    put_heading(b"refused", number, out, 0)
 }

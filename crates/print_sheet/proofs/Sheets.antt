@@ -21,7 +21,8 @@ use Rattle.demands.proofs.Reading.{read-fits}
 use Rattle.demands.proofs.Planning.{offset-for}
 use Rattle.laws.proofs.Counts.{square-small}
 use Rattle.laws.proofs.Outcomes.{given-not-refused, given-same, refused-same, refuse-given, when-given-has, when-given-by}
-use Rattle.print_plan.specs.Texts.{Printed, plan-text, refusal-text}
+use Rattle.print_line.specs.Texts.{refusal-text}
+use Rattle.print_plan.specs.Texts.{plan-text}
 use Rattle.print_plan.proofs.Listings.{standplan-plan, standplan-refusal, wait-maps-bits, written-plan}
 use Rattle.theory.proofs.PlanTables.{plan-table-length}
 use Rattle.print_sheet.specs.Plans.{Plans}
@@ -108,14 +109,6 @@ module _ (s : List ℕ) (bytes : Bytes s) (table : List ℕ) (long : most-steps 
   pub plan-refuses : {k : ℕ} → refused k ≡ planned s true table .verdict → refusal-text k ≡ standplan s
   unfolding planned
   plan-refuses {k} h = standplan-refusal s k (refuses (read s) refl (sym h))
-
--- A text under another name.
-pub printed-as : {t u : List ℕ} {size : ℕ} {old new : List ℕ} → t ≡ u → Printed t size old new → Printed u size old new
-printed-as {size = size} {old = old} {new = new} e p = subst (λ (t : List ℕ). Printed t size old new) e p
-
--- The text lies within the buffer.
-pub printed-within : {t : List ℕ} {size : ℕ} {old new : List ℕ} → Printed t size old new → size ≤ length new
-printed-within {t} {size} {old} p = omega (arith, p .long, ap length (p .bytes), length-append t (drop (length t) old))
 
 -- The waits of an accepted sheet are those of its edges.
 module _ {s : List ℕ} {v count : ℕ} {waits table : List ℕ} (plans : Plans s v count waits table) where

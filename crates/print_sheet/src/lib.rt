@@ -7,7 +7,8 @@ ghost use mathlib.Core.Path.{_≡_};
 ghost use Prim.Native.Nat.{_≤_};
 ghost use lib.ListN.{length, getD};
 ghost use Rattle.definitions.specs.Output.{standplan};
-ghost use Rattle.print_plan.specs.Texts.{Printed, plan-room};
+ghost use Rattle.print_line.specs.Texts.{Printed};
+ghost use Rattle.print_plan.specs.Texts.{plan-room};
 ghost use Rattle.print_sheet.specs.Plans.{Plans};
 
 // The plan of the most steps.
@@ -55,7 +56,7 @@ pub fn standplan(s: &[u8], out: &mut [u8]) -> usize
         Verdict::Serialized => print_accepted(s, 1, count, &maps, &table, out),
         Verdict::Refused(k) => {
             let number = data_numbers::refusal_number(k);
-            print_plan::print_refusal(number, out)
+            print_line::print_refusal(number, out)
         }
     }
 }

@@ -23,6 +23,9 @@ use Rattle.run_calls.proofs.finish.Reads as finish-says
 use Rattle.clash_sheet.specs.Reports.{FewReturned}
 use Rattle.clash_sheet.proofs.clashes.Kinds as clashes
 use Rattle.clash_sheet.proofs.clashes.Reads as clashes-says
+use Rattle.price_sheet.specs.Returned.{PriceReturned}
+use Rattle.price_sheet.proofs.price.Kinds as price
+use Rattle.price_sheet.proofs.price.Reads as price-says
 use Rattle.run_sheet.specs.Steps.{StepsReturned, memory}
 use Rattle.run_sheet.proofs.steps.Kinds as steps
 use Rattle.run_sheet.proofs.steps.Reads as steps-says
@@ -62,6 +65,9 @@ write-tied : (κs : Lfts 1) (a : Dens κs write.ps) (r : resT write.r κs .Denot
     → write-says.Post κs a r x → Wrote (a .0) (a .1 .1 .0) (a .1 .0) (a .1 .1 .1 .0) (now (a .1 .1 .1 .1 .0)) r (now (x .1 .1 .1 .1 .0))
 write-tied κs a r x p = p
 
+price-tied : (κs : Lfts 3) (a : Dens κs price.ps) (r : resT price.r κs .Denot) (x : AtExit (endedOf 3 price.ps price.r) κs) → price-says.Post κs a r x → PriceReturned (now (a .0)) (a .1 .0) (now (a .1 .1 .0)) (now (a .1 .1 .1 .0)) r (now (x .1 .1 .0)) (now (x .1 .1 .1 .0))
+price-tied κs a r x p = p
+
 judge-asks-nothing : (κs : Lfts 1) (a : Dens κs judge.ps) → judge-says.Pre κs a
 judge-asks-nothing κs a = tt
 
@@ -91,3 +97,6 @@ clashes-asks-nothing κs a = tt
 
 write-asks-nothing : (κs : Lfts 1) (a : Dens κs write.ps) → write-says.Pre κs a
 write-asks-nothing κs a = tt
+
+price-asks-nothing : (κs : Lfts 3) (a : Dens κs price.ps) → price-says.Pre κs a
+price-asks-nothing κs a = tt

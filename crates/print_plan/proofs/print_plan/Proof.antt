@@ -1,10 +1,11 @@
 -- The two headings, the waits and the starts, from the front; the room is enough for all of them.
 use native.Mathlib.Omega.{arith}
 use Rattle.definitions.specs.Output.{word-verdict, word-waits}
-use Rattle.print_plan.specs.Texts.{heading, maps-text, table-text, plan-text}
-use Rattle.print_plan.proofs.Limits.{heading-limit, headings-room, waits-room, starts-room}
 use Rattle.data_buffers.proofs.Writing.{put-then, put-room}
-use Rattle.print_plan.proofs.Fronts.{put-printed}
+use Rattle.print_line.specs.Texts.{heading}
+use Rattle.print_line.proofs.Fronts.{heading-limit, put-printed}
+use Rattle.print_plan.specs.Texts.{maps-text, table-text, plan-text}
+use Rattle.print_plan.proofs.Limits.{headings-room, waits-room, starts-room}
 use borrow.Author.Needs.{needs}
 use Rattle.print_plan.proofs.print_plan.Statement.{statement}
 use Rattle.print_plan.proofs.print_plan.Tie as tie

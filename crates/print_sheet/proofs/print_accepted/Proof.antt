@@ -4,8 +4,9 @@ use Prim.Native.Nat.{ℕ, _*_, _≤_}
 use native.Mathlib.Omega.{arith}
 use lib.ListN.{length}
 use denote.Ref.{now}
+use Rattle.print_line.proofs.Fronts.{printed-as}
 use Rattle.print_plan.specs.Texts.{plan-text}
-use Rattle.print_sheet.proofs.Sheets.{plans-text, printed-as, steps-few, steps-room}
+use Rattle.print_sheet.proofs.Sheets.{plans-text, steps-few, steps-room}
 use borrow.Author.Needs.{needs}
 use Rattle.print_sheet.proofs.print_accepted.Statement.{statement}
 use Rattle.print_sheet.proofs.print_accepted.Tie as tie

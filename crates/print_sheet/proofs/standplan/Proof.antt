@@ -5,8 +5,9 @@ use denote.Ref.{now}
 use Rattle.read_sheet.proofs.Whole.{bytes-by}
 use Rattle.definitions.specs.Numbers.{verdict-of}
 use Rattle.demands.specs.Demands.{Bytes}
-use Rattle.print_plan.specs.Texts.{refusal-text}
-use Rattle.print_sheet.proofs.Sheets.{plan-plans, plan-refuses, printed-as}
+use Rattle.print_line.specs.Texts.{refusal-text}
+use Rattle.print_line.proofs.Fronts.{printed-as}
+use Rattle.print_sheet.proofs.Sheets.{plan-plans, plan-refuses}
 use borrow.Author.Needs.{needs}
 use Rattle.print_sheet.proofs.standplan.Statement.{statement}
 use Rattle.print_sheet.proofs.standplan.Tie as tie

@@ -3,7 +3,7 @@ use mathlib.Core.Path.{sym}
 use native.Mathlib.Omega.{arith}
 use lib.Seq.{length-take-le}
 use borrow.Author.Needs.{needs}
-use Rattle.print_sheet.proofs.Sheets.{printed-within}
+use Rattle.print_line.proofs.Fronts.{printed-within}
 use Rattle.standplan.proofs.print.Statement.{statement}
 use Rattle.standplan.proofs.print.Tie as tie
 

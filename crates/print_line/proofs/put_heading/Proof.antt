@@ -3,10 +3,10 @@ use mathlib.Core.Path.{ap}
 use native.Mathlib.Omega.{arith}
 use lib.ListN.{length}
 use Rattle.data_buffers.proofs.Writing.{put-as}
-use Rattle.print_plan.proofs.Cells.{heading-as-line}
+use Rattle.print_line.proofs.Fronts.{heading-as-line}
 use borrow.Author.Needs.{needs}
-use Rattle.print_plan.proofs.put_heading.Statement.{statement}
-use Rattle.print_plan.proofs.put_heading.Tie as tie
+use Rattle.print_line.proofs.put_heading.Statement.{statement}
+use Rattle.print_line.proofs.put_heading.Tie as tie
 
 slice-aggregate-put-line : tie.Need-slice-aggregate-put-line
 slice-aggregate-put-line c = search needs

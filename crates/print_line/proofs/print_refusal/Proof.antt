@@ -1,12 +1,11 @@
 -- A heading, from the front. Assumes nothing.
 use native.Mathlib.Omega.{arith}
 use Rattle.definitions.specs.Output.{word-refused}
-use Rattle.print_plan.specs.Texts.{refusal-text}
-use Rattle.print_plan.proofs.Limits.{heading-limit}
-use Rattle.print_plan.proofs.Fronts.{put-printed}
+use Rattle.print_line.specs.Texts.{refusal-text}
+use Rattle.print_line.proofs.Fronts.{heading-limit, put-printed}
 use borrow.Author.Needs.{needs}
-use Rattle.print_plan.proofs.print_refusal.Statement.{statement}
-use Rattle.print_plan.proofs.print_refusal.Tie as tie
+use Rattle.print_line.proofs.print_refusal.Statement.{statement}
+use Rattle.print_line.proofs.print_refusal.Tie as tie
 
 slice-aggregate-put-heading : tie.Need-slice-aggregate-put-heading
 slice-aggregate-put-heading c = search needs
