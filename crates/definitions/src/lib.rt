@@ -17,21 +17,21 @@ pub const LAST_TICK: u32 = 4294967295;
 pub const UNDECIDED: u32 = 4294967295;
 
 // How long a step lasts: it is open, or lasts a fixed number of ticks.
-#[derive(Drop)]
+#[derive(Clone, Copy)]
 pub enum Delay {
     Open,
     Fixed(u16),
 }
 
 // A number of ticks that a record has or not: a field whose bit stands.
-#[derive(Drop)]
+#[derive(Clone, Copy)]
 pub enum Bound {
     Absent,
     Ticks(u16),
 }
 
 // A step, and its least duration where it has one (request L6).
-#[derive(Drop)]
+#[derive(Clone, Copy)]
 pub struct Operation {
     pub delay: Delay,
     pub least: Bound,
@@ -41,7 +41,7 @@ pub struct Operation {
 // and the sheet writer of request L4 takes its records as `Link`.
 
 // A link record for the pair (from, to): after, at least, at most, the gap of the after link, and at most from the finish.
-#[derive(Drop)]
+#[derive(Clone, Copy)]
 pub struct Link {
     pub from: u8,
     pub to: u8,
@@ -53,7 +53,7 @@ pub struct Link {
 }
 
 // The pair of the link record before, which the next pair has to rise above: for the definition of reading alone (`rises`), the code compares one number.
-#[derive(Drop)]
+#[derive(Clone, Copy)]
 pub enum Previous {
     Nothing,
     Pair(u8, u8),
@@ -62,7 +62,7 @@ pub enum Previous {
 // ---- What the calls answer.
 
 // The refusals 1 to 18, in their order, but for 9, which is never given since request L3; then those of later requests, 19, 20, 26, 28 and 31.
-#[derive(Drop)]
+#[derive(Clone, Copy)]
 pub enum Refusal {
     Truncated,
     OperationCount,
@@ -89,7 +89,7 @@ pub enum Refusal {
 }
 
 // What judging a sheet answers.
-#[derive(Drop)]
+#[derive(Clone, Copy)]
 pub enum Verdict {
     WellPosed,
     Serialized,
@@ -97,14 +97,14 @@ pub enum Verdict {
 }
 
 // What reading answers: all was read, and stands beside it; or the first fault.
-#[derive(Drop)]
+#[derive(Clone, Copy)]
 pub enum Reading {
     Whole,
     Refused(Refusal),
 }
 
 // The dispatcher's state (the runner's); last in it the least durations that the run was begun with (request L6).
-#[derive(Drop)]
+#[derive(Clone, Copy)]
 pub struct State {
     pub n: usize,
     pub unbounded: u64,
@@ -117,21 +117,21 @@ pub struct State {
 }
 
 // Whether a call went through.
-#[derive(Drop)]
+#[derive(Clone, Copy)]
 pub enum Status {
     Done,
     Refused(Refusal),
 }
 
 // How many numbers or bytes a call wrote (requests L14, L4), or its refusal.
-#[derive(Drop)]
+#[derive(Clone, Copy)]
 pub enum Tally {
     Count(usize),
     Refused(Refusal),
 }
 
 // The verdict, and the waits, bit a of map i, with their count: none on a refusal other than 12.
-#[derive(Drop)]
+#[derive(Clone, Copy)]
 pub struct WaitMaps {
     pub verdict: Verdict,
     pub maps: [u64; 64],
@@ -140,7 +140,7 @@ pub struct WaitMaps {
 
 // A call of the runner: a run of so many steps, with the map of those that are open, begins; the tick grows; a step finishes. An enum holds no array: the least durations that a run begins with
 // stand beside it.
-#[derive(Drop)]
+#[derive(Clone, Copy)]
 pub enum Call {
     Begin(usize, u64),
     Tick,
@@ -148,7 +148,7 @@ pub enum Call {
 }
 
 // What a call of the runner returns: the state after it and the map of the steps that it started.
-#[derive(Drop)]
+#[derive(Clone, Copy)]
 pub struct Dispatch {
     pub status: Status,
     pub state: State,

@@ -16,7 +16,7 @@ use definitions::{Refusal, Verdict};
 use order_forward::sort;
 
 // Whether the edges pass 8, the verdict, and the count of the waits: the rest of an analysis is lent.
-#[derive(Drop)]
+#[derive(Clone, Copy)]
 pub struct Found {
     pub sorted: bool,
     pub verdict: Verdict,

@@ -24,7 +24,7 @@ pub fn predecessors(es: &[u64], before: &mut [u64; 64], counted: &mut [u64; 64])
 }
 
 // The steps that are left, a map, and how many are in the order.
-#[derive(Drop)]
+#[derive(Clone, Copy)]
 struct Front {
     left: u64,
     placed: usize,

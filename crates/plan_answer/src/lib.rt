@@ -21,7 +21,7 @@ use plan_walks::tabulate;
 use read_sheet::Report;
 
 // What is asked of a sheet beside its verdict and its waits: nothing; its plan; its start times for a list of durations.
-#[derive(Drop)]
+#[derive(Clone, Copy)]
 pub enum Question {
     Judgement,
     Plan,

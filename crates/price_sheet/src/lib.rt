@@ -14,7 +14,7 @@ use plan_answer::{Question, answer};
 const LARGEST_PLAN: usize = 64 * 64;
 
 // What pricing returns beside the lists: the verdict, and both totals, 0 on a refusal.
-#[derive(Drop)]
+#[derive(Clone, Copy)]
 pub struct Totals {
     pub verdict: Verdict,
     pub registers: u32,
@@ -22,7 +22,7 @@ pub struct Totals {
 }
 
 // The same with N and the map of step 0 and the open steps, 0 on a refusal, for whoever prints a price.
-#[derive(Drop)]
+#[derive(Clone, Copy)]
 pub struct Quotation {
     pub verdict: Verdict,
     pub n: usize,

@@ -10,7 +10,7 @@ ghost use Rattle.read_fields.specs.Answers.{NumberReads, number_at, field_at, fi
 use definitions::Refusal;
 
 // A number at a place of the bytes, with the place after it; or the fault met there.
-#[derive(Drop)]
+#[derive(Clone, Copy)]
 pub enum NumberRead {
     Item(u16, usize),
     Refused(Refusal),

@@ -16,7 +16,7 @@ use read_fields::{NumberRead, has};
 use read_pair::{Fields, FieldsRead};
 
 // The place after a link record that was read, and the count of words after its edges; or the fault met there.
-#[derive(Drop)]
+#[derive(Clone, Copy)]
 pub enum LinkRead {
     Item(usize, usize),
     Refused(Refusal),

@@ -11,14 +11,14 @@ use definitions::Refusal;
 use read_fields::{field, field_end, has};
 
 // The map and the pair (i, j) of a link record; or the fault met there.
-#[derive(Drop)]
+#[derive(Clone, Copy)]
 pub enum PairRead {
     Pair(u8, u8, u8),
     Refused(Refusal),
 }
 
 // The ticks of the fields: at least, at most, the gap, at most from the finish. Those of a field that is not there are 0.
-#[derive(Drop)]
+#[derive(Clone, Copy)]
 pub struct Fields {
     pub least: u16,
     pub most: u16,
@@ -27,7 +27,7 @@ pub struct Fields {
 }
 
 // The fields at a place of the bytes, with the place after them; or the fault met there.
-#[derive(Drop)]
+#[derive(Clone, Copy)]
 pub enum FieldsRead {
     Item(Fields, usize),
     Refused(Refusal),

@@ -7,7 +7,7 @@ use read_links::LinkRead;
 use read_pair::PairRead;
 
 // Whether the records are the whole of the bytes; or the first fault. The first count words stand for the edges of their links, completed, and the first linked of these for those of the links that were sent: 0 and 0 beside a fault.
-#[derive(Drop)]
+#[derive(Clone, Copy)]
 pub struct LinksRead {
     pub reading: Reading,
     pub count: usize,

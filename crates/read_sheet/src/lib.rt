@@ -15,7 +15,7 @@ use read_records::LinksRead;
 use read_steps::Place;
 
 // Whether the bytes are a sheet, or the first fault. Beside a sheet: how many steps it has, the map of those that are open, other than 0, how many words stand for its edges, how many of these, in front, for the links that were sent, and how many link records it has. What stands beside a fault is not said.
-#[derive(Drop)]
+#[derive(Clone, Copy)]
 pub struct Report {
     pub reading: Reading,
     pub n: usize,
@@ -26,7 +26,7 @@ pub struct Report {
 }
 
 // N and R, and the place after them; or the first fault there, beside counts of 0.
-#[derive(Drop)]
+#[derive(Clone, Copy)]
 struct Head {
     reading: Reading,
     at: usize,

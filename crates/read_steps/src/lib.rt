@@ -14,21 +14,21 @@ use definitions::{Bound, Delay, Operation, Refusal};
 use read_fields::NumberRead;
 
 // What a step at a place of the bytes adds to the words of the after links that leave it, with the place after it; or the fault met there.
-#[derive(Drop)]
+#[derive(Clone, Copy)]
 enum StepRead {
     Item(u32, usize),
     Refused(Refusal),
 }
 
 // Where a row of records ends; or the first fault in it.
-#[derive(Drop)]
+#[derive(Clone, Copy)]
 pub enum Place {
     At(usize),
     Refused(Refusal),
 }
 
 // Where the step records end, or the first fault in them; and the map of the open steps other than 0. What the map is beside a fault is not said.
-#[derive(Drop)]
+#[derive(Clone, Copy)]
 pub struct Steps {
     pub place: Place,
     pub unbounded: u64,

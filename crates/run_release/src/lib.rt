@@ -14,7 +14,7 @@ fn power(k: usize) -> u64
 }
 
 // The steps that start now, and the start ticks with theirs in.
-#[derive(Drop)]
+#[derive(Clone, Copy)]
 struct Starting {
     map: u64,
     start: [u32; 64],

@@ -9,14 +9,14 @@ use read_fields::has;
 use read_pair::endpoints_allowed;
 
 // What the step records show: whether every map is allowed, and how many bytes they have.
-#[derive(Drop)]
+#[derive(Clone, Copy)]
 pub struct StepsFound {
     pub mapped: bool,
     pub size: usize,
 }
 
 // What the link records show: whether some map is not allowed (4), some limit from the finish stands without after (26), an end is no step or both are one (5); and how many bytes they have.
-#[derive(Drop)]
+#[derive(Clone, Copy)]
 pub struct LinksFound {
     pub unmapped: bool,
     pub unsequenced: bool,

@@ -8,47 +8,47 @@ use borrow.Author.Rules.{rules}
 use Rattle.c_clashes.proofs.standplan_clashes.Statement.{statement}
 use Rattle.c_clashes.proofs.standplan_clashes.Tie as tie
 
-clashes_requires : tie.Need-clashes-requires
-clashes_requires c κs = search rules
+clashes-tally-requires : tie.Need-clashes-tally-requires
+clashes-tally-requires c κs = search rules
 
-enum_known_tally : tie.Need-enum-known-tally
-enum_known_tally c = search rules
+enum_known-tally : tie.Need-enum_known-tally
+enum_known-tally c = search rules
 
-same_length : tie.Need-same-length
-same_length c = search rules
+shape_of-numbers-in-Count : tie.Need-shape_of-numbers-in-Count
+shape_of-numbers-in-Count c = search rules
+
+returns-in-Count : tie.Need-returns-in-Count
+returns-in-Count c =
+    let called = c.before.before.before.before.before in
+    let lent = called.before.before.before.before.args.count.now in
+    let answer = sym (ap tally_of c.before.tally-1.given.1) ∙ called.clashes-tally.ensures.tally-1 in
+    record { verdict = ap tally_code answer; numbers = called.clashes-tally.ensures.numbers-1; count = ap (λ (o : Outcome ℕ). count_left o lent) answer }
+
+enum_told-1 : tie.Need-enum_told-1
+enum_told-1 c = search rules
+
+tally_code-requires : tie.Need-tally_code-requires
+tally_code-requires c κs = search rules
+
+shape_of-numbers : tie.Need-shape_of-numbers
+shape_of-numbers c = search rules
 
 returns : tie.Need-returns
-returns c =
+returns-in-Count c =
     let called = c.before.before.before.before.before in
     let lent = called.before.before.before.before.args.count.now in
-    let answer = sym (ap tally_of c.before.tally.given.1) ∙ called.clashes.ensures.tally in
-    record { verdict = ap tally_code answer; numbers = called.clashes.ensures.numbers; count = ap (λ (o : Outcome ℕ). count_left o lent) answer }
-
-enum_told : tie.Need-enum-told
-enum_told c = search rules
-
-tally_code_requires : tie.Need-tally-code-requires
-tally_code_requires c κs = search rules
-
-same_length_2 : tie.Need-same-length-2
-same_length_2 c = search rules
-
-returns_2 : tie.Need-returns-2
-returns_2 c =
-    let called = c.before.before.before.before.before in
-    let lent = called.before.before.before.before.args.count.now in
-    let answer = sym (ap tally_of c.before.enum_told.given.1) ∙ called.clashes.ensures.tally in
-    record { verdict = c.tally_code.ensures ∙ ap tally_code called.clashes.ensures.tally; numbers = called.clashes.ensures.numbers; count = ap (λ (o : Outcome ℕ). count_left o lent) answer }
+    let answer = sym (ap tally_of c.before.enum_told-1.given.1) ∙ called.clashes-tally.ensures.tally-1 in
+    record { verdict = c.tally_code.ensures ∙ ap tally_code called.clashes-tally.ensures.tally-1; numbers = called.clashes-tally.ensures.numbers-1; count = ap (λ (o : Outcome ℕ). count_left o lent) answer }
 
 pub standplan_clashes_spec : {M : Type 1} → statement M
 standplan_clashes_spec =
     tie.close
     (tie.spec
-    clashes_requires
-    enum_known_tally
-    same_length
-    returns
-    enum_told
-    tally_code_requires
-    same_length_2
-    returns_2)
+    clashes-tally-requires
+    enum_known-tally
+    shape_of-numbers-in-Count
+    returns-in-Count
+    enum_told-1
+    tally_code-requires
+    shape_of-numbers
+    returns-in-Count)

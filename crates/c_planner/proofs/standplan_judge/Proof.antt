@@ -7,16 +7,16 @@ use Rattle.c_planner.proofs.Codes.{coded}
 use Rattle.c_planner.proofs.standplan_judge.Statement.{statement}
 use Rattle.c_planner.proofs.standplan_judge.Tie as tie
 
-judge_requires : tie.Need-judge-requires
-judge_requires c κs = search rules
+judge-requires : tie.Need-judge-requires
+judge-requires c κs = search rules
 
-verdict_code_requires : tie.Need-verdict-code-requires
-verdict_code_requires c κs = search rules
+verdict_code-requires : tie.Need-verdict_code-requires
+verdict_code-requires c κs = search rules
 
 returns : tie.Need-returns
 returns c =
     let s = c.before.before.before in
-    coded (λ (b : Bool). judged s.args.sheet.now b) s.args.allow c.before.judge.ensures.verdict refl c.verdict-code.ensures
+    coded (λ (b : Bool). judged s.args.sheet.now b) s.args.allow c.before.judge.ensures.verdict refl c.verdict_code.ensures
 
 pub standplan_judge_spec : {M : Type 1} → statement M
-standplan_judge_spec = tie.close (tie.spec judge_requires verdict_code_requires returns)
+standplan_judge_spec = tie.close (tie.spec judge-requires verdict_code-requires returns)

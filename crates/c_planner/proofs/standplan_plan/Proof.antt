@@ -7,20 +7,20 @@ use Rattle.c_planner.proofs.Codes.{written}
 use Rattle.c_planner.proofs.standplan_plan.Statement.{statement}
 use Rattle.c_planner.proofs.standplan_plan.Tie as tie
 
-plan_requires : tie.Need-plan-requires
-plan_requires c κs = search rules
+plan-requires : tie.Need-plan-requires
+plan-requires c κs = search rules
 
-verdict_code_requires : tie.Need-verdict-code-requires
-verdict_code_requires c κs = search rules
+verdict_code-requires : tie.Need-verdict_code-requires
+verdict_code-requires c κs = search rules
 
-same_length : tie.Need-same-length
-same_length c = search rules
+shape_of-table : tie.Need-shape_of-table
+shape_of-table c = search rules
 
 returns : tie.Need-returns
 returns c =
     let s = c.before.before.before.before.before.before.before in
     let r = c.before.before.before.plan.ensures in
-    written (λ (b : Bool). planned s.args.sheet.now b s.args.table.now) s.args.allow (r.verdict, r.numbers) refl c.verdict-code.ensures
+    written (λ (b : Bool). planned s.args.sheet.now b s.args.table-1.now) s.args.allow (r.verdict, r.numbers) refl c.verdict_code.ensures
 
 pub standplan_plan_spec : {M : Type 1} → statement M
-standplan_plan_spec = tie.close (tie.spec plan_requires verdict_code_requires same_length returns)
+standplan_plan_spec = tie.close (tie.spec plan-requires verdict_code-requires shape_of-table returns)

@@ -7,21 +7,21 @@ use Rattle.c_planner.proofs.Codes.{written}
 use Rattle.c_planner.proofs.standplan_starts.Statement.{statement}
 use Rattle.c_planner.proofs.standplan_starts.Tie as tie
 
-starts_requires : tie.Need-starts-requires
-starts_requires c κs = search rules
+starts-requires : tie.Need-starts-requires
+starts-requires c κs = search rules
 
-verdict_code_requires : tie.Need-verdict-code-requires
-verdict_code_requires c κs = search rules
+verdict_code-requires : tie.Need-verdict_code-requires
+verdict_code-requires c κs = search rules
 
-same_length : tie.Need-same-length
-same_length c = search rules
+shape_of-out : tie.Need-shape_of-out
+shape_of-out c = search rules
 
 returns : tie.Need-returns
 returns c =
     let s = c.before.before.before.before.before.before.before.before in
     let r = c.before.before.before.starts.ensures in
-    written (λ (b : Bool). starts_answer s.args.sheet.now b s.args.list.now s.args.out.now) s.args.allow (r.verdict, r.numbers) refl c.verdict-code.ensures
+    written (λ (b : Bool). starts_answer s.args.sheet.now b s.args.list.now s.args.out-1.now) s.args.allow (r.verdict, r.numbers) refl c.verdict_code.ensures
 
 pub standplan_starts_spec : {M : Type 1} → statement M
 standplan_starts_spec =
-    tie.close (tie.spec starts_requires verdict_code_requires same_length returns)
+    tie.close (tie.spec starts-requires verdict_code-requires shape_of-out returns)

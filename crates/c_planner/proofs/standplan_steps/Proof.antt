@@ -4,18 +4,18 @@ use Rattle.c_planner.proofs.Codes.{begins_into}
 use Rattle.c_planner.proofs.standplan_steps.Statement.{statement}
 use Rattle.c_planner.proofs.standplan_steps.Tie as tie
 
-steps_requires : tie.Need-steps-requires
-steps_requires c κs = search rules
+steps-requires : tie.Need-steps-requires
+steps-requires c κs = search rules
 
-status_code_requires : tie.Need-status-code-requires
-status_code_requires c κs = search rules
+status_code-requires : tie.Need-status_code-requires
+status_code-requires c κs = search rules
 
-same_length : tie.Need-same-length
-same_length c = search rules
+shape_of-leasts : tie.Need-shape_of-leasts
+shape_of-leasts c = search rules
 
 returns : tie.Need-returns
-returns c = begins_into c.before.before.before.steps.ensures c.status-code.ensures
+returns c = begins_into c.before.before.before.steps.ensures c.status_code.ensures
 
 pub standplan_steps_spec : {M : Type 1} → statement M
 standplan_steps_spec =
-    tie.close (tie.spec steps_requires status_code_requires same_length returns)
+    tie.close (tie.spec steps-requires status_code-requires shape_of-leasts returns)

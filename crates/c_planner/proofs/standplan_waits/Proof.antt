@@ -6,24 +6,24 @@ use Rattle.c_planner.proofs.standplan_waits.Statement.{statement}
 use Rattle.c_planner.proofs.standplan_waits.Tie as tie
 
 -- The maps and the count as they are lent, from where the number of the verdict is known.
-abbrev start : tie.After-verdict-code → tie.Start
+abbrev start : tie.After-verdict_code-code → tie.Start
 start p = p.before.before.before
 
-waits_requires : tie.Need-waits-requires
-waits_requires c κs = search rules
+waits-found-requires : tie.Need-waits-found-requires
+waits-found-requires c κs = search rules
 
-verdict_code_requires : tie.Need-verdict-code-requires
-verdict_code_requires c κs = search rules
+verdict_code-code-requires : tie.Need-verdict_code-code-requires
+verdict_code-code-requires c κs = search rules
+
+returns-then-code-ge-REFUSALS_PAST : tie.Need-returns-then-code-ge-REFUSALS_PAST
+returns-then-code-ge-REFUSALS_PAST c =
+    let p = c.before in
+    lists_as_lent (start p).args.maps.now (start p).args.count.now p.before.waits-found.ensures p.verdict_code-code.ensures (omega arith)
 
 returns : tie.Need-returns
-returns c =
-    let p = c.before in
-    lists_as_lent (start p).args.maps.now (start p).args.count.now p.before.waits.ensures p.verdict-code.ensures (omega arith)
-
-returns_2 : tie.Need-returns-2
-returns_2 c =
+returns-then-code-ge-REFUSALS_PAST c =
     let p = c.before.before in
-    lists_stored (start p).args.maps.now (start p).args.count.now p.before.waits.ensures p.verdict-code.ensures (omega arith)
+    lists_stored (start p).args.maps.now (start p).args.count.now p.before.waits-found.ensures p.verdict_code-code.ensures (omega arith)
 
 pub standplan_waits_spec : {M : Type 1} → statement M
-standplan_waits_spec = tie.close (tie.spec waits_requires verdict_code_requires returns returns_2)
+standplan_waits_spec = tie.close (tie.spec waits-found-requires verdict_code-code-requires returns-then-code-ge-REFUSALS_PAST returns-then-code-ge-REFUSALS_PAST)

@@ -4,46 +4,46 @@ use borrow.Author.Rules.{rules}
 use Rattle.c_runner.proofs.called.Statement.{statement}
 use Rattle.c_runner.proofs.called.Tie as tie
 
-enum_known_call : tie.Need-enum-known-call
-enum_known_call c = search rules
+enum_known-call : tie.Need-enum_known-call
+enum_known-call c = search rules
 
-begin_requires : tie.Need-begin-requires
-begin_requires c κs = search rules
+begin-requires : tie.Need-begin-requires
+begin-requires c κs = search rules
 
-enum_told : tie.Need-enum-told
-enum_told c = search rules
+enum_told-1 : tie.Need-enum_told-1
+enum_told-1 c = search rules
 
-tick_requires : tie.Need-tick-requires
-tick_requires c κs = search rules
+tick-requires : tie.Need-tick-requires
+tick-requires c κs = search rules
 
-enum_known_call_2 : tie.Need-enum-known-call-2
-enum_known_call_2 c = search rules
+enum_known-call-in-Finish-1 : tie.Need-enum_known-call-in-Finish-1
+enum_known-call-in-Finish-1 c = search rules
 
-finish_requires : tie.Need-finish-requires
-finish_requires c κs = search rules
+finish-requires : tie.Need-finish-requires
+finish-requires c κs = search rules
 
-returns : tie.Need-returns
+returns-in-Begin : tie.Need-returns-in-Begin
 unfolding called
-returns c = rw c.before.before.call.given.1 c.begin.ensures
+returns-in-Begin c = rw c.before.before.call-1.given.1 c.begin.ensures
 
-returns_2 : tie.Need-returns-2
+returns-in-Tick : tie.Need-returns-in-Tick
 unfolding called
-returns_2 c = rw c.before.enum_told.given.1 c.tick.ensures
+returns-in-Begin-in-Tick c = rw c.before.enum_told-1.given.1 c.tick.ensures
 
-returns_3 : tie.Need-returns-3
+returns-in-Finish : tie.Need-returns-in-Finish
 unfolding called
-returns_3 c = rw c.before.before.call2.given.1 c.finish.ensures
+returns-in-Begin-in-Finish c = rw c.before.before.call-in-Finish-1.given.1 c.finish.ensures
 
 pub called_spec : {M : Type 1} → statement M
 called_spec =
     tie.close
     (tie.spec
-    enum_known_call
-    begin_requires
-    enum_told
-    tick_requires
-    enum_known_call_2
-    finish_requires
-    returns
-    returns_2
-    returns_3)
+    enum_known-call
+    begin-requires
+    enum_told-1
+    tick-requires
+    enum_known-call-in-Finish-1
+    finish-requires
+    returns-in-Begin
+    returns-in-Begin-in-Tick
+    returns-in-Begin-in-Finish)

@@ -10,51 +10,51 @@ use Rattle.c_runner.proofs.perform.Statement.{statement}
 use Rattle.c_runner.proofs.perform.Tie as tie
 
 -- Places on the way: the start, the state read from the memory, the dispatcher's call made, its number known.
-abbrev held : tie.After-status-code → tie.After-state-in
+abbrev held : tie.After-status_code-code → tie.After-state_in-lent
 held p = p.before.before
 
-abbrev start : tie.After-status-code → tie.Start
+abbrev start : tie.After-status_code-code → tie.Start
 start p = (held p).before.before.before.before.before.before.before.before
 
 -- The memory as it is lent, and the call that is made on the state in it.
-abbrev lent : tie.After-status-code → Memory
+abbrev lent : tie.After-status_code-code → Memory
 lent p =
     let a = (start p).args in
     memory a.words.now a.tick.now a.start.now a.finish.now a.least.now a.map.now
 
-abbrev call_on : tie.After-status-code → State → Outcome Progress
+abbrev call_on : tie.After-status_code-code → State → Outcome Progress
 call_on p st = called st (start p).args.table.now (start p).args.leasts.now (start p).args.call
 
-state_in_requires : tie.Need-state-in-requires
-state_in_requires c κs = search rules
+state_in-lent-requires : tie.Need-state_in-lent-requires
+state_in-lent-requires c κs = search rules
 
-called_requires : tie.Need-called-requires
-called_requires c κs = search rules
+called-done-requires : tie.Need-called-done-requires
+called-done-requires c κs = search rules
 
-status_code_requires : tie.Need-status-code-requires
-status_code_requires c κs = search rules
+status_code-code-requires : tie.Need-status_code-code-requires
+status_code-code-requires c κs = search rules
 
-words_of_requires : tie.Need-words-of-requires
-words_of_requires c κs = search rules
+words_of-new_words-requires : tie.Need-words_of-new_words-requires
+words_of-new_words-requires c κs = search rules
+
+returns-then-code-gt0 : tie.Need-returns-then-code-gt0
+returns-then-code-gt0 c =
+    let p = c.before in
+    leaves_as_lent (call_on p) (lent p) p.status_code-code.ensures (held p).state_in-lent.ensures p.before.called-done.ensures (omega arith)
 
 returns : tie.Need-returns
-returns c =
-    let p = c.before in
-    leaves_as_lent (call_on p) (lent p) p.status-code.ensures (held p).state_in.ensures p.before.called.ensures (omega arith)
-
-returns_2 : tie.Need-returns-2
-returns_2 c =
+returns-then-code-gt0 c =
     let w = c.before.before.before in
     let p = w.before.before.before in
-    leaves_stored (call_on p) (lent p) p.status-code.ensures (held p).state_in.ensures p.before.called.ensures (omega arith) w.words_of.ensures
+    leaves_stored (call_on p) (lent p) p.status_code-code.ensures (held p).state_in-lent.ensures p.before.called-done.ensures (omega arith) w.words_of-new_words.ensures
 
 pub perform_spec : {M : Type 1} → statement M
 perform_spec =
     tie.close
     (tie.spec
-    state_in_requires
-    called_requires
-    status_code_requires
-    returns
-    words_of_requires
-    returns_2)
+    state_in-lent-requires
+    called-done-requires
+    status_code-code-requires
+    returns-then-code-gt0
+    words_of-new_words-requires
+    returns-then-code-gt0)

@@ -4,12 +4,12 @@ use borrow.Author.Rules.{rules}
 use Rattle.c_runner.proofs.standplan_begin.Statement.{statement}
 use Rattle.c_runner.proofs.standplan_begin.Tie as tie
 
-perform_requires : tie.Need-perform-requires
-perform_requires c κs = search rules
+perform-requires : tie.Need-perform-requires
+perform-requires c κs = search rules
 
 returns : tie.Need-returns
 unfolding called
 returns c = c.perform.ensures
 
 pub standplan_begin_spec : {M : Type 1} → statement M
-standplan_begin_spec = tie.close (tie.spec perform_requires returns)
+standplan_begin_spec = tie.close (tie.spec perform-requires returns)

@@ -7,12 +7,12 @@ use Rattle.c_runner.proofs.standplan_finish.Tie as tie
 slice_aggregate_perform : tie.Need-slice-aggregate-perform
 slice_aggregate_perform c = search rules
 
-perform_requires : tie.Need-perform-requires
-perform_requires c κs = search rules
+perform-requires : tie.Need-perform-requires
+perform-requires c κs = search rules
 
 returns : tie.Need-returns
 unfolding called
 returns c = c.perform.ensures
 
 pub standplan_finish_spec : {M : Type 1} → statement M
-standplan_finish_spec = tie.close (tie.spec slice_aggregate_perform perform_requires returns)
+standplan_finish_spec = tie.close (tie.spec slice_aggregate_perform perform-requires returns)

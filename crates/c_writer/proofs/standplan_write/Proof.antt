@@ -17,27 +17,27 @@ use Rattle.c_writer.proofs.standplan_write.Statement.{statement}
 use Rattle.c_writer.proofs.standplan_write.Tie as tie
 
 -- Places on the way. From where the sheet has been written: where the numbers of the records and of the steps are known, and the start.
-abbrev records_known : tie.After-write-given → tie.After-shared-slice-known2
+abbrev records_known : tie.After-write_given-tally → tie.After-shared_slice_known-2-1
 records_known w = w.before.before.before.before.before.before.before.before.before
 
-abbrev steps_known : tie.After-write-given → tie.After-shared-slice-known
+abbrev steps_known : tie.After-write_given-tally → tie.After-shared_slice_known-1
 steps_known w = (records_known w).before
 
-abbrev start : tie.After-write-given → tie.Start
+abbrev start : tie.After-write_given-tally → tie.Start
 start w = (steps_known w).before
 
 -- Every number that is lent is one of 16 bits, so what they stand for fits.
-parts_fit : (w : tie.After-write-given) →
+parts_fit : (w : tie.After-write_given-tally) →
     let s = start w in
     Numbers (parts s.args.n s.args.r (steps_in s.args.steps.now) (records_in s.args.records.now))
 parts_fit w =
     let s = start w in
-    numbers_fit s.args.n s.args.r s.args.steps.now s.args.records.now (λ i. omega (arith, (steps_known w).shared-slice-known.given i)) (λ i. omega (arith, (records_known w).shared-slice-known2.given i))
+    numbers_fit s.args.n s.args.r s.args.steps.now s.args.records.now (λ i. omega (arith, (steps_known w).shared_slice_known-1.given i)) (λ i. omega (arith, (records_known w).shared_slice_known-2-1.given i))
 
 -- What was returned is the answer for all parts that the numbers stand for.
-answered : (w : tie.After-write-given) →
+answered : (w : tie.After-write_given-tally) →
     let s = start w in
-    WriteReturned s.args.n s.args.r (steps_in s.args.steps.now) (records_in s.args.records.now) s.args.buffer.now w.write-given.result w.write-given.new.1.1.1.1.1.1.0
+    WriteReturned s.args.n s.args.r (steps_in s.args.steps.now) (records_in s.args.records.now) s.args.buffer-1.now w.write_given-tally.result w.write_given-tally.new.out
 answered w =
     let links = w.before.before in
     let steps = links.before in
@@ -45,65 +45,65 @@ answered w =
     let a = b.before.before in
     let s = start w in
     returned_all
-    {a = a.smaller2.result}
-    {b = b.smaller4.result}
-    w.write-given.ensures
-    steps.steps-from.ensures
-    links.records-from.ensures
-    (omega (arith, a.smaller2.ensures, a.before.smaller.ensures, steps_length s.args.steps.now))
-    (omega (arith, b.smaller4.ensures, b.before.smaller3.ensures, records_length s.args.records.now))
+    {a = a.smaller-a.result}
+    {b = b.smaller-b.result}
+    w.write_given-tally.ensures
+    steps.steps_from.ensures
+    links.records_from.ensures
+    (omega (arith, a.smaller-a.ensures, a.before.smaller.ensures, steps_length s.args.steps.now))
+    (omega (arith, b.smaller-b.ensures, b.before.smaller-2.ensures, records_length s.args.records.now))
 
-smaller_requires : tie.Need-smaller-requires
-smaller_requires c κs = search rules
+smaller-requires : tie.Need-smaller-requires
+smaller-requires c κs = search rules
 
-smaller_requires_2 : tie.Need-smaller-requires-2
-smaller_requires_2 c κs = search rules
+smaller-a-requires : tie.Need-smaller-a-requires
+smaller-a-requires c κs = search rules
 
-smaller_requires_3 : tie.Need-smaller-requires-3
-smaller_requires_3 c κs = search rules
+smaller-requires-2 : tie.Need-smaller-requires-2
+smaller-requires-2 c κs = search rules
 
-smaller_requires_4 : tie.Need-smaller-requires-4
-smaller_requires_4 c κs = search rules
+smaller-b-requires : tie.Need-smaller-b-requires
+smaller-b-requires c κs = search rules
 
-steps_from_requires : tie.Need-steps-from-requires
-steps_from_requires c κs = search rules
+steps_from-requires : tie.Need-steps_from-requires
+steps_from-requires c κs = search rules
 
-records_from_requires : tie.Need-records-from-requires
-records_from_requires c κs = search rules
+records_from-requires : tie.Need-records_from-requires
+records_from-requires c κs = search rules
 
-write_given_requires : tie.Need-write-given-requires
-write_given_requires c κs = search rules
+write_given-tally-requires : tie.Need-write_given-tally-requires
+write_given-tally-requires c κs = search rules
 
-enum_known_tally : tie.Need-enum-known-tally
-enum_known_tally c = search rules
+enum_known-tally : tie.Need-enum_known-tally
+enum_known-tally c = search rules
 
-same_length : tie.Need-same-length
-same_length c = search rules
+shape_of-buffer-in-Count : tie.Need-shape_of-buffer-in-Count
+shape_of-buffer-in-Count c = search rules
 
-returns : tie.Need-returns
-returns c =
+returns-in-Count : tie.Need-returns-in-Count
+returns-in-Count c =
     let w = c.before.before.before.before.before in
     let lent = (start w).args.length.now in
-    let answer = sym (ap tally_of c.before.tally.given.1) ∙ (answered w).verdict in
+    let answer = sym (ap tally_of c.before.tally-1.given.1) ∙ (answered w).verdict in
     record {
       counted = record { verdict = ap tally_code answer; numbers = (answered w).numbers; count = ap (λ (o : Outcome ℕ). count_left o lent) answer };
       numbers = parts_fit w;
     }
 
-enum_told : tie.Need-enum-told
-enum_told c = search rules
+enum_told-1 : tie.Need-enum_told-1
+enum_told-1 c = search rules
 
-tally_code_requires : tie.Need-tally-code-requires
-tally_code_requires c κs = search rules
+tally_code-requires : tie.Need-tally_code-requires
+tally_code-requires c κs = search rules
 
-same_length_2 : tie.Need-same-length-2
-same_length_2 c = search rules
+shape_of-buffer : tie.Need-shape_of-buffer
+shape_of-buffer c = search rules
 
-returns_2 : tie.Need-returns-2
-returns_2 c =
+returns : tie.Need-returns
+returns-in-Count c =
     let w = c.before.before.before.before.before in
     let lent = (start w).args.length.now in
-    let answer = sym (ap tally_of c.before.enum_told.given.1) ∙ (answered w).verdict in
+    let answer = sym (ap tally_of c.before.enum_told-1.given.1) ∙ (answered w).verdict in
     record {
       counted = record { verdict = c.tally_code.ensures ∙ ap tally_code (answered w).verdict; numbers = (answered w).numbers; count = ap (λ (o : Outcome ℕ). count_left o lent) answer };
       numbers = parts_fit w;
@@ -113,17 +113,17 @@ pub standplan_write_spec : {M : Type 1} → statement M
 standplan_write_spec =
     tie.close
     (tie.spec
-    smaller_requires
-    smaller_requires_2
-    smaller_requires_3
-    smaller_requires_4
-    steps_from_requires
-    records_from_requires
-    write_given_requires
-    enum_known_tally
-    same_length
-    returns
-    enum_told
-    tally_code_requires
-    same_length_2
-    returns_2)
+    smaller-requires
+    smaller-a-requires
+    smaller-requires-2
+    smaller-b-requires
+    steps_from-requires
+    records_from-requires
+    write_given-tally-requires
+    enum_known-tally
+    shape_of-buffer-in-Count
+    returns-in-Count
+    enum_told-1
+    tally_code-requires
+    shape_of-buffer
+    returns-in-Count)

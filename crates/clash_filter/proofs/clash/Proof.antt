@@ -5,23 +5,23 @@ use Rattle.clash_filter.proofs.Working.{workable}
 use Rattle.clash_filter.proofs.clash.Statement.{statement}
 use Rattle.clash_filter.proofs.clash.Tie as tie
 
-slice_aggregate_put : tie.Need-slice-aggregate-put
-slice_aggregate_put c = search rules
+slice_bounds-put-end : tie.Need-slice_bounds-put-end
+slice_bounds-put-end c = search rules
 
-put_requires : tie.Need-put-requires
-put_requires c κs = search rules
+put-requires : tie.Need-put-requires
+put-requires c κs = search rules
 
-slice_aggregate_filter : tie.Need-slice-aggregate-filter
-slice_aggregate_filter c = search rules
+slice_bounds-filter-end : tie.Need-slice_bounds-filter-end
+slice_bounds-filter-end c = search rules
 
-slice_aggregate_filter_2 : tie.Need-slice-aggregate-filter-2
-slice_aggregate_filter_2 c = search rules
+slice_bounds-filter-end-2 : tie.Need-slice_bounds-filter-end-2
+slice_bounds-filter-end-2 c = search rules
 
-slice_aggregate_filter_3 : tie.Need-slice-aggregate-filter-3
-slice_aggregate_filter_3 c = search rules
+slice_bounds-filter-end-3 : tie.Need-slice_bounds-filter-end-3
+slice_bounds-filter-end-3 c = search rules
 
-filter_requires : tie.Need-filter-requires
-filter_requires c κs =
+filter-requires : tie.Need-filter-requires
+filter-requires c κs =
     let p = c.before.before.before.before.before in
     (search rules, workable _ _ _ _ _ p.put.ensures (search rules) refl refl refl)
 
@@ -32,10 +32,10 @@ pub clash_spec : {M : Type 1} → statement M
 clash_spec =
     tie.close
     (tie.spec
-    slice_aggregate_put
-    put_requires
-    slice_aggregate_filter
-    slice_aggregate_filter_2
-    slice_aggregate_filter_3
-    filter_requires
+    slice_bounds-put-end
+    put-requires
+    slice_bounds-filter-end
+    slice_bounds-filter-end-2
+    slice_bounds-filter-end-3
+    filter-requires
     returns)

@@ -11,25 +11,25 @@ use Rattle.clash_filter.proofs.Working.{Working, working_begins, own, working_en
 use Rattle.clash_filter.proofs.filter.Statement.{statement}
 use Rattle.clash_filter.proofs.filter.Tie as tie
 
-abbrev invariant-loop : tie.invariant-loop
-invariant-loop es records n part₀ kept₀ lists₀ numbers₀ front₀ back₀ at₀ k₀ part kept lists numbers front back at k =
+abbrev invariant-loop-k : tie.invariant-loop-k
+invariant-loop-k es records n part₀ kept₀ lists₀ numbers₀ front₀ back₀ at₀ k₀ part kept lists numbers front back at k =
     Working n records es part kept lists numbers front back at k
 
-abbrev decreases-loop : tie.decreases-loop
-decreases-loop es records n part₀ kept₀ lists₀ numbers₀ front₀ back₀ at₀ k₀ part kept lists numbers front back at k =
+abbrev decreases-loop-k : tie.decreases-loop-k
+decreases-loop-k es records n part₀ kept₀ lists₀ numbers₀ front₀ back₀ at₀ k₀ part kept lists numbers front back at k =
     k
 
 -- Places: the turn's beginning, where the record's words begin, and the part judged; the start.
 abbrev Turn : Type 0
-Turn = tie.At-loop invariant-loop decreases-loop
+Turn = tie.At-loop-k invariant-loop-k decreases-loop-k
 
 abbrev Found : Type 0
-Found = tie.After-record-start invariant-loop decreases-loop
+Found = tie.After-record_start-first invariant-loop-k decreases-loop-k
 
 abbrev Judged : Type 0
-Judged = tie.After-impossible-with invariant-loop decreases-loop
+Judged = tie.After-impossible_with invariant-loop-k decreases-loop-k
 
-abbrev start : Turn → tie.Start invariant-loop decreases-loop
+abbrev start : Turn → tie.Start invariant-loop-k decreases-loop-k
 start l = l.before.before.before.before.before
 
 abbrev turn : Found → Turn
@@ -38,10 +38,10 @@ turn s = s.before.before
 abbrev found : Judged → Found
 found s = s.before.before.before.before.before
 
-abbrev judged : tie.After-slice-known5 invariant-loop decreases-loop → Judged
+abbrev judged : tie.After-slice_known-in-loop-k-2-1 invariant-loop-k decreases-loop-k → Judged
 judged s = s.before.before.before.before
 
-abbrev needed : tie.After-put invariant-loop decreases-loop → tie.Then1 invariant-loop decreases-loop
+abbrev needed : tie.After-put invariant-loop-k decreases-loop-k → tie.Then-not-impossible_with invariant-loop-k decreases-loop-k
 needed s = s.before.before.before
 
 -- What holds in a turn of the sheet that there is.
@@ -49,140 +49,140 @@ abbrev Held : Found → Type 0
 Held s =
     let l = turn s in
     let a = start l in
-    Filtering a.pre.0.sheet a.args.es.now l.loop.part l.loop.kept l.loop.numbers l.loop.front l.loop.back l.loop.at (suc (l.loop.k - 1))
+    Filtering a.pre.0.sheet a.args.es.now l.loop-k.part-1 l.loop-k.kept-1 l.loop-k.numbers l.loop-k.front l.loop-k.back l.loop-k.at (suc (l.loop-k.k - 1))
 
 held : (s : Found) → Held s
-held s = let l = turn s in own _ _ _ _ (start l).pre.0 _ _ _ _ _ _ _ _ l.loop.inv s.before.loop-test.taken
+held s = let l = turn s in own _ _ _ _ (start l).pre.0 _ _ _ _ _ _ _ _ l.loop-k.inv s.before.loop-k-test.taken
 
-loop_holds : tie.Need-loop-init invariant-loop decreases-loop
-loop_holds c = let a = c.before.before.before.before in working_begins _ _ _ _ _ _ _ a.requires.0 a.requires.1
+loop-k-init : tie.Need-loop-k-init invariant-loop-k decreases-loop-k
+loop-k-init c = let a = c.before.before.before.before in working_begins _ _ _ _ _ _ _ a.requires.0 a.requires.1
 
-sub_k : tie.Need-overflow-sub-k invariant-loop decreases-loop
-sub_k c = search rules
+overflow_sub-k : tie.Need-overflow_sub-k invariant-loop-k decreases-loop-k
+overflow_sub-k c = search rules
 
-record_start_requires : tie.Need-record-start-requires invariant-loop decreases-loop
-record_start_requires c κs =
+record_start-first-requires : tie.Need-record_start-first-requires invariant-loop-k decreases-loop-k
+record_start-first-requires c κs =
     let l = c.before in
-    working_ends _ _ _ _ (start l).requires.0 _ _ _ _ _ _ _ _ l.loop.invariant c.loop-test.true
+    working_ends _ _ _ _ (start l).requires.0 _ _ _ _ _ _ _ _ l.loop-k.invariant c.loop-k-test.true
 
-mul_impossible_with : tie.Need-overflow-mul-impossible-with invariant-loop decreases-loop
-mul_impossible_with c = let so = held c.before in omega arith
+offset_bounds-kept-back : tie.Need-offset_bounds-kept-back invariant-loop-k decreases-loop-k
+offset_bounds-kept-back c = let so = held c.before in omega arith
 
-sub_impossible_with : tie.Need-overflow-sub-impossible-with invariant-loop decreases-loop
-sub_impossible_with c = let so = held c.before in omega arith
+slice_bounds-impossible_with-count : tie.Need-slice_bounds-impossible_with-count invariant-loop-k decreases-loop-k
+slice_bounds-impossible_with-count c = let so = held c.before in omega arith
 
-part_impossible_with_start : tie.Need-slice-bounds-impossible-with-start invariant-loop decreases-loop
-part_impossible_with_start c = let so = held c.before.before in omega arith
+slice_bounds-impossible_with-start : tie.Need-slice_bounds-impossible_with-start invariant-loop-k decreases-loop-k
+slice_bounds-impossible_with-start c = let so = held c.before.before in omega arith
 
-part_impossible_with_end : tie.Need-slice-bounds-impossible-with-end invariant-loop decreases-loop
-part_impossible_with_end c = search rules
+slice_bounds-impossible_with-end : tie.Need-slice_bounds-impossible_with-end invariant-loop-k decreases-loop-k
+slice_bounds-impossible_with-end c = search rules
 
-impossible_with_requires : tie.Need-impossible-with-requires invariant-loop decreases-loop
-impossible_with_requires c κs =
+impossible_with-requires : tie.Need-impossible_with-requires invariant-loop-k decreases-loop-k
+impossible_with-requires c κs =
     let s = c.before.before.before.before in
     let l = turn s in
-    working_triable _ _ _ _ (start l).pre.0 _ _ _ _ _ _ _ _ l.loop.inv s.before.loop-test.true _ s.record-start.ensures _ (part_rest l.loop.kept l.loop.back)
+    working_triable _ _ _ _ (start l).pre.0 _ _ _ _ _ _ _ _ l.loop-k.inv s.before.loop-k-test.true _ s.record_start-first.ensures _ (part_rest l.loop-k.kept-1 l.loop-k.back)
 
-sub_back : tie.Need-overflow-sub-back invariant-loop decreases-loop
-sub_back c = let s = found (judged c.before) in omega (arith, s.record-start.ensures.below)
+overflow_sub-back : tie.Need-overflow_sub-back invariant-loop-k decreases-loop-k
+overflow_sub-back c = let s = found (judged c.before) in omega (arith, s.record_start-first.ensures.below)
 
-sub_back_2 : tie.Need-overflow-sub-back-2 invariant-loop decreases-loop
-sub_back_2 c = let s = found (judged c.before) in omega (arith, (held s).room)
+overflow_sub-back-then-not-impossible_with : tie.Need-overflow_sub-back-then-not-impossible_with invariant-loop-k decreases-loop-k
+overflow_sub-back-then-not-impossible_with c = let s = found (judged c.before) in omega (arith, (held s).room)
 
-mul_put : tie.Need-overflow-mul-put invariant-loop decreases-loop
-mul_put c = let s = found (judged c.before.before) in omega (arith, s.record-start.ensures.below, (held s).within)
+offset_bounds-es-first : tie.Need-offset_bounds-es-first invariant-loop-k decreases-loop-k
+offset_bounds-es-first c = let s = found (judged c.before.before) in omega (arith, s.record_start-first.ensures.below, (held s).within)
 
-sub_put : tie.Need-overflow-sub-put invariant-loop decreases-loop
-sub_put c = let s = found (judged c.before.before) in omega (arith, s.record-start.ensures.below)
+slice_bounds-put-count : tie.Need-slice_bounds-put-count invariant-loop-k decreases-loop-k
+slice_bounds-put-count c = let s = found (judged c.before.before) in omega (arith, s.record_start-first.ensures.below)
 
-part_put_start : tie.Need-slice-bounds-put-start invariant-loop decreases-loop
-part_put_start c = let s = found (judged c.before.before) in omega (arith, s.record-start.ensures.below)
+slice_bounds-put-start : tie.Need-slice_bounds-put-start invariant-loop-k decreases-loop-k
+slice_bounds-put-start c = let s = found (judged c.before.before) in omega (arith, s.record_start-first.ensures.below)
 
-part_put_end : tie.Need-slice-bounds-put-end invariant-loop decreases-loop
-part_put_end c = let s = found (judged c.before.before) in omega (arith, (held s).within)
+slice_bounds-put-end : tie.Need-slice_bounds-put-end invariant-loop-k decreases-loop-k
+slice_bounds-put-end c = let s = found (judged c.before.before) in omega (arith, (held s).within)
 
-put_requires : tie.Need-put-requires invariant-loop decreases-loop
-put_requires c κs =
+put-requires : tie.Need-put-requires invariant-loop-k decreases-loop-k
+put-requires c κs =
     let s = found (judged c.before.before.before) in
     let l = turn s in
-    working_room _ _ _ _ (start l).pre.0 _ _ _ _ _ _ _ _ l.loop.inv s.before.loop-test.taken _ s.record-start.ensures
+    working_room _ _ _ _ (start l).pre.0 _ _ _ _ _ _ _ _ l.loop-k.inv s.before.loop-k-test.taken _ s.record_start-first.ensures
 
-sub_at : tie.Need-overflow-sub-at invariant-loop decreases-loop
-sub_at c = let s = found (judged (needed c.before.before).before) in omega (arith, (held s).places)
+overflow_sub-at : tie.Need-overflow_sub-at invariant-loop-k decreases-loop-k
+overflow_sub-at c = let s = found (judged (needed c.before.before).before) in omega (arith, (held s).places)
 
-cast_numbers : tie.Need-overflow-cast-numbers invariant-loop decreases-loop
-cast_numbers c = let s = found (judged (needed c.before.before).before) in omega (arith, (held s).places, (held s).at_within, (turn s).loop.inv.long)
+overflow_cast-numbers : tie.Need-overflow_cast-numbers invariant-loop-k decreases-loop-k
+overflow_cast-numbers c = let s = found (judged (needed c.before.before).before) in omega (arith, (held s).places, (held s).at_within, (turn s).loop-k.inv.long)
 
-mul_numbers : tie.Need-overflow-mul-numbers invariant-loop decreases-loop
-mul_numbers c = let s = found (judged (needed c.before.before).before) in omega (arith, (held s).places, (held s).at_within, (turn s).loop.inv.long)
+offset_bounds-numbers-at : tie.Need-offset_bounds-numbers-at invariant-loop-k decreases-loop-k
+offset_bounds-numbers-at c = let s = found (judged (needed c.before.before).before) in omega (arith, (held s).places, (held s).at_within, (turn s).loop-k.inv.long)
 
-element_write_numbers : tie.Need-element-write-numbers invariant-loop decreases-loop
-element_write_numbers c = let s = found (judged (needed c.before.before).before) in omega (arith, (held s).places, (held s).at_within, (turn s).loop.inv.long)
+bounds-numbers-at : tie.Need-bounds-numbers-at invariant-loop-k decreases-loop-k
+bounds-numbers-at c = let s = found (judged (needed c.before.before).before) in omega (arith, (held s).places, (held s).at_within, (turn s).loop-k.inv.long)
 
-loop_less : tie.Need-loop-smaller invariant-loop decreases-loop
-loop_less c = search rules
+loop-k-smaller-then-not-impossible_with : tie.Need-loop-k-smaller-then-not-impossible_with invariant-loop-k decreases-loop-k
+loop-k-smaller-then-not-impossible_with c = search rules
 
-loop_again : tie.Need-loop-preserved invariant-loop decreases-loop
-loop_again c =
+loop-k-preserved-then-not-impossible_with : tie.Need-loop-k-preserved-then-not-impossible_with invariant-loop-k decreases-loop-k
+loop-k-preserved-then-not-impossible_with c =
     let p = c.before.before in
     let t = needed p in
     let j = judged t.before in
     let s = found j in
     let l = turn s in
-    working_kept _ _ _ _ (start l).pre.0 _ _ _ _ _ _ _ _ l.loop.inv s.before.loop-test.taken _ s.record-start.ensures _ (part_rest l.loop.kept l.loop.back) _ _ _ j.impossible-with.ensures (search rules) (search rules) _ p.put.ensures (not-true _ t.if1.taken)
+    working_kept _ _ _ _ (start l).pre.0 _ _ _ _ _ _ _ _ l.loop-k.inv s.before.loop-k-test.taken _ s.record_start-first.ensures _ (part_rest l.loop-k.kept-1 l.loop-k.back) _ _ _ j.impossible_with.ensures (search rules) (search rules) _ p.put.ensures (not-true _ t.if-not-impossible_with.taken)
 
-loop_less_2 : tie.Need-loop-smaller-2 invariant-loop decreases-loop
-loop_less_2 c = search rules
+loop-k-smaller : tie.Need-loop-k-smaller invariant-loop-k decreases-loop-k
+loop-k-smaller c = search rules
 
-loop_again_2 : tie.Need-loop-preserved-2 invariant-loop decreases-loop
-loop_again_2 c =
+loop-k-preserved : tie.Need-loop-k-preserved invariant-loop-k decreases-loop-k
+loop-k-preserved c =
     let j = judged c.before in
     let s = found j in
     let l = turn s in
-    working_dropped _ _ _ _ (start l).pre.0 _ _ _ _ _ _ _ _ l.loop.inv s.before.loop-test.taken _ s.record-start.ensures _ (part_rest l.loop.kept l.loop.back) _ _ _ j.impossible-with.ensures (search rules) (search rules) (not-false _ c.if1.false)
+    working_dropped _ _ _ _ (start l).pre.0 _ _ _ _ _ _ _ _ l.loop-k.inv s.before.loop-k-test.taken _ s.record_start-first.ensures _ (part_rest l.loop-k.kept-1 l.loop-k.back) _ _ _ j.impossible_with.ensures (search rules) (search rules) (not-false _ c.if-not-impossible_with.false)
 
-same_length : tie.Need-same-length invariant-loop decreases-loop
-same_length c = let l = c.before in l.loop.invariant.part_long ∙ sym (start l).requires.1.part_long
+shape_of-part : tie.Need-shape_of-part invariant-loop-k decreases-loop-k
+shape_of-part c = let l = c.before in l.loop-k.invariant.part_long ∙ sym (start l).requires.1.part_long
 
-same_length_2 : tie.Need-same-length-2 invariant-loop decreases-loop
-same_length_2 c = let l = c.before in l.loop.invariant.kept_long ∙ sym (start l).requires.1.kept_long
+shape_of-kept : tie.Need-shape_of-kept invariant-loop-k decreases-loop-k
+shape_of-kept c = let l = c.before in l.loop-k.invariant.kept_long ∙ sym (start l).requires.1.kept_long
 
-same_length_3 : tie.Need-same-length-3 invariant-loop decreases-loop
-same_length_3 c = let l = c.before in l.loop.invariant.lists_long ∙ sym (start l).requires.1.lists_long
+shape_of-lists : tie.Need-shape_of-lists invariant-loop-k decreases-loop-k
+shape_of-lists c = let l = c.before in l.loop-k.invariant.lists_long ∙ sym (start l).requires.1.lists_long
 
-returns : tie.Need-returns invariant-loop decreases-loop
-returns c = let l = c.before in working_done _ _ _ _ _ _ _ _ _ _ _ (omega arith) l.loop.invariant
+returns : tie.Need-returns invariant-loop-k decreases-loop-k
+returns c = let l = c.before in working_done _ _ _ _ _ _ _ _ _ _ _ (omega arith) l.loop-k.invariant
 
 pub filter_spec : {M : Type 1} → statement M
 filter_spec =
     tie.close
     (tie.spec
-    invariant-loop
-    decreases-loop
-    loop_holds
-    sub_k
-    record_start_requires
-    mul_impossible_with
-    sub_impossible_with
-    part_impossible_with_start
-    part_impossible_with_end
-    impossible_with_requires
-    sub_back
-    sub_back_2
-    mul_put
-    sub_put
-    part_put_start
-    part_put_end
-    put_requires
-    sub_at
-    cast_numbers
-    mul_numbers
-    element_write_numbers
-    loop_less
-    loop_again
-    loop_less_2
-    loop_again_2
-    same_length
-    same_length_2
-    same_length_3
+    invariant-loop-k
+    decreases-loop-k
+    loop-k-init
+    overflow_sub-k
+    record_start-first-requires
+    offset_bounds-kept-back
+    slice_bounds-impossible_with-count
+    slice_bounds-impossible_with-start
+    slice_bounds-impossible_with-end
+    impossible_with-requires
+    overflow_sub-back
+    overflow_sub-back-then-not-impossible_with
+    offset_bounds-es-first
+    slice_bounds-put-count
+    slice_bounds-put-start
+    slice_bounds-put-end
+    put-requires
+    overflow_sub-at
+    overflow_cast-numbers
+    offset_bounds-numbers-at
+    bounds-numbers-at
+    loop-k-smaller-then-not-impossible_with
+    loop-k-preserved-then-not-impossible_with
+    loop-k-smaller
+    loop-k-preserved
+    shape_of-part
+    shape_of-kept
+    shape_of-lists
     returns)

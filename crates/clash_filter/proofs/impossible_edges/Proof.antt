@@ -5,7 +5,7 @@ use Rattle.clash_filter.proofs.impossible_edges.Statement.{statement}
 use Rattle.clash_filter.proofs.impossible_edges.Tie as tie
 
 -- Places: the lists made empty, and made, each from where they are handed on; the start.
-abbrev cleared : tie.After-list-arg → tie.After-clear
+abbrev cleared : tie.After-list-arg-1 → tie.After-clear
 cleared s = s.before.before.before
 
 abbrev listed : tie.After-is-impossible-arg → tie.After-list
@@ -14,24 +14,24 @@ listed s = s.before.before.before
 abbrev start : tie.After-clear → tie.Start
 start s = s.before.before.before.before
 
-clear_requires : tie.Need-clear-requires
-clear_requires c κs = search rules
+clear-requires : tie.Need-clear-requires
+clear-requires c κs = search rules
 
-list_requires : tie.Need-list-requires
-list_requires c κs =
+list-requires : tie.Need-list-requires
+list-requires c κs =
     let s = cleared c in
     sheet_unlisted _ _ _ (start s).pre _ (search rules) s.clear.ensures
 
-is_impossible_requires : tie.Need-is-impossible-requires
-is_impossible_requires c κs =
+is_impossible-requires : tie.Need-is_impossible-requires
+is_impossible-requires c κs =
     let s = listed c in
     sheet_listed _ _ _ (start (cleared s.before)).requires _ s.list.ensures
 
-same_length : tie.Need-same-length
-same_length c = search rules
+shape_of-lists : tie.Need-shape_of-lists
+shape_of-lists c = search rules
 
 returns : tie.Need-returns
 returns c q C = sheet_judged q _ _ C _ c.is_impossible.ensures
 
 pub impossible_edges_spec : {M : Type 1} → statement M
-impossible_edges_spec = tie.close (tie.spec clear_requires list_requires is_impossible_requires same_length returns)
+impossible_edges_spec = tie.close (tie.spec clear-requires list-requires is_impossible-requires shape_of-lists returns)

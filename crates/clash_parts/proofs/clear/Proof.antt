@@ -6,49 +6,49 @@ use Rattle.clash_parts.proofs.Clearing.{Clearing, clearing_none, clearing_more}
 use Rattle.clash_parts.proofs.clear.Statement.{statement}
 use Rattle.clash_parts.proofs.clear.Tie as tie
 
-abbrev invariant-loop : tie.invariant-loop
-invariant-loop lists₀ u₀ lists u = Clearing lists₀ lists u
+abbrev invariant-loop-u : tie.invariant-loop-u
+invariant-loop-u lists₀ u₀ lists u = Clearing lists₀ lists u
 
-abbrev decreases-loop : tie.decreases-loop
-decreases-loop lists₀ u₀ lists u = 64 - u
+abbrev decreases-loop-u : tie.decreases-loop-u
+decreases-loop-u lists₀ u₀ lists u = 64 - u
 
-loop_holds : tie.Need-loop-init invariant-loop decreases-loop
-loop_holds c = clearing_none _
+loop-u-init : tie.Need-loop-u-init invariant-loop-u decreases-loop-u
+loop-u-init c = clearing_none _
 
-mul_lists : tie.Need-overflow-mul-lists invariant-loop decreases-loop
-mul_lists c = search rules
+offset_bounds-lists-u : tie.Need-offset_bounds-lists-u invariant-loop-u decreases-loop-u
+offset_bounds-lists-u c = search rules
 
-slice_write_lists : tie.Need-slice-write-lists invariant-loop decreases-loop
-slice_write_lists c = search rules
+bounds-lists-u : tie.Need-bounds-lists-u invariant-loop-u decreases-loop-u
+bounds-lists-u c = search rules
 
-add_u : tie.Need-overflow-add-u invariant-loop decreases-loop
-add_u c = search rules
+overflow_add-u : tie.Need-overflow_add-u invariant-loop-u decreases-loop-u
+overflow_add-u c = search rules
 
-loop_less : tie.Need-loop-smaller invariant-loop decreases-loop
-loop_less c = search rules
+loop-u-smaller : tie.Need-loop-u-smaller invariant-loop-u decreases-loop-u
+loop-u-smaller c = search rules
 
-loop_again : tie.Need-loop-preserved invariant-loop decreases-loop
-loop_again c =
+loop-u-preserved : tie.Need-loop-u-preserved invariant-loop-u decreases-loop-u
+loop-u-preserved c =
     let l = c.before in
-    clearing_more _ _ _ l.before.requires (omega arith) l.loop.invariant
+    clearing_more _ _ _ l.before.requires (omega arith) l.loop-u.invariant
 
-same_length : tie.Need-same-length invariant-loop decreases-loop
-same_length c = search rules
+shape_of-lists : tie.Need-shape_of-lists invariant-loop-u decreases-loop-u
+shape_of-lists c = search rules
 
-returns : tie.Need-returns invariant-loop decreases-loop
-returns c u b = c.before.loop.invariant.each u (omega arith)
+returns : tie.Need-returns invariant-loop-u decreases-loop-u
+returns c u b = c.before.loop-u.invariant.each u (omega arith)
 
 pub clear_spec : {M : Type 1} → statement M
 clear_spec =
     tie.close
     (tie.spec
-    invariant-loop
-    decreases-loop
-    loop_holds
-    mul_lists
-    slice_write_lists
-    add_u
-    loop_less
-    loop_again
-    same_length
+    invariant-loop-u
+    decreases-loop-u
+    loop-u-init
+    offset_bounds-lists-u
+    bounds-lists-u
+    overflow_add-u
+    loop-u-smaller
+    loop-u-preserved
+    shape_of-lists
     returns)

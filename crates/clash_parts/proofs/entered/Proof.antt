@@ -7,59 +7,59 @@ use Rattle.clash_parts.proofs.Entering.{Entering, entering_none, entering_more, 
 use Rattle.clash_parts.proofs.entered.Statement.{statement}
 use Rattle.clash_parts.proofs.entered.Tie as tie
 
-abbrev invariant-loop : tie.invariant-loop
-invariant-loop es m₀ i₀ m i = Entering es m i
+abbrev invariant-loop-i : tie.invariant-loop-i
+invariant-loop-i es m₀ i₀ m i = Entering es m i
 
-abbrev decreases-loop : tie.decreases-loop
-decreases-loop es m₀ i₀ m i = length es - i
+abbrev decreases-loop-i : tie.decreases-loop-i
+decreases-loop-i es m₀ i₀ m i = length es - i
 
-loop_holds : tie.Need-loop-init invariant-loop decreases-loop
-loop_holds c = entering_none _
+loop-i-init : tie.Need-loop-i-init invariant-loop-i decreases-loop-i
+loop-i-init c = entering_none _
 
-mul_w : tie.Need-overflow-mul-w invariant-loop decreases-loop
-mul_w c = search rules
+offset_bounds-es-i : tie.Need-offset_bounds-es-i invariant-loop-i decreases-loop-i
+offset_bounds-es-i c = search rules
 
-shared_slice_read_w : tie.Need-shared-slice-read-w invariant-loop decreases-loop
-shared_slice_read_w c = search rules
+bounds-es-i : tie.Need-bounds-es-i invariant-loop-i decreases-loop-i
+bounds-es-i c = search rules
 
-edge_to_requires : tie.Need-edge-to-requires invariant-loop decreases-loop
-edge_to_requires c κs = search rules
+edge_to-requires : tie.Need-edge_to-requires invariant-loop-i decreases-loop-i
+edge_to-requires c κs = search rules
 
-is_back_requires : tie.Need-is-back-requires invariant-loop decreases-loop
-is_back_requires c κs = search rules
+is_back-requires : tie.Need-is_back-requires invariant-loop-i decreases-loop-i
+is_back-requires c κs = search rules
 
-insert_if_requires : tie.Need-insert-if-requires invariant-loop decreases-loop
-insert_if_requires c κs = search rules
+insert_if-m-requires : tie.Need-insert_if-m-requires invariant-loop-i decreases-loop-i
+insert_if-m-requires c κs = search rules
 
-add_i : tie.Need-overflow-add-i invariant-loop decreases-loop
-add_i c = search rules
+overflow_add-i : tie.Need-overflow_add-i invariant-loop-i decreases-loop-i
+overflow_add-i c = search rules
 
-loop_less : tie.Need-loop-smaller invariant-loop decreases-loop
-loop_less c = search rules
+loop-i-smaller : tie.Need-loop-i-smaller invariant-loop-i decreases-loop-i
+loop-i-smaller c = search rules
 
-loop_again : tie.Need-loop-preserved invariant-loop decreases-loop
-loop_again c =
+loop-i-preserved : tie.Need-loop-i-preserved invariant-loop-i decreases-loop-i
+loop-i-preserved c =
     let b = c.before in
     let t = b.before in
     let l = t.before.before.before in
-    entering_more _ _ l.loop.i l.loop.invariant _ _ _ (omega arith) t.edge_to.ensures.0 b.is-back.ensures c.insert-if.ensures
+    entering_more _ _ l.loop-i.i l.loop-i.invariant _ _ _ (omega arith) t.edge_to.ensures.0 b.is_back.ensures c.insert_if-m.ensures
 
-returns : tie.Need-returns invariant-loop decreases-loop
-returns c = entering_all _ _ _ c.before.loop.invariant (omega arith)
+returns : tie.Need-returns invariant-loop-i decreases-loop-i
+returns c = entering_all _ _ _ c.before.loop-i.invariant (omega arith)
 
 pub entered_spec : {M : Type 1} → statement M
 entered_spec =
     tie.close
     (tie.spec
-    invariant-loop
-    decreases-loop
-    loop_holds
-    mul_w
-    shared_slice_read_w
-    edge_to_requires
-    is_back_requires
-    insert_if_requires
-    add_i
-    loop_less
-    loop_again
+    invariant-loop-i
+    decreases-loop-i
+    loop-i-init
+    offset_bounds-es-i
+    bounds-es-i
+    edge_to-requires
+    is_back-requires
+    insert_if-m-requires
+    overflow_add-i
+    loop-i-smaller
+    loop-i-preserved
     returns)

@@ -7,61 +7,61 @@ use Rattle.clash_parts.proofs.Putting.{Putting, putting_none, putting_more, putt
 use Rattle.clash_parts.proofs.put.Statement.{statement}
 use Rattle.clash_parts.proofs.put.Tie as tie
 
-abbrev invariant-loop : tie.invariant-loop
-invariant-loop words₀ at these i₀ words i = Putting words₀ at these words i
+abbrev invariant-loop-i : tie.invariant-loop-i
+invariant-loop-i words₀ at these i₀ words i = Putting words₀ at these words i
 
-abbrev decreases-loop : tie.decreases-loop
-decreases-loop words₀ at these i₀ words i = length these - i
+abbrev decreases-loop-i : tie.decreases-loop-i
+decreases-loop-i words₀ at these i₀ words i = length these - i
 
-loop_holds : tie.Need-loop-init invariant-loop decreases-loop
-loop_holds c = putting_none _ _ _
+loop-i-init : tie.Need-loop-i-init invariant-loop-i decreases-loop-i
+loop-i-init c = putting_none _ _ _
 
-mul_words : tie.Need-overflow-mul-words invariant-loop decreases-loop
-mul_words c = search rules
+offset_bounds-these-i : tie.Need-offset_bounds-these-i invariant-loop-i decreases-loop-i
+offset_bounds-these-i c = search rules
 
-shared_slice_read_words : tie.Need-shared-slice-read-words invariant-loop decreases-loop
-shared_slice_read_words c = search rules
+bounds-these-i : tie.Need-bounds-these-i invariant-loop-i decreases-loop-i
+bounds-these-i c = search rules
 
-add_words : tie.Need-overflow-add-words invariant-loop decreases-loop
-add_words c = search rules
+overflow_add-words : tie.Need-overflow_add-words invariant-loop-i decreases-loop-i
+overflow_add-words c = search rules
 
-mul_words_2 : tie.Need-overflow-mul-words-2 invariant-loop decreases-loop
-mul_words_2 c = search rules
+offset_bounds-words-at : tie.Need-offset_bounds-words-at invariant-loop-i decreases-loop-i
+offset_bounds-words-at c = search rules
 
-slice_write_words : tie.Need-slice-write-words invariant-loop decreases-loop
-slice_write_words c = let l = c.before.before in omega (arith, l.loop.invariant.long, l.before.requires.room)
+bounds-words-at : tie.Need-bounds-words-at invariant-loop-i decreases-loop-i
+bounds-words-at c = let l = c.before.before in omega (arith, l.loop-i.invariant.long, l.before.requires.room)
 
-add_i : tie.Need-overflow-add-i invariant-loop decreases-loop
-add_i c = search rules
+overflow_add-i : tie.Need-overflow_add-i invariant-loop-i decreases-loop-i
+overflow_add-i c = search rules
 
-loop_less : tie.Need-loop-smaller invariant-loop decreases-loop
-loop_less c = search rules
+loop-i-smaller : tie.Need-loop-i-smaller invariant-loop-i decreases-loop-i
+loop-i-smaller c = search rules
 
-loop_again : tie.Need-loop-preserved invariant-loop decreases-loop
-loop_again c =
+loop-i-preserved : tie.Need-loop-i-preserved invariant-loop-i decreases-loop-i
+loop-i-preserved c =
     let l = c.before.before in
-    putting_more _ _ _ _ l.loop.i l.loop.invariant l.before.requires (omega arith)
+    putting_more _ _ _ _ l.loop-i.i l.loop-i.invariant l.before.requires (omega arith)
 
-same_length : tie.Need-same-length invariant-loop decreases-loop
-same_length c = c.before.loop.invariant.long
+shape_of-words : tie.Need-shape_of-words invariant-loop-i decreases-loop-i
+shape_of-words c = c.before.loop-i.invariant.long
 
-returns : tie.Need-returns invariant-loop decreases-loop
-returns c = putting_all _ _ _ _ _ c.before.loop.invariant (omega arith)
+returns : tie.Need-returns invariant-loop-i decreases-loop-i
+returns c = putting_all _ _ _ _ _ c.before.loop-i.invariant (omega arith)
 
 pub put_spec : {M : Type 1} → statement M
 put_spec =
     tie.close
     (tie.spec
-    invariant-loop
-    decreases-loop
-    loop_holds
-    mul_words
-    shared_slice_read_words
-    add_words
-    mul_words_2
-    slice_write_words
-    add_i
-    loop_less
-    loop_again
-    same_length
+    invariant-loop-i
+    decreases-loop-i
+    loop-i-init
+    offset_bounds-these-i
+    bounds-these-i
+    overflow_add-words
+    offset_bounds-words-at
+    bounds-words-at
+    overflow_add-i
+    loop-i-smaller
+    loop-i-preserved
+    shape_of-words
     returns)

@@ -5,82 +5,82 @@ use Rattle.clash_parts.proofs.Starts.{Going, going_last, going_more, going_stops
 use Rattle.clash_parts.proofs.record_start.Statement.{statement}
 use Rattle.clash_parts.proofs.record_start.Tie as tie
 
-abbrev invariant-loop : tie.invariant-loop
-invariant-loop es end first₀ pair first = Going es end pair first
+abbrev invariant-loop-first : tie.invariant-loop-first
+invariant-loop-first es end first₀ pair first = Going es end pair first
 
-abbrev decreases-loop : tie.decreases-loop
-decreases-loop es end first₀ pair first = first
+abbrev decreases-loop-first : tie.decreases-loop-first
+decreases-loop-first es end first₀ pair first = first
 
 -- Places: the start, from where the pair is known; and the turn, from its test.
-abbrev start : tie.After-pair-of invariant-loop decreases-loop → tie.Start invariant-loop decreases-loop
+abbrev start : tie.After-pair_of-pair invariant-loop-first decreases-loop-first → tie.Start invariant-loop-first decreases-loop-first
 start s = s.before.before.before
 
-abbrev turn : tie.Then1 invariant-loop decreases-loop → tie.At-loop invariant-loop decreases-loop
+abbrev turn : tie.Then-pair_of-pair invariant-loop-first decreases-loop-first → tie.At-loop-first invariant-loop-first decreases-loop-first
 turn s = s.before.before.before.before
 
-sub_first : tie.Need-overflow-sub-first invariant-loop decreases-loop
-sub_first c = search rules
+overflow_sub-first : tie.Need-overflow_sub-first invariant-loop-first decreases-loop-first
+overflow_sub-first c = search rules
 
-mul_pair_of : tie.Need-overflow-mul-pair-of invariant-loop decreases-loop
-mul_pair_of c = search rules
+offset_bounds-es-first : tie.Need-offset_bounds-es-first invariant-loop-first decreases-loop-first
+offset_bounds-es-first c = search rules
 
-shared_slice_read_pair_of : tie.Need-shared-slice-read-pair-of invariant-loop decreases-loop
-shared_slice_read_pair_of c = search rules
+bounds-es-first : tie.Need-bounds-es-first invariant-loop-first decreases-loop-first
+bounds-es-first c = search rules
 
-pair_of_requires : tie.Need-pair-of-requires invariant-loop decreases-loop
-pair_of_requires c κs = search rules
+pair_of-pair-requires : tie.Need-pair_of-pair-requires invariant-loop-first decreases-loop-first
+pair_of-pair-requires c κs = search rules
 
-loop_holds : tie.Need-loop-init invariant-loop decreases-loop
-loop_holds c = going_last _ _ _ (start c).requires.some c.pair_of.ensures
+loop-first-init : tie.Need-loop-first-init invariant-loop-first decreases-loop-first
+loop-first-init c = going_last _ _ _ (start c).requires.some c.pair_of-pair.ensures
 
-sub_pair_of : tie.Need-overflow-sub-pair-of invariant-loop decreases-loop
-sub_pair_of c = search rules
+overflow_sub-first-in-loop-first : tie.Need-overflow_sub-first-in-loop-first invariant-loop-first decreases-loop-first
+overflow_sub-first-in-loop-first c = search rules
 
-mul_pair_of_2 : tie.Need-overflow-mul-pair-of-2 invariant-loop decreases-loop
-mul_pair_of_2 c = search rules
+offset_bounds-es-first-in-loop-first : tie.Need-offset_bounds-es-first-in-loop-first invariant-loop-first decreases-loop-first
+offset_bounds-es-first-in-loop-first c = search rules
 
-shared_slice_read_pair_of_2 : tie.Need-shared-slice-read-pair-of-2 invariant-loop decreases-loop
-shared_slice_read_pair_of_2 c = search rules
+bounds-es-first-in-loop-first : tie.Need-bounds-es-first-in-loop-first invariant-loop-first decreases-loop-first
+bounds-es-first-in-loop-first c = search rules
 
-pair_of_requires_2 : tie.Need-pair-of-requires-2 invariant-loop decreases-loop
-pair_of_requires_2 c κs = search rules
+pair_of-requires : tie.Need-pair_of-requires invariant-loop-first decreases-loop-first
+pair_of-requires c κs = search rules
 
-returns : tie.Need-returns invariant-loop decreases-loop
-returns c =
+returns-then-pair_of-pair : tie.Need-returns-then-pair_of-pair invariant-loop-first decreases-loop-first
+returns-then-pair_of-pair c =
     let l = turn c in
-    going_stops _ _ _ _ l.loop.inv (omega arith) _ c.before.pair-of2.ensures c.if1.true
+    going_stops _ _ _ _ l.loop-first.inv (omega arith) _ c.before.pair_of.ensures c.if-pair_of-pair.true
 
-sub_first_2 : tie.Need-overflow-sub-first-2 invariant-loop decreases-loop
-sub_first_2 c = search rules
+overflow_sub-first-in-loop-first-2 : tie.Need-overflow_sub-first-in-loop-first-2 invariant-loop-first decreases-loop-first
+overflow_sub-first-in-loop-first-2 c = search rules
 
-loop_less : tie.Need-loop-smaller invariant-loop decreases-loop
-loop_less c = search rules
+loop-first-smaller : tie.Need-loop-first-smaller invariant-loop-first decreases-loop-first
+loop-first-smaller c = search rules
 
-loop_again : tie.Need-loop-preserved invariant-loop decreases-loop
-loop_again c =
+loop-first-preserved : tie.Need-loop-first-preserved invariant-loop-first decreases-loop-first
+loop-first-preserved c =
     let l = c.before.before.before.before in
-    going_more _ _ _ _ l.loop.invariant (omega arith) _ c.before.pair-of2.ensures c.if1.false
+    going_more _ _ _ _ l.loop-first.invariant (omega arith) _ c.before.pair_of.ensures c.if-pair_of-pair.false
 
-returns_2 : tie.Need-returns-2 invariant-loop decreases-loop
-returns_2 c = going_ends _ _ _ _ c.before.loop.invariant (omega arith)
+returns : tie.Need-returns invariant-loop-first decreases-loop-first
+returns-then-pair_of-pair c = going_ends _ _ _ _ c.before.loop-first.invariant (omega arith)
 
 pub record_start_spec : {M : Type 1} → statement M
 record_start_spec =
     tie.close
     (tie.spec
-    invariant-loop
-    decreases-loop
-    sub_first
-    mul_pair_of
-    shared_slice_read_pair_of
-    pair_of_requires
-    loop_holds
-    sub_pair_of
-    mul_pair_of_2
-    shared_slice_read_pair_of_2
-    pair_of_requires_2
-    returns
-    sub_first_2
-    loop_less
-    loop_again
-    returns_2)
+    invariant-loop-first
+    decreases-loop-first
+    overflow_sub-first
+    offset_bounds-es-first
+    bounds-es-first
+    pair_of-pair-requires
+    loop-first-init
+    overflow_sub-first-in-loop-first
+    offset_bounds-es-first-in-loop-first
+    bounds-es-first-in-loop-first
+    pair_of-requires
+    returns-then-pair_of-pair
+    overflow_sub-first-in-loop-first-2
+    loop-first-smaller
+    loop-first-preserved
+    returns-then-pair_of-pair)

@@ -8,60 +8,60 @@ use Rattle.clash_sheet.proofs.clashes.Statement.{statement}
 use Rattle.clash_sheet.proofs.clashes.Tie as tie
 
 -- Places on the way: the start, from where the bytes have been read; and that, from where the sheet is found whole.
-abbrev start : tie.After-read → tie.Start
+abbrev start : tie.After-read-report → tie.Start
 start r = r.before.before.before.before.before
 
-abbrev reported : tie.After-enum-told → tie.After-read
+abbrev reported : tie.In_default → tie.After-read-report
 reported s = s.before.before.before
 
 -- What was read: the sheet, held in the words. Bytes are below 256.
-read_whole : (s : tie.After-enum-told) → let r = reported s in Whole (start r).args.s.now r.read.last.1.0 r.read.last.1.1.0 r.read.result
+read_whole : (s : tie.In_default) → let r = reported s in Whole (start r).args.s.now r.read-report.last.1.0 r.read-report.last.1.1.0 r.read-report.result
 read_whole s =
     let r = reported s in
-    whole (start r).args.s.now _ _ _ (λ i. (r.before.before.before.before.shared-slice-known.given i).fits) r.read.ensures s.enum_told.given.1
+    whole (start r).args.s.now _ _ _ (λ i. (r.before.before.before.before.shared_slice_known-1.given i).fits) r.read-report.ensures s.enum_told-1.given.1
 
-slice_aggregate_read : tie.Need-slice-aggregate-read
-slice_aggregate_read c = search rules
+slice_bounds-read-end : tie.Need-slice_bounds-read-end
+slice_bounds-read-end c = search rules
 
-read_requires : tie.Need-read-requires
-read_requires c κs = record { room = room_any _; blank = search rules }
+read-report-requires : tie.Need-read-report-requires
+read-report-requires c κs = record { room = room_any _; blank = search rules }
 
-enum_known_reading : tie.Need-enum-known-reading
-enum_known_reading c = search rules
+enum_known-reading : tie.Need-enum_known-reading
+enum_known-reading c = search rules
+
+returns-in-Refused : tie.Need-returns-in-Refused
+returns-in-Refused c =
+    let r = c.before.before.before.before in
+    few_unread (start r).args.s.now (start r).args.list-1.now _ (report_refused _ _ _ _ _ r.read-report.ensures c.before.reading-1.given.1)
+
+enum_told-1 : tie.Need-enum_told-1
+enum_told-1 c = search rules
+
+slice_bounds-clashes_of-end : tie.Need-slice_bounds-clashes_of-end
+slice_bounds-clashes_of-end c = search rules
+
+clashes_of-requires : tie.Need-clashes_of-requires
+clashes_of-requires c κs = whole_held (read_whole c.before.before)
+
+shape_of-list : tie.Need-shape_of-list
+shape_of-list c = search rules
 
 returns : tie.Need-returns
-returns c =
-    let r = c.before.before.before.before in
-    few_unread (start r).args.s.now (start r).args.list.now _ (report_refused _ _ _ _ _ r.read.ensures c.before.reading.given.1)
-
-enum_told : tie.Need-enum-told
-enum_told c = search rules
-
-slice_aggregate_clashes_of : tie.Need-slice-aggregate-clashes-of
-slice_aggregate_clashes_of c = search rules
-
-clashes_of_requires : tie.Need-clashes-of-requires
-clashes_of_requires c κs = whole_held (read_whole c.before.before)
-
-same_length : tie.Need-same-length
-same_length c = search rules
-
-returns_2 : tie.Need-returns-2
-returns_2 c =
+returns-in-Refused c =
     let called = c.before.before in
     let w = read_whole called.before.before.before in
-    few_whole w _ (called.clashes-of.ensures w.found.whole (whole_holding w))
+    few_whole w _ (called.clashes_of.ensures w.found.whole (whole_holding w))
 
 pub clashes_spec : {M : Type 1} → statement M
 clashes_spec =
     tie.close
     (tie.spec
-    slice_aggregate_read
-    read_requires
-    enum_known_reading
-    returns
-    enum_told
-    slice_aggregate_clashes_of
-    clashes_of_requires
-    same_length
-    returns_2)
+    slice_bounds-read-end
+    read-report-requires
+    enum_known-reading
+    returns-in-Refused
+    enum_told-1
+    slice_bounds-clashes_of-end
+    clashes_of-requires
+    shape_of-list
+    returns-in-Refused)

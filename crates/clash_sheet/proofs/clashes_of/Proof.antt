@@ -14,67 +14,67 @@ use Rattle.clash_sheet.proofs.clashes_of.Statement.{statement}
 use Rattle.clash_sheet.proofs.clashes_of.Tie as tie
 
 -- Places: the words judged, from where it is known whether they are refused, and from where they are; whether by 8 is asked then.
-abbrev passed : tie.After-enum-told → tie.After-judge
+abbrev passed : tie.In-Done → tie.After-judge
 passed s = s.before.before
 
-abbrev stopped : tie.After-k → tie.After-judge
+abbrev stopped : tie.In-Refused-2 → tie.After-judge
 stopped s = s.before.before
 
 -- The status, as a refusal is told.
-told : (s : tie.After-k) (q : Records) → (let a = (stopped s).before.before.before.before.args in Holding q a.words.now a.count a.linked a.records a.n) → status_of (Statuses.Refused s.k.given.0.0) tt ≡ judge_possible (count_of q) (edges_of q)
-told s q H = ap (λ (st : Status). status_of st tt) (sym s.k.given.1) ∙ (stopped s).judge.ensures q H.completed
+told : (s : tie.In-Refused-2) (q : Records) → (let a = (stopped s).before.before.before.before.args in Holding q a.words.now a.count a.linked a.records a.n) → status_of (Statuses.Refused s.k-1.given.0.0) tt ≡ judge_possible (count_of q) (edges_of q)
+told s q H = ap (λ (st : Status). status_of st tt) (sym s.k-1.given.1) ∙ (stopped s).judge.ensures q H.completed
 
-slice_aggregate_judge : tie.Need-slice-aggregate-judge
-slice_aggregate_judge c = sym (length-take-le _ _ c.before.before.before.requires.within)
+slice_bounds-judge-end : tie.Need-slice_bounds-judge-end
+slice_bounds-judge-end c = sym (length-take-le _ _ c.before.before.before.requires.within)
 
-judge_requires : tie.Need-judge-requires
-judge_requires c κs = held_edges c.before.before.before.requires
+judge-requires : tie.Need-judge-requires
+judge-requires c κs = held_edges c.before.before.before.requires
 
-enum_told : tie.Need-enum-told
-enum_told c = search rules
+enum_told-1 : tie.Need-enum_told-1
+enum_told-1 c = search rules
 
-enum_known_k : tie.Need-enum-known-k
-enum_known_k c = search rules
+enum_known-k : tie.Need-enum_known-k
+enum_known-k c = search rules
 
-is_circle_requires : tie.Need-is-circle-requires
-is_circle_requires c κs = search rules
+is_circle-requires : tie.Need-is_circle-requires
+is_circle-requires c κs = search rules
 
-returns : tie.Need-returns
-returns c q H =
+returns-then-is_circle : tie.Need-returns-then-is_circle
+returns-then-is_circle c q H =
     let s = c.before.before.before in
-    answered_circle q _ s.k.given.0.0 (told s q H) (sym c.before.is-circle.ensures ∙ c.if1.true)
+    answered_circle q _ s.k-1.given.0.0 (told s q H) (sym c.before.is_circle.ensures ∙ c.if-is_circle.true)
 
-slice_aggregate_report : tie.Need-slice-aggregate-report
-slice_aggregate_report c = sym (length-take-le _ _ c.before.before.before.before.before.before.before.before.before.before.requires.linked_within)
+slice_bounds-report-end : tie.Need-slice_bounds-report-end
+slice_bounds-report-end c = sym (length-take-le _ _ c.before.before.before.before.before.before.before.before.before.before.requires.linked_within)
 
-report_requires : tie.Need-report-requires
-report_requires c κs = held_records c.before.before.before.before.before.before.before.before.before.before.before.requires
+report-requires : tie.Need-report-requires
+report-requires c κs = held_records c.before.before.before.before.before.before.before.before.before.before.before.requires
 
-returns_2 : tie.Need-returns-2
-returns_2 c q H = answered_done q _ (ap (λ (st : Status). status_of st tt) (sym c.enum_told.given.1) ∙ (passed c).judge.ensures q H.completed)
+returns-in-Done : tie.Need-returns-in-Done
+returns-then-is_circle-in-Done c q H = answered_done q _ (ap (λ (st : Status). status_of st tt) (sym c.enum_told-1.given.1) ∙ (passed c).judge.ensures q H.completed)
 
-same_length : tie.Need-same-length
-same_length c = search rules
+shape_of-list : tie.Need-shape_of-list
+shape_of-list c = search rules
 
-returns_3 : tie.Need-returns-3
-returns_3 c q H =
+returns-else-is_circle : tie.Need-returns-else-is_circle
+returns-then-is_circle-else-is_circle c q H =
     let called = c.before.before in
     let other = called.before.before.before in
     let s = other.before.before.before in
-    answered_report q _ s.k.given.0.0 (told s q H) (sym other.before.is-circle.ensures ∙ other.if1.false) (called.report.ensures q H.recorded)
+    answered_report q _ s.k-1.given.0.0 (told s q H) (sym other.before.is_circle.ensures ∙ other.if-is_circle.false) (called.report.ensures q H.recorded)
 
 pub clashes_of_spec : {M : Type 1} → statement M
 clashes_of_spec =
     tie.close
     (tie.spec
-    slice_aggregate_judge
-    judge_requires
-    enum_told
-    enum_known_k
-    is_circle_requires
-    returns
-    slice_aggregate_report
-    report_requires
-    returns_2
-    same_length
-    returns_3)
+    slice_bounds-judge-end
+    judge-requires
+    enum_told-1
+    enum_known-k
+    is_circle-requires
+    returns-then-is_circle
+    slice_bounds-report-end
+    report-requires
+    returns-then-is_circle-in-Done
+    shape_of-list
+    returns-then-is_circle-else-is_circle)

@@ -9,60 +9,60 @@ use borrow.Author.Rules.{rules}
 use Rattle.clash_sheet.proofs.copy.Statement.{statement}
 use Rattle.clash_sheet.proofs.copy.Tie as tie
 
-abbrev invariant-loop : tie.invariant-loop
-invariant-loop numbers list₀ i₀ list i = (i ≤ length numbers) × (length list ≡ length list₀) × (list ≡ laid (λ k. get_or numbers k 0) i list₀)
+abbrev invariant-loop-i : tie.invariant-loop-i
+invariant-loop-i numbers list₀ i₀ list i = (i ≤ length numbers) × (length list ≡ length list₀) × (list ≡ laid (λ k. get_or numbers k 0) i list₀)
 
-abbrev decreases-loop : tie.decreases-loop
-decreases-loop numbers list₀ i₀ list i = length numbers - i
+abbrev decreases-loop-i : tie.decreases-loop-i
+decreases-loop-i numbers list₀ i₀ list i = length numbers - i
 
-loop_holds : tie.Need-loop-init invariant-loop decreases-loop
-loop_holds c = (omega arith, refl, laid_none _ _)
+loop-i-init : tie.Need-loop-i-init invariant-loop-i decreases-loop-i
+loop-i-init c = (omega arith, refl, laid_none _ _)
 
-mul_list : tie.Need-overflow-mul-list invariant-loop decreases-loop
-mul_list c = search rules
+offset_bounds-numbers-i : tie.Need-offset_bounds-numbers-i invariant-loop-i decreases-loop-i
+offset_bounds-numbers-i c = search rules
 
-shared_slice_read_list : tie.Need-shared-slice-read-list invariant-loop decreases-loop
-shared_slice_read_list c = search rules
+bounds-numbers-i : tie.Need-bounds-numbers-i invariant-loop-i decreases-loop-i
+bounds-numbers-i c = search rules
 
-mul_list_2 : tie.Need-overflow-mul-list-2 invariant-loop decreases-loop
-mul_list_2 c = search rules
+offset_bounds-list-i : tie.Need-offset_bounds-list-i invariant-loop-i decreases-loop-i
+offset_bounds-list-i c = search rules
 
-slice_write_list : tie.Need-slice-write-list invariant-loop decreases-loop
-slice_write_list c = search rules
+bounds-list-i : tie.Need-bounds-list-i invariant-loop-i decreases-loop-i
+bounds-list-i c = search rules
 
-add_i : tie.Need-overflow-add-i invariant-loop decreases-loop
-add_i c = search rules
+overflow_add-i : tie.Need-overflow_add-i invariant-loop-i decreases-loop-i
+overflow_add-i c = search rules
 
-loop_less : tie.Need-loop-smaller invariant-loop decreases-loop
-loop_less c = search rules
+loop-i-smaller : tie.Need-loop-i-smaller invariant-loop-i decreases-loop-i
+loop-i-smaller c = search rules
 
-loop_again : tie.Need-loop-preserved invariant-loop decreases-loop
-loop_again c =
+loop-i-preserved : tie.Need-loop-i-preserved invariant-loop-i decreases-loop-i
+loop-i-preserved c =
     let s = c.before.before in
-    (omega arith, simp length-set s.loop.invariant.1, laid_more _ _ _ _ _ 0 (omega arith) s.loop.invariant.2 refl)
+    (omega arith, simp length-set s.loop-i.invariant.1, laid_more _ _ _ _ _ 0 (omega arith) s.loop-i.invariant.2 refl)
 
-same_length : tie.Need-same-length invariant-loop decreases-loop
-same_length c = search rules
+shape_of-list : tie.Need-shape_of-list invariant-loop-i decreases-loop-i
+shape_of-list c = search rules
 
-returns : tie.Need-returns invariant-loop decreases-loop
+returns : tie.Need-returns invariant-loop-i decreases-loop-i
 returns c =
     let numbers = c.before.before.args.numbers.now in
-    let all : c.before.loop.i ≡ length numbers = omega arith in
-    rw all at c.before.loop.invariant.2 ∙ ap (λ (l : List ℕ). l ++ drop (length numbers) c.before.before.args.list.now) (tabulate_list numbers (λ k. get_or numbers k 0) (length numbers) 0 refl (λ i b. refl))
+    let all : c.before.loop-i.i ≡ length numbers = omega arith in
+    rw all at c.before.loop-i.invariant.2 ∙ ap (λ (l : List ℕ). l ++ drop (length numbers) c.before.before.args.list.now) (tabulate_list numbers (λ k. get_or numbers k 0) (length numbers) 0 refl (λ i b. refl))
 
 pub copy_spec : {M : Type 1} → statement M
 copy_spec =
     tie.close
     (tie.spec
-    invariant-loop
-    decreases-loop
-    loop_holds
-    mul_list
-    shared_slice_read_list
-    mul_list_2
-    slice_write_list
-    add_i
-    loop_less
-    loop_again
-    same_length
+    invariant-loop-i
+    decreases-loop-i
+    loop-i-init
+    offset_bounds-numbers-i
+    bounds-numbers-i
+    offset_bounds-list-i
+    bounds-list-i
+    overflow_add-i
+    loop-i-smaller
+    loop-i-preserved
+    shape_of-list
     returns)

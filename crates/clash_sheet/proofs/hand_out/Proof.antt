@@ -21,31 +21,31 @@ long : (report list : List ℕ) → length report ≤ length list → handed rep
 unfolding too_short
 long report list h = passes_by 14 _ (le-ltb (length list) (length report) h)
 
-returns : tie.Need-returns
+returns-then-list-count : tie.Need-returns-then-list-count
 unfolding written
-returns c =
+returns-then-list-count c =
     let s = c.before.before.before in
     let numbers = s.args.numbers.now in
-    let list = s.args.list.now in
-    let e = short numbers list c.if1.true in
+    let list = s.args.list-1.now in
+    let e = short numbers list c.if-list-count.true in
     record { tally = sym e; numbers = ap (λ (o : Outcome ℕ). written o numbers list) (sym e) }
 
-copy_requires : tie.Need-copy-requires
-copy_requires c κs = search rules
+copy-requires : tie.Need-copy-requires
+copy-requires c κs = search rules
 
-same_length : tie.Need-same-length
-same_length c = search rules
+shape_of-list : tie.Need-shape_of-list
+shape_of-list c = search rules
 
-returns_2 : tie.Need-returns-2
+returns : tie.Need-returns
 unfolding written
-returns_2 c =
+returns-then-list-count c =
     let called = c.before.before in
     let longer = called.before.before in
     let s = longer.before.before.before in
     let numbers = s.args.numbers.now in
-    let list = s.args.list.now in
-    let e = long numbers list longer.if1.false in
+    let list = s.args.list-1.now in
+    let e = long numbers list longer.if-list-count.false in
     record { tally = sym e; numbers = called.copy.ensures ∙ ap (λ (o : Outcome ℕ). written o numbers list) (sym e) }
 
 pub hand_out_spec : {M : Type 1} → statement M
-hand_out_spec = tie.close (tie.spec returns copy_requires same_length returns_2)
+hand_out_spec = tie.close (tie.spec returns-then-list-count copy-requires shape_of-list returns-then-list-count)

@@ -10,19 +10,19 @@ use Rattle.clash_sheet.proofs.Laws.{judgeable}
 use Rattle.clash_sheet.proofs.judge.Statement.{statement}
 use Rattle.clash_sheet.proofs.judge.Tie as tie
 
-slice_aggregate_list : tie.Need-slice-aggregate-list
-slice_aggregate_list c = search rules
+slice_bounds-list-end : tie.Need-slice_bounds-list-end
+slice_bounds-list-end c = search rules
 
-list_requires : tie.Need-list-requires
-list_requires c κs =
+list-requires : tie.Need-list-requires
+list-requires c κs =
     let p = c.before.before.requires in
     sheet_unlisted _ _ _ (judgeable p) _ (simp length-replicate (omega arith)) (zeros_empty most_listed (omega arith))
 
-slice_aggregate_judge_possible : tie.Need-slice-aggregate-judge-possible
-slice_aggregate_judge_possible c = search rules
+slice_bounds-judge_possible-end : tie.Need-slice_bounds-judge_possible-end
+slice_bounds-judge_possible-end c = search rules
 
-judge_possible_requires : tie.Need-judge-possible-requires
-judge_possible_requires c κs = search rules
+judge_possible-requires : tie.Need-judge_possible-requires
+judge_possible-requires c κs = search rules
 
 returns : tie.Need-returns
 returns c q C = c.judge_possible.ensures (words_shape q _ _ C) (words_entered q _ _ C) ∙ rw (C.steps, C.same)
@@ -31,8 +31,8 @@ pub judge_spec : {M : Type 1} → statement M
 judge_spec =
     tie.close
     (tie.spec
-    slice_aggregate_list
-    list_requires
-    slice_aggregate_judge_possible
-    judge_possible_requires
+    slice_bounds-list-end
+    list-requires
+    slice_bounds-judge_possible-end
+    judge_possible-requires
     returns)

@@ -13,56 +13,56 @@ use Rattle.clash_sheet.proofs.report.Statement.{statement}
 use Rattle.clash_sheet.proofs.report.Tie as tie
 
 -- The start, from where the report is there.
-abbrev start : tie.After-clash → tie.Start
+abbrev start : tie.After-clash-at → tie.Start
 start c = c.before.before.before.before
 
 -- What is reported of the sheet that there is.
-reported : (c : tie.After-clash) → Reported (start c).requires.sheet c.clash.new.1.1.1.0 c.clash.result
-reported c = let p = (start c).requires in c.clash.ensures p.sheet p.holds
+reported : (c : tie.After-clash-at) → Reported (start c).requires.sheet c.clash-at.new.numbers-1 c.clash-at.result
+reported c = let p = (start c).requires in c.clash-at.ensures p.sheet p.holds
 
-within : (c : tie.After-clash) → c.clash.result ≤ 512
+within : (c : tie.After-clash-at) → c.clash-at.result ≤ 512
 within c = (reported c).within
 
-clash_requires : tie.Need-clash-requires
-clash_requires c κs = filterable c.before.before.before.requires
+clash-at-requires : tie.Need-clash-at-requires
+clash-at-requires c κs = filterable c.before.before.before.requires
 
-mul_hand_out : tie.Need-overflow-mul-hand-out
-mul_hand_out c = let b = within c in search rules
+offset_bounds-numbers-at : tie.Need-offset_bounds-numbers-at
+offset_bounds-numbers-at c = let b = within c in search rules
 
-sub_hand_out : tie.Need-overflow-sub-hand-out
-sub_hand_out c = within c
+slice_bounds-hand_out-count : tie.Need-slice_bounds-hand_out-count
+slice_bounds-hand_out-count c = within c
 
-part_hand_out_start : tie.Need-slice-bounds-hand-out-start
-part_hand_out_start c = let b = within c.before in omega arith
+slice_bounds-hand_out-start : tie.Need-slice_bounds-hand_out-start
+slice_bounds-hand_out-start c = let b = within c.before in omega arith
 
-part_hand_out_end : tie.Need-slice-bounds-hand-out-end
-part_hand_out_end c = let b = (reported c.before).long in omega arith
+slice_bounds-hand_out-end : tie.Need-slice_bounds-hand_out-end
+slice_bounds-hand_out-end c = let b = (reported c.before).long in omega arith
 
-hand_out_requires : tie.Need-hand-out-requires
-hand_out_requires c κs = search rules
+hand_out-requires : tie.Need-hand_out-requires
+hand_out-requires c κs = search rules
 
-same_length : tie.Need-same-length
-same_length c = search rules
+shape_of-list : tie.Need-shape_of-list
+shape_of-list c = search rules
 
 returns : tie.Need-returns
 returns c q R =
     let called = c.before.before in
     let s = called.before.before.before.before in
-    let numbers = s.clash.new.1.1.1.0 in
-    let at = s.clash.result in
-    let report = s.clash.ensures q R in
+    let numbers = s.clash-at.new.numbers-1 in
+    let at = s.clash-at.result in
+    let report = s.clash-at.ensures q R in
     let all : take (512 - at) (drop at numbers) ≡ drop at numbers = take_all (512 - at) (drop at numbers) (omega (arith, report.long, length-drop at numbers)) in
-    subst (λ (l : List ℕ). Handed l (start s).args.list.now called.hand-out.result called.hand-out.new.1.0) (all ∙ report.same) called.hand-out.ensures
+    subst (λ (l : List ℕ). Handed l (start s).args.list-1.now called.hand_out.result called.hand_out.new.list-1) (all ∙ report.same) called.hand_out.ensures
 
 pub report_spec : {M : Type 1} → statement M
 report_spec =
     tie.close
     (tie.spec
-    clash_requires
-    mul_hand_out
-    sub_hand_out
-    part_hand_out_start
-    part_hand_out_end
-    hand_out_requires
-    same_length
+    clash-at-requires
+    offset_bounds-numbers-at
+    slice_bounds-hand_out-count
+    slice_bounds-hand_out-start
+    slice_bounds-hand_out-end
+    hand_out-requires
+    shape_of-list
     returns)

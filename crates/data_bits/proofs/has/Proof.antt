@@ -4,12 +4,12 @@ use Rattle.definitions.specs.Basics.{test_bit}
 use Rattle.data_bits.proofs.has.Statement.{statement}
 use Rattle.data_bits.proofs.has.Tie as tie
 
-shr_result : tie.Need-overflow-shr-result
-shr_result c = search rules
+overflow_shr-result : tie.Need-overflow_shr-result
+overflow_shr-result c = search rules
 
 returns : tie.Need-returns
 unfolding test_bit
 returns c = search rules
 
 pub has_spec : {M : Type 1} → statement M
-has_spec = tie.close (tie.spec shr_result returns)
+has_spec = tie.close (tie.spec overflow_shr-result returns)

@@ -8,11 +8,11 @@ use Rattle.laws.proofs.Maps.{highest_place}
 use Rattle.data_bits.proofs.highest.Statement.{statement}
 use Rattle.data_bits.proofs.highest.Tie as tie
 
-cast_result : tie.Need-overflow-cast-result
-cast_result c = let t = highest_place 64 c.args.m (search rules) c.requires in record { fits = omega arith }
+overflow_cast-result : tie.Need-overflow_cast-result
+overflow_cast-result c = let t = highest_place 64 c.args.m (search rules) c.requires in record { fits = omega arith }
 
-sub_result : tie.Need-overflow-sub-result
-sub_result c = let t = highest_place 64 c.args.m (search rules) c.requires in omega arith
+overflow_sub-result : tie.Need-overflow_sub-result
+overflow_sub-result c = let t = highest_place 64 c.args.m (search rules) c.requires in omega arith
 
 returns : tie.Need-returns
 returns c =
@@ -21,4 +21,4 @@ returns c =
     rw e (record { below = omega arith; member = t.2; greatest = t.3 })
 
 pub highest_spec : {M : Type 1} → statement M
-highest_spec = tie.close (tie.spec cast_result sub_result returns)
+highest_spec = tie.close (tie.spec overflow_cast-result overflow_sub-result returns)

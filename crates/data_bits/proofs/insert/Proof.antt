@@ -4,11 +4,11 @@ use Rattle.laws.proofs.Maps.{test_insert_shl}
 use Rattle.data_bits.proofs.insert.Statement.{statement}
 use Rattle.data_bits.proofs.insert.Tie as tie
 
-shl_result : tie.Need-overflow-shl-result
-shl_result c = search rules
+overflow_shl-result : tie.Need-overflow_shl-result
+overflow_shl-result c = search rules
 
 returns : tie.Need-returns
 returns c j = test_insert_shl c.args.m c.args.k j (search rules)
 
 pub insert_spec : {M : Type 1} → statement M
-insert_spec = tie.close (tie.spec shl_result returns)
+insert_spec = tie.close (tie.spec overflow_shl-result returns)

@@ -7,18 +7,18 @@ use Rattle.definitions.specs.Basics.{test_bit}
 use Rattle.data_bits.proofs.insert_if.Statement.{statement}
 use Rattle.data_bits.proofs.insert_if.Tie as tie
 
-insert_requires : tie.Need-insert-requires
-insert_requires c κs = search rules
+insert-requires : tie.Need-insert-requires
+insert-requires c κs = search rules
+
+returns-then-wanted : tie.Need-returns-then-wanted
+returns-then-wanted c j =
+    let a = c.before.before.args in
+    c.insert.ensures j ∙ ap (λ (b : Bool). test_bit a.m j || (b && eqb j a.k)) (sym c.before.if-wanted.true)
 
 returns : tie.Need-returns
-returns c j =
-    let a = c.before.before.args in
-    c.insert.ensures j ∙ ap (λ (b : Bool). test_bit a.m j || (b && eqb j a.k)) (sym c.before.if1.true)
-
-returns_2 : tie.Need-returns-2
-returns_2 c j =
+returns-then-wanted c j =
     let a = c.before.args in
-    sym (or-false (test_bit a.m j)) ∙ ap (λ (b : Bool). test_bit a.m j || (b && eqb j a.k)) (sym c.if1.false)
+    sym (or-false (test_bit a.m j)) ∙ ap (λ (b : Bool). test_bit a.m j || (b && eqb j a.k)) (sym c.if-wanted.false)
 
 pub insert_if_spec : {M : Type 1} → statement M
-insert_if_spec = tie.close (tie.spec insert_requires returns returns_2)
+insert_if_spec = tie.close (tie.spec insert-requires returns-then-wanted returns-then-wanted)

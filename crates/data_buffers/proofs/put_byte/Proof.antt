@@ -4,17 +4,17 @@ use Rattle.data_buffers.proofs.Writing.{put_one}
 use Rattle.data_buffers.proofs.put_byte.Statement.{statement}
 use Rattle.data_buffers.proofs.put_byte.Tie as tie
 
-slice_write_out : tie.Need-slice-write-out
-slice_write_out c = search rules
+bounds-out-at : tie.Need-bounds-out-at
+bounds-out-at c = search rules
 
-add_result : tie.Need-overflow-add-result
-add_result c = search rules
+overflow_add-result : tie.Need-overflow_add-result
+overflow_add-result c = search rules
 
-same_length : tie.Need-same-length
-same_length c = search rules
+shape_of-out : tie.Need-shape_of-out
+shape_of-out c = search rules
 
 returns : tie.Need-returns
 returns c = put_one _ _ _ (search rules)
 
 pub put_byte_spec : {M : Type 1} → statement M
-put_byte_spec = tie.close (tie.spec slice_write_out add_result same_length returns)
+put_byte_spec = tie.close (tie.spec bounds-out-at overflow_add-result shape_of-out returns)

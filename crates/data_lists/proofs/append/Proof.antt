@@ -6,51 +6,51 @@ use Rattle.laws.proofs.Bools.{cond_false, cond_true}
 use Rattle.data_lists.proofs.append.Statement.{statement}
 use Rattle.data_lists.proofs.append.Tie as tie
 
-add_lists : tie.Need-overflow-add-lists
-add_lists c = search rules
+overflow_add-lists : tie.Need-overflow_add-lists
+overflow_add-lists c = search rules
 
-cast_lists : tie.Need-overflow-cast-lists
-cast_lists c = search rules
+overflow_cast-lists : tie.Need-overflow_cast-lists
+overflow_cast-lists c = search rules
 
-mul_lists : tie.Need-overflow-mul-lists
-mul_lists c = search rules
+offset_bounds-lists-at : tie.Need-offset_bounds-lists-at
+offset_bounds-lists-at c = search rules
 
-slice_write_lists : tie.Need-slice-write-lists
-slice_write_lists c = search rules
+bounds-lists-at : tie.Need-bounds-lists-at
+bounds-lists-at c = search rules
 
-is_back_requires : tie.Need-is-back-requires
-is_back_requires c κs = search rules
+is_back-requires : tie.Need-is_back-requires
+is_back-requires c κs = search rules
 
-add_result : tie.Need-overflow-add-result
-add_result c = search rules
+overflow_add-result : tie.Need-overflow_add-result
+overflow_add-result c = search rules
 
-same_length : tie.Need-same-length
-same_length c = search rules
+shape_of-lists-then-is_back : tie.Need-shape_of-lists-then-is_back
+shape_of-lists-then-is_back c = search rules
+
+returns-then-is_back : tie.Need-returns-then-is_back
+returns-then-is_back c =
+    let s = c.before in
+    record { put = refl; next = sym (cond_true (s.before.before.args.at + 1) s.before.before.args.at (sym s.is_back.ensures ∙ c.if-is_back.true)) }
+
+shape_of-lists : tie.Need-shape_of-lists
+shape_of-lists c = search rules
 
 returns : tie.Need-returns
-returns c =
+returns-then-is_back c =
     let s = c.before in
-    record { put = refl; next = sym (cond_true (s.before.before.args.at + 1) s.before.before.args.at (sym s.is-back.ensures ∙ c.if1.true)) }
-
-same_length_2 : tie.Need-same-length-2
-same_length_2 c = search rules
-
-returns_2 : tie.Need-returns-2
-returns_2 c =
-    let s = c.before in
-    record { put = refl; next = sym (cond_false (s.before.before.args.at + 1) s.before.before.args.at (sym s.is-back.ensures ∙ c.if1.false)) }
+    record { put = refl; next = sym (cond_false (s.before.before.args.at + 1) s.before.before.args.at (sym s.is_back.ensures ∙ c.if-is_back.false)) }
 
 pub append_spec : {M : Type 1} → statement M
 append_spec =
     tie.close
     (tie.spec
-    add_lists
-    cast_lists
-    mul_lists
-    slice_write_lists
-    is_back_requires
-    add_result
-    same_length
-    returns
-    same_length_2
-    returns_2)
+    overflow_add-lists
+    overflow_cast-lists
+    offset_bounds-lists-at
+    bounds-lists-at
+    is_back-requires
+    overflow_add-result
+    shape_of-lists-then-is_back
+    returns-then-is_back
+    shape_of-lists
+    returns-then-is_back)

@@ -7,56 +7,56 @@ use Rattle.data_lists.specs.Lists.{put_first}
 use Rattle.data_lists.proofs.link.Statement.{statement}
 use Rattle.data_lists.proofs.link.Tie as tie
 
-edge_from_requires : tie.Need-edge-from-requires
-edge_from_requires c κs = search rules
+edge_from-from-requires : tie.Need-edge_from-from-requires
+edge_from-from-requires c κs = search rules
 
-mul_lists : tie.Need-overflow-mul-lists
-mul_lists c = search rules
+offset_bounds-lists-from : tie.Need-offset_bounds-lists-from
+offset_bounds-lists-from c = search rules
 
-slice_read_lists : tie.Need-slice-read-lists
-slice_read_lists c = search rules
+bounds-lists-from : tie.Need-bounds-lists-from
+bounds-lists-from c = search rules
 
-add_lists : tie.Need-overflow-add-lists
-add_lists c = search rules
+overflow_add-lists : tie.Need-overflow_add-lists
+overflow_add-lists c = search rules
 
-mul_lists_2 : tie.Need-overflow-mul-lists-2
-mul_lists_2 c = search rules
+offset_bounds-lists-k : tie.Need-offset_bounds-lists-k
+offset_bounds-lists-k c = search rules
 
-slice_write_lists : tie.Need-slice-write-lists
-slice_write_lists c = search rules
+bounds-lists-k : tie.Need-bounds-lists-k
+bounds-lists-k c = search rules
 
-add_lists_2 : tie.Need-overflow-add-lists-2
-add_lists_2 c = search rules
+overflow_add-lists-2 : tie.Need-overflow_add-lists-2
+overflow_add-lists-2 c = search rules
 
-cast_lists : tie.Need-overflow-cast-lists
-cast_lists c = search rules
+overflow_cast-lists : tie.Need-overflow_cast-lists
+overflow_cast-lists c = search rules
 
-mul_lists_3 : tie.Need-overflow-mul-lists-3
-mul_lists_3 c = search rules
+offset_bounds-lists-from-2 : tie.Need-offset_bounds-lists-from-2
+offset_bounds-lists-from-2 c = search rules
 
-slice_write_lists_2 : tie.Need-slice-write-lists-2
-slice_write_lists_2 c = simp length-set (omega arith)
+bounds-lists-from-2 : tie.Need-bounds-lists-from-2
+bounds-lists-from-2 c = simp length-set (omega arith)
 
-same_length : tie.Need-same-length
-same_length c = search rules
+shape_of-lists : tie.Need-shape_of-lists
+shape_of-lists c = search rules
 
 returns : tie.Need-returns
 unfolding put_first
-returns c = rw c.before.edge-from.ensures.0 refl
+returns c = rw c.before.edge_from-from.ensures.0 refl
 
 pub link_spec : {M : Type 1} → statement M
 link_spec =
     tie.close
     (tie.spec
-    edge_from_requires
-    mul_lists
-    slice_read_lists
-    add_lists
-    mul_lists_2
-    slice_write_lists
-    add_lists_2
-    cast_lists
-    mul_lists_3
-    slice_write_lists_2
-    same_length
+    edge_from-from-requires
+    offset_bounds-lists-from
+    bounds-lists-from
+    overflow_add-lists
+    offset_bounds-lists-k
+    bounds-lists-k
+    overflow_add-lists-2
+    overflow_cast-lists
+    offset_bounds-lists-from-2
+    bounds-lists-from-2
+    shape_of-lists
     returns)

@@ -9,105 +9,105 @@ use Rattle.data_lists.proofs.Appending.{Listing, before_few, listing_all, listin
 use Rattle.data_lists.proofs.list.Statement.{statement}
 use Rattle.data_lists.proofs.list.Tie as tie
 
-abbrev invariant-loop : tie.invariant-loop
-invariant-loop es lists₀ at₀ k₀ lists at k = (k ≤ length es) × (length lists ≡ length lists₀) × Listing es lists k at
+abbrev invariant-loop-k : tie.invariant-loop-k
+invariant-loop-k es lists₀ at₀ k₀ lists at k = (k ≤ length es) × (length lists ≡ length lists₀) × Listing es lists k at
 
-abbrev decreases-loop : tie.decreases-loop
-decreases-loop es lists₀ at₀ k₀ lists at k = length es - k
+abbrev decreases-loop-k : tie.decreases-loop-k
+decreases-loop-k es lists₀ at₀ k₀ lists at k = length es - k
 
 -- Places: the start, from a turn; that, from where its word is before its list; and this, from where it is about to be put behind the returns.
-abbrev start : tie.At-loop invariant-loop decreases-loop → tie.Start invariant-loop decreases-loop
+abbrev start : tie.At-loop-k invariant-loop-k decreases-loop-k → tie.Start invariant-loop-k decreases-loop-k
 start s = s.before.before.before
 
-abbrev turn : tie.After-link invariant-loop decreases-loop → tie.At-loop invariant-loop decreases-loop
+abbrev turn : tie.After-link invariant-loop-k decreases-loop-k → tie.At-loop-k invariant-loop-k decreases-loop-k
 turn s = s.before.before.before.before
 
-abbrev linked : tie.After-shared-slice-known3 invariant-loop decreases-loop → tie.After-link invariant-loop decreases-loop
+abbrev linked : tie.After-shared_slice_known-in-loop-k-2-1 invariant-loop-k decreases-loop-k → tie.After-link invariant-loop-k decreases-loop-k
 linked s = s.before.before.before.before
 
-kept : (s : tie.After-link invariant-loop decreases-loop) → length s.link.new.0 ≡ length (turn s).loop.lists
-kept s = ap length s.link.ensures ∙ first_length _ _ (turn s).loop.k
+kept : (s : tie.After-link invariant-loop-k decreases-loop-k) → length s.link.new.lists-1 ≡ length (turn s).loop-k.lists-1
+kept s = ap length s.link.ensures ∙ first_length _ _ (turn s).loop-k.k
 
-add_at : tie.Need-overflow-add-at invariant-loop decreases-loop
-add_at c = omega (arith, c.before.before.requires.few)
+overflow_add-at : tie.Need-overflow_add-at invariant-loop-k decreases-loop-k
+overflow_add-at c = omega (arith, c.before.before.requires.few)
 
-loop_holds : tie.Need-loop-init invariant-loop decreases-loop
-loop_holds c = (omega arith, refl, listing_none c.before.before.requires)
+loop-k-init : tie.Need-loop-k-init invariant-loop-k decreases-loop-k
+loop-k-init c = (omega arith, refl, listing_none c.before.before.requires)
 
-mul_link : tie.Need-overflow-mul-link invariant-loop decreases-loop
-mul_link c = search rules
+offset_bounds-es-k : tie.Need-offset_bounds-es-k invariant-loop-k decreases-loop-k
+offset_bounds-es-k c = search rules
 
-shared_slice_read_link : tie.Need-shared-slice-read-link invariant-loop decreases-loop
-shared_slice_read_link c = search rules
+bounds-es-k : tie.Need-bounds-es-k invariant-loop-k decreases-loop-k
+bounds-es-k c = search rules
 
-link_requires : tie.Need-link-requires invariant-loop decreases-loop
-link_requires c κs =
+link-requires : tie.Need-link-requires invariant-loop-k decreases-loop-k
+link-requires c κs =
     let t = c.before.before.before in
-    (omega (arith, (start t).requires.few), omega (arith, t.loop.invariant.2.linked.long))
+    (omega (arith, (start t).requires.few), omega (arith, t.loop-k.invariant.2.linked.long))
 
-mul_append : tie.Need-overflow-mul-append invariant-loop decreases-loop
-mul_append c = search rules
+offset_bounds-es-k-in-loop-k : tie.Need-offset_bounds-es-k-in-loop-k invariant-loop-k decreases-loop-k
+offset_bounds-es-k-in-loop-k c = search rules
 
-shared_slice_read_append : tie.Need-shared-slice-read-append invariant-loop decreases-loop
-shared_slice_read_append c = search rules
+bounds-es-k-in-loop-k : tie.Need-bounds-es-k-in-loop-k invariant-loop-k decreases-loop-k
+bounds-es-k-in-loop-k c = search rules
 
-append_requires : tie.Need-append-requires invariant-loop decreases-loop
-append_requires c κs =
+append-at-requires : tie.Need-append-at-requires invariant-loop-k decreases-loop-k
+append-at-requires c κs =
     let s = linked c in
     let t = turn s in
-    (omega (arith, (start t).pre.few), omega (arith, listing_room t.loop.inv.0 t.loop.inv.2, kept s))
+    (omega (arith, (start t).pre.few), omega (arith, listing_room t.loop-k.inv.0 t.loop-k.inv.2, kept s))
 
-add_k : tie.Need-overflow-add-k invariant-loop decreases-loop
-add_k c = search rules
+overflow_add-k : tie.Need-overflow_add-k invariant-loop-k decreases-loop-k
+overflow_add-k c = search rules
 
-loop_less : tie.Need-loop-smaller invariant-loop decreases-loop
-loop_less c = search rules
+loop-k-smaller : tie.Need-loop-k-smaller invariant-loop-k decreases-loop-k
+loop-k-smaller c = search rules
 
-loop_again : tie.Need-loop-preserved invariant-loop decreases-loop
-loop_again c =
+loop-k-preserved : tie.Need-loop-k-preserved invariant-loop-k decreases-loop-k
+loop-k-preserved c =
     let a = c.before.before in
     let s = linked a.before in
     let t = turn s in
-    let put = a.append.ensures.put in (
+    let put = a.append-at.ensures.put in (
       omega arith,
-      ap length put ∙ length-set {A = ℕ} s.link.last.0 t.loop.at (t.loop.k + 1) ∙ kept s ∙ t.loop.inv.1,
-      listing_more _ t.loop.lists _ t.loop.k _ t.loop.at _ (omega arith) refl t.loop.inv.2 (rw s.link.ensures at a.append.ensures),
+      ap length put ∙ length-set {A = ℕ} s.link.last.0 t.loop-k.at (t.loop-k.k + 1) ∙ kept s ∙ t.loop-k.inv.1,
+      listing_more _ t.loop-k.lists-1 _ t.loop-k.k _ t.loop-k.at _ (omega arith) refl t.loop-k.inv.2 (rw s.link.ensures at a.append-at.ensures),
     )
 
-mul_lists : tie.Need-overflow-mul-lists invariant-loop decreases-loop
-mul_lists c =
+offset_bounds-lists-at : tie.Need-offset_bounds-lists-at invariant-loop-k decreases-loop-k
+offset_bounds-lists-at c =
     let t = c.before in
-    omega (arith, t.loop.invariant.2.next, before_few (start t).args.es.now t.loop.k, (start t).requires.few)
+    omega (arith, t.loop-k.invariant.2.next, before_few (start t).args.es.now t.loop-k.k, (start t).requires.few)
 
-slice_write_lists : tie.Need-slice-write-lists invariant-loop decreases-loop
-slice_write_lists c = listing_room c.before.loop.invariant.0 c.before.loop.invariant.2
+bounds-lists-at : tie.Need-bounds-lists-at invariant-loop-k decreases-loop-k
+bounds-lists-at c = listing_room c.before.loop-k.invariant.0 c.before.loop-k.invariant.2
 
-same_length : tie.Need-same-length invariant-loop decreases-loop
-same_length c = length-set {A = ℕ} c.before.loop.lists c.before.loop.at 0 ∙ c.before.loop.invariant.1
+shape_of-lists : tie.Need-shape_of-lists invariant-loop-k decreases-loop-k
+shape_of-lists c = length-set {A = ℕ} c.before.loop-k.lists-1 c.before.loop-k.at 0 ∙ c.before.loop-k.invariant.1
 
-returns : tie.Need-returns invariant-loop decreases-loop
+returns : tie.Need-returns invariant-loop-k decreases-loop-k
 returns c =
     let t = c.before in
-    listing_all _ _ t.loop.k _ (start t).requires.few (start t).requires.light (omega arith) t.loop.invariant.2
+    listing_all _ _ t.loop-k.k _ (start t).requires.few (start t).requires.light (omega arith) t.loop-k.invariant.2
 
 pub list_spec : {M : Type 1} → statement M
 list_spec =
     tie.close
     (tie.spec
-    invariant-loop
-    decreases-loop
-    add_at
-    loop_holds
-    mul_link
-    shared_slice_read_link
-    link_requires
-    mul_append
-    shared_slice_read_append
-    append_requires
-    add_k
-    loop_less
-    loop_again
-    mul_lists
-    slice_write_lists
-    same_length
+    invariant-loop-k
+    decreases-loop-k
+    overflow_add-at
+    loop-k-init
+    offset_bounds-es-k
+    bounds-es-k
+    link-requires
+    offset_bounds-es-k-in-loop-k
+    bounds-es-k-in-loop-k
+    append-at-requires
+    overflow_add-k
+    loop-k-smaller
+    loop-k-preserved
+    offset_bounds-lists-at
+    bounds-lists-at
+    shape_of-lists
     returns)

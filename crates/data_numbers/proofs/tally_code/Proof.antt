@@ -8,26 +8,26 @@ use borrow.Author.Rules.{rules}
 use Rattle.data_numbers.proofs.tally_code.Statement.{statement}
 use Rattle.data_numbers.proofs.tally_code.Tie as tie
 
-enum_known_tally : tie.Need-enum-known-tally
-enum_known_tally c = search rules
+enum_known-tally : tie.Need-enum_known-tally
+enum_known-tally c = search rules
 
-enum_told : tie.Need-enum-told
-enum_told c = search rules
+enum_told-1 : tie.Need-enum_told-1
+enum_told-1 c = search rules
 
-refusal_number_requires : tie.Need-refusal-number-requires
-refusal_number_requires c κs = search rules
+refusal_number-requires : tie.Need-refusal_number-requires
+refusal_number-requires c κs = search rules
 
-add_result : tie.Need-overflow-add-result
-add_result c = search rules
+overflow_add-result : tie.Need-overflow_add-result
+overflow_add-result c = search rules
 
-returns : tie.Need-returns
-returns c = sym (ap (λ (t : Tally). tally_code (tally_of t)) c.enum_told.given.1)
+returns-in-Count : tie.Need-returns-in-Count
+returns-in-Count c = sym (ap (λ (t : Tally). tally_code (tally_of t)) c.enum_told-1.given.1)
 
-returns_2 : tie.Need-returns-2
-returns_2 c =
-    ap (λ (x : ℕ). refusals_past + x) c.refusal-number.ensures.0 ∙ sym (ap (λ (t : Tally). tally_code (tally_of t)) c.before.before.tally.given.1)
+returns-in-Refused : tie.Need-returns-in-Refused
+returns-in-Count-in-Refused c =
+    ap (λ (x : ℕ). refusals_past + x) c.refusal_number.ensures.0 ∙ sym (ap (λ (t : Tally). tally_code (tally_of t)) c.before.before.tally-1.given.1)
 
 pub tally_code_spec : {M : Type 1} → statement M
 tally_code_spec =
     tie.close
-    (tie.spec enum_told enum_known_tally refusal_number_requires add_result returns returns_2)
+    (tie.spec enum_told-1 enum_known-tally refusal_number-requires overflow_add-result returns-in-Count returns-in-Count-in-Refused)

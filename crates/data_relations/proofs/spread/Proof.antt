@@ -6,66 +6,66 @@ use Rattle.data_relations.proofs.Transposing.{Spreading, spreading_none, spreadi
 use Rattle.data_relations.proofs.spread.Statement.{statement}
 use Rattle.data_relations.proofs.spread.Tie as tie
 
-abbrev invariant-loop : tie.invariant-loop
-invariant-loop out₀ m v left₀ out left = Spreading m v out₀ out left
+abbrev invariant-loop-left : tie.invariant-loop-left
+invariant-loop-left out₀ m v left₀ out left = Spreading m v out₀ out left
 
-abbrev decreases-loop : tie.decreases-loop
-decreases-loop out₀ m v left₀ out left = left
+abbrev decreases-loop-left : tie.decreases-loop-left
+decreases-loop-left out₀ m v left₀ out left = left
 
-loop_holds : tie.Need-loop-init invariant-loop decreases-loop
-loop_holds c = spreading_none _ _ _
+loop-left-init : tie.Need-loop-left-init invariant-loop-left decreases-loop-left
+loop-left-init c = spreading_none _ _ _
 
-lowest_requires : tie.Need-lowest-requires invariant-loop decreases-loop
-lowest_requires c κs = search rules
+lowest-k-requires : tie.Need-lowest-k-requires invariant-loop-left decreases-loop-left
+lowest-k-requires c κs = search rules
 
-mul_insert : tie.Need-overflow-mul-insert invariant-loop decreases-loop
-mul_insert c = search rules
+offset_bounds-out-k : tie.Need-offset_bounds-out-k invariant-loop-left decreases-loop-left
+offset_bounds-out-k c = search rules
 
-slice_read_insert : tie.Need-slice-read-insert invariant-loop decreases-loop
-slice_read_insert c = search rules
+bounds-out-k : tie.Need-bounds-out-k invariant-loop-left decreases-loop-left
+bounds-out-k c = search rules
 
-insert_requires : tie.Need-insert-requires invariant-loop decreases-loop
-insert_requires c κs = search rules
+insert-row-requires : tie.Need-insert-row-requires invariant-loop-left decreases-loop-left
+insert-row-requires c κs = search rules
 
-mul_out : tie.Need-overflow-mul-out invariant-loop decreases-loop
-mul_out c = search rules
+offset_bounds-out-k-in-loop-left : tie.Need-offset_bounds-out-k-in-loop-left invariant-loop-left decreases-loop-left
+offset_bounds-out-k-in-loop-left c = search rules
 
-slice_write_out : tie.Need-slice-write-out invariant-loop decreases-loop
-slice_write_out c = search rules
+bounds-out-k-in-loop-left : tie.Need-bounds-out-k-in-loop-left invariant-loop-left decreases-loop-left
+bounds-out-k-in-loop-left c = search rules
 
-without_lowest_requires : tie.Need-without-lowest-requires invariant-loop decreases-loop
-without_lowest_requires c κs = omega arith
+without_lowest-left-requires : tie.Need-without_lowest-left-requires invariant-loop-left decreases-loop-left
+without_lowest-left-requires c κs = omega arith
 
-loop_less : tie.Need-loop-smaller invariant-loop decreases-loop
-loop_less c = removed_lt _ _ _ c.before.before.before.lowest.ensures.member (c.without-lowest.ensures _ c.before.before.before.lowest.ensures)
+loop-left-smaller : tie.Need-loop-left-smaller invariant-loop-left decreases-loop-left
+loop-left-smaller c = removed_lt _ _ _ c.before.before.before.lowest-k.ensures.member (c.without_lowest-left.ensures _ c.before.before.before.lowest-k.ensures)
 
-loop_again : tie.Need-loop-preserved invariant-loop decreases-loop
-loop_again c =
+loop-left-preserved : tie.Need-loop-left-preserved invariant-loop-left decreases-loop-left
+loop-left-preserved c =
     let s = c.before.before.before.before.before in
-    let L = c.before.before.before.lowest.ensures in
-    spreading_more _ _ _ _ _ _ _ _ (omega (arith, L.below, s.loop.invariant.long, s.before.before.requires.1)) L.member c.before.insert.ensures (c.without-lowest.ensures _ L) s.loop.invariant
+    let L = c.before.before.before.lowest-k.ensures in
+    spreading_more _ _ _ _ _ _ _ _ (omega (arith, L.below, s.loop-left.invariant.long, s.before.before.requires.1)) L.member c.before.insert-row.ensures (c.without_lowest-left.ensures _ L) s.loop-left.invariant
 
-same_length : tie.Need-same-length invariant-loop decreases-loop
-same_length c = search rules
+shape_of-out : tie.Need-shape_of-out invariant-loop-left decreases-loop-left
+shape_of-out c = search rules
 
-returns : tie.Need-returns invariant-loop decreases-loop
-returns c = spreading_all _ _ c.before.loop.left _ _ (omega arith) c.before.loop.invariant
+returns : tie.Need-returns invariant-loop-left decreases-loop-left
+returns c = spreading_all _ _ c.before.loop-left.left _ _ (omega arith) c.before.loop-left.invariant
 
 pub spread_spec : {M : Type 1} → statement M
 spread_spec =
     tie.close
     (tie.spec
-    invariant-loop
-    decreases-loop
-    loop_holds
-    lowest_requires
-    mul_insert
-    slice_read_insert
-    insert_requires
-    mul_out
-    slice_write_out
-    without_lowest_requires
-    loop_less
-    loop_again
-    same_length
+    invariant-loop-left
+    decreases-loop-left
+    loop-left-init
+    lowest-k-requires
+    offset_bounds-out-k
+    bounds-out-k
+    insert-row-requires
+    offset_bounds-out-k-in-loop-left
+    bounds-out-k-in-loop-left
+    without_lowest-left-requires
+    loop-left-smaller
+    loop-left-preserved
+    shape_of-out
     returns)

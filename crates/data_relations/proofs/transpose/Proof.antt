@@ -7,49 +7,49 @@ use Rattle.data_relations.proofs.Transposing.{Turned, turned_none, turned_more}
 use Rattle.data_relations.proofs.transpose.Statement.{statement}
 use Rattle.data_relations.proofs.transpose.Tie as tie
 
-abbrev invariant-loop : tie.invariant-loop
-invariant-loop rows n out₀ i₀ out i = (i ≤ n) × Turned rows i out
+abbrev invariant-loop-i : tie.invariant-loop-i
+invariant-loop-i rows n out₀ i₀ out i = (i ≤ n) × Turned rows i out
 
-abbrev decreases-loop : tie.decreases-loop
-decreases-loop rows n out₀ i₀ out i = n - i
+abbrev decreases-loop-i : tie.decreases-loop-i
+decreases-loop-i rows n out₀ i₀ out i = n - i
 
-loop_holds : tie.Need-loop-init invariant-loop decreases-loop
-loop_holds c = (omega arith, rw c.requires.1 (turned_none _))
+loop-i-init : tie.Need-loop-i-init invariant-loop-i decreases-loop-i
+loop-i-init c = (omega arith, rw c.requires.1 (turned_none _))
 
-mul_spread : tie.Need-overflow-mul-spread invariant-loop decreases-loop
-mul_spread c = search rules
+offset_bounds-rows-i : tie.Need-offset_bounds-rows-i invariant-loop-i decreases-loop-i
+offset_bounds-rows-i c = search rules
 
-element_copy_out_spread : tie.Need-element-copy-out-spread invariant-loop decreases-loop
-element_copy_out_spread c = search rules
+bounds-rows-i : tie.Need-bounds-rows-i invariant-loop-i decreases-loop-i
+bounds-rows-i c = search rules
 
-spread_requires : tie.Need-spread-requires invariant-loop decreases-loop
-spread_requires c κs = (omega arith, c.before.before.before.loop.invariant.1.long)
+spread-requires : tie.Need-spread-requires invariant-loop-i decreases-loop-i
+spread-requires c κs = (omega arith, c.before.before.before.loop-i.invariant.1.long)
 
-add_i : tie.Need-overflow-add-i invariant-loop decreases-loop
-add_i c = search rules
+overflow_add-i : tie.Need-overflow_add-i invariant-loop-i decreases-loop-i
+overflow_add-i c = search rules
 
-loop_less : tie.Need-loop-smaller invariant-loop decreases-loop
-loop_less c = search rules
+loop-i-smaller : tie.Need-loop-i-smaller invariant-loop-i decreases-loop-i
+loop-i-smaller c = search rules
 
-loop_again : tie.Need-loop-preserved invariant-loop decreases-loop
-loop_again c = (omega arith, turned_more _ _ _ _ c.before.before.before.before.loop.invariant.1 c.spread.ensures)
+loop-i-preserved : tie.Need-loop-i-preserved invariant-loop-i decreases-loop-i
+loop-i-preserved c = (omega arith, turned_more _ _ _ _ c.before.before.before.before.loop-i.invariant.1 c.spread.ensures)
 
-returns : tie.Need-returns invariant-loop decreases-loop
+returns : tie.Need-returns invariant-loop-i decreases-loop-i
 returns c =
-    let e : c.before.loop.i ≡ c.before.before.args.n = omega arith in
-    rw e at c.before.loop.invariant.1.bits
+    let e : c.before.loop-i.i ≡ c.before.before.args.n = omega arith in
+    rw e at c.before.loop-i.invariant.1.bits
 
 pub transpose_spec : {M : Type 1} → statement M
 transpose_spec =
     tie.close
     (tie.spec
-    invariant-loop
-    decreases-loop
-    loop_holds
-    mul_spread
-    element_copy_out_spread
-    spread_requires
-    add_i
-    loop_less
-    loop_again
+    invariant-loop-i
+    decreases-loop-i
+    loop-i-init
+    offset_bounds-rows-i
+    bounds-rows-i
+    spread-requires
+    overflow_add-i
+    loop-i-smaller
+    loop-i-preserved
     returns)

@@ -13,19 +13,19 @@ use Rattle.data_sets.proofs.below.Tie as tie
 all_bits : (n x v : ℕ) → x + 1 ≡ 2 ^ n → test_bit x v ≡ ltb v n
 all_bits n x v h = test_rest n x 0 v h ∙ ap (λ (t : Bool). ltb v n && not t) (test_zero v) ∙ and-true (ltb v n)
 
-shl_result : tie.Need-overflow-shl-result
-shl_result c = search rules
+overflow_shl-result : tie.Need-overflow_shl-result
+overflow_shl-result c = search rules
 
-sub_result : tie.Need-overflow-sub-result
-sub_result c = omega (arith, one_shl c.before.args.n c.if1.true, below_pow c.before.args.n)
+overflow_sub-result : tie.Need-overflow_sub-result
+overflow_sub-result c = omega (arith, one_shl c.before.args.n c.if-n-lt64.true, below_pow c.before.args.n)
 
-returns : tie.Need-returns
-returns c v = all_bits c.before.args.n _ v (omega (arith, one_shl c.before.args.n c.if1.true, below_pow c.before.args.n))
+returns-then-n-lt64 : tie.Need-returns-then-n-lt64
+returns-then-n-lt64 c v = all_bits c.before.args.n _ v (omega (arith, one_shl c.before.args.n c.if-n-lt64.true, below_pow c.before.args.n))
 
-returns_2 : tie.Need-returns-2
-returns_2 c v =
+returns-else-n-lt64 : tie.Need-returns-else-n-lt64
+returns-then-n-lt64-else-n-lt64 c v =
     let e : 64 ≡ c.before.args.n = omega arith in
     all_bits 64 18446744073709551615 v (omega arith) ∙ ap (ltb v) e
 
 pub below_spec : {M : Type 1} → statement M
-below_spec = tie.close (tie.spec shl_result sub_result returns returns_2)
+below_spec = tie.close (tie.spec overflow_shl-result overflow_sub-result returns-then-n-lt64 returns-then-n-lt64-else-n-lt64)

@@ -11,29 +11,29 @@ use Rattle.judge_edges.proofs.judge_assuming_feasible.Tie as tie
 abbrev start : tie.After-sort → tie.Start
 start s = s.before.before.before.before.before
 
-sort_requires : tie.Need-sort-requires
-sort_requires c κs = search rules
+sort-requires : tie.Need-sort-requires
+sort-requires c κs = search rules
 
-refused_requires : tie.Need-refused-requires
-refused_requires c κs = search rules
+refused-requires : tie.Need-refused-requires
+refused-requires c κs = search rules
 
-returns : tie.Need-returns
-returns c sheet =
+returns-then-not-sort : tie.Need-returns-then-not-sort
+returns-then-not-sort c sheet =
     let u = c.refused.ensures in
     let s = c.before.before in
-    presumed_refused _ _ _ _ _ _ _ _ _ 8 (sorting_order _ _ (s.sort.ensures sheet.shape sheet.entered) (not-true _ c.before.if1.true)) u.1.sorts (ap verdict_of u.0) (start s).requires.1.rows.no_maps u.1.none
+    presumed_refused _ _ _ _ _ _ _ _ _ 8 (sorting_order _ _ (s.sort.ensures sheet.shape sheet.entered) (not-true _ c.before.if-not-sort.true)) u.1.sorts (ap verdict_of u.0) (start s).requires.1.rows.no_maps u.1.none
 
-serialize_requires : tie.Need-serialize-requires
-serialize_requires c κs = search rules
+serialize-requires : tie.Need-serialize-requires
+serialize-requires c κs = search rules
 
-returns_2 : tie.Need-returns-2
-returns_2 c sheet =
+returns : tie.Need-returns
+returns-then-not-sort c sheet =
     let f = c.before.before.before.before.before in
     let s = f.before.sort.ensures sheet.shape sheet.entered in
-    let passes = not-false _ f.if1.false in
+    let passes = not-false _ f.if-not-sort.false in
     let passed = sorting_order _ _ s passes in
     presumed_rest _ _ _ _ _ _ _ _ _ passed c.serialize.ensures.0 (c.serialize.ensures.1 (record { sheet = sheet; anchors = s.found passes; passes = passed }))
 
 pub judge_assuming_feasible_spec : {M : Type 1} → statement M
 judge_assuming_feasible_spec =
-    tie.close (tie.spec sort_requires refused_requires returns serialize_requires returns_2)
+    tie.close (tie.spec sort-requires refused-requires returns-then-not-sort serialize-requires returns-then-not-sort)

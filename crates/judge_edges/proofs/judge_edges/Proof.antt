@@ -11,53 +11,53 @@ use Rattle.judge_edges.proofs.judge_edges.Tie as tie
 abbrev start : tie.After-sort → tie.Start
 start s = s.before.before.before.before.before
 
-abbrev passing : tie.After-feasible → tie.Else1
+abbrev passing : tie.After-feasible → tie.Else-not-sort
 passing s = s.before.before
 
-abbrev sorted : tie.Else1 → tie.After-sort
+abbrev sorted : tie.Else-not-sort → tie.After-sort
 sorted s = s.before
 
-sort_requires : tie.Need-sort-requires
-sort_requires c κs = search rules
+sort-requires : tie.Need-sort-requires
+sort-requires c κs = search rules
 
-refused_requires : tie.Need-refused-requires
-refused_requires c κs = search rules
+refused-requires : tie.Need-refused-requires
+refused-requires c κs = search rules
 
-returns : tie.Need-returns
-returns c sheet =
+returns-then-not-sort : tie.Need-returns-then-not-sort
+returns-then-not-sort c sheet =
     let u = c.refused.ensures in
     let s = c.before.before in
-    edges_refuse _ _ _ _ _ _ _ 8 (first_refused _ _ _ (sorting_order _ _ (s.sort.ensures sheet.shape sheet.entered) (not-true _ c.before.if1.true))) (ap verdict_of u.0) (start s).requires.1 u.1.none
+    edges_refuse _ _ _ _ _ _ _ 8 (first_refused _ _ _ (sorting_order _ _ (s.sort.ensures sheet.shape sheet.entered) (not-true _ c.before.if-not-sort.true))) (ap verdict_of u.0) (start s).requires.1 u.1.none
 
-feasible_requires : tie.Need-feasible-requires
-feasible_requires c κs = search rules
+feasible-requires : tie.Need-feasible-requires
+feasible-requires c κs = search rules
 
-refused_requires_2 : tie.Need-refused-requires-2
-refused_requires_2 c κs = search rules
+refused-requires-then-not-feasible : tie.Need-refused-requires-then-not-feasible
+refused-requires-then-not-feasible c κs = search rules
 
-returns_2 : tie.Need-returns-2
-returns_2 c sheet =
+returns-then-not-feasible : tie.Need-returns-then-not-feasible
+returns-then-not-sort-then-not-feasible c sheet =
     let f = c.before.before in
     let s = sorted (passing f) in
     let p = (start s).pre in
-    let u = c.refused2.ensures in
-    let passed = sorting_order _ _ (s.sort.ensures sheet.shape sheet.entered) (not-false _ (passing f).if1.false) in
+    let u = c.refused-then-not-feasible.ensures in
+    let passed = sorting_order _ _ (s.sort.ensures sheet.shape sheet.entered) (not-false _ (passing f).if-not-sort.false) in
     let settles = f.feasible.ensures sheet.shape (all_rooted _ _ passed p.0.some sheet.shape sheet.entered) in
-    edges_refuse _ _ _ _ _ _ _ 10 (first_10 _ _ passed (sym settles ∙ not-true _ c.before.if2.true)) (ap verdict_of u.0) p.1 u.1.none
+    edges_refuse _ _ _ _ _ _ _ 10 (first_10 _ _ passed (sym settles ∙ not-true _ c.before.if-not-feasible.true)) (ap verdict_of u.0) p.1 u.1.none
 
-serialize_requires : tie.Need-serialize-requires
-serialize_requires c κs = search rules
+serialize-requires : tie.Need-serialize-requires
+serialize-requires c κs = search rules
 
-returns_3 : tie.Need-returns-3
-returns_3 c sheet =
+returns : tie.Need-returns
+returns-then-not-sort c sheet =
     let t = c.before.before.before.before.before in
     let f = t.before in
     let s = sorted (passing f) in
-    let passes = not-false _ (passing f).if1.false in
+    let passes = not-false _ (passing f).if-not-sort.false in
     let found = s.sort.ensures sheet.shape sheet.entered in
     let passed = sorting_order _ _ found passes in
     let settles = f.feasible.ensures sheet.shape (all_rooted _ _ passed (start s).pre.0.some sheet.shape sheet.entered) in
-    let done = first_done _ _ passed (sym settles ∙ not-false _ t.if2.false) in
+    let done = first_done _ _ passed (sym settles ∙ not-false _ t.if-not-feasible.false) in
     let unweighed = c.serialize.ensures.1 (record { sheet = sheet; anchors = found.found passes; passes = passed }) in
     edges_go_on _ _ _ _ _ _ _ done (unweighed.serialized done)
 
@@ -65,11 +65,11 @@ pub judge_edges_spec : {M : Type 1} → statement M
 judge_edges_spec =
     tie.close
     (tie.spec
-    sort_requires
-    refused_requires
-    returns
-    feasible_requires
-    refused_requires_2
-    returns_2
-    serialize_requires
-    returns_3)
+    sort-requires
+    refused-requires
+    returns-then-not-sort
+    feasible-requires
+    refused-requires-then-not-feasible
+    returns-then-not-sort-then-not-feasible
+    serialize-requires
+    returns-then-not-sort)

@@ -7,48 +7,48 @@ use Rattle.judge_edges.proofs.put_in.Statement.{statement}
 use Rattle.judge_edges.proofs.put_in.Tie as tie
 
 -- The waits are counted, from where they are tried.
-abbrev tried : tie.After-waits-clash → tie.After-count-waits
+abbrev tried : tie.After-waits_clash → tie.After-count_waits-count
 tried s = s.before.before
 
-count_waits_requires : tie.Need-count-waits-requires
-count_waits_requires c κs = search rules
+count_waits-count-requires : tie.Need-count_waits-count-requires
+count_waits-count-requires c κs = search rules
 
-waits_clash_requires : tie.Need-waits-clash-requires
-waits_clash_requires c κs = search rules
+waits_clash-requires : tie.Need-waits_clash-requires
+waits_clash-requires c κs = search rules
 
-refused_requires : tie.Need-refused-requires
-refused_requires c κs = search rules
+refused-requires : tie.Need-refused-requires
+refused-requires c κs = search rules
 
-returns : tie.Need-returns
-returns c =
+returns-then-waits_clash : tie.Need-returns-then-waits_clash
+returns-then-waits_clash c =
     let u = c.refused.ensures in
     let t = tried c.before.before.before in (
       u.1.sorts,
       λ w.
-          let count = t.count-waits.ensures.1 _ w.waits in
-          serial_refused _ _ _ _ _ _ _ (sym (c.before.before.before.waits-clash.ensures w count) ∙ c.before.before.if1.true) (ap verdict_of u.0) refl u.1.none,
+          let count = t.count_waits-count.ensures.1 _ w.waits in
+          serial_refused _ _ _ _ _ _ _ (sym (c.before.before.before.waits_clash.ensures w count) ∙ c.before.before.if-waits_clash.true) (ap verdict_of u.0) refl u.1.none,
     )
 
-waits_counted_requires : tie.Need-waits-counted-requires
-waits_counted_requires c κs = search rules
+waits_counted-requires : tie.Need-waits_counted-requires
+waits_counted-requires c κs = search rules
 
-returns_2 : tie.Need-returns-2
-returns_2 c =
-    let f = c.waits-counted.ensures in
+returns : tie.Need-returns
+returns-then-waits_clash c =
+    let f = c.waits_counted.ensures in
     let t = tried c.before.before in (
       f.sorts,
       λ w.
-          let count = t.count-waits.ensures.1 _ w.waits in
-          serial_found _ _ _ _ _ _ _ (sym (c.before.before.waits-clash.ensures w count) ∙ c.before.if1.false) (f.judges _ _ count) w.waits (f.counts ∙ count),
+          let count = t.count_waits-count.ensures.1 _ w.waits in
+          serial_found _ _ _ _ _ _ _ (sym (c.before.before.waits_clash.ensures w count) ∙ c.before.if-waits_clash.false) (f.judges _ _ count) w.waits (f.counts ∙ count),
     )
 
 pub put_in_spec : {M : Type 1} → statement M
 put_in_spec =
     tie.close
     (tie.spec
-    count_waits_requires
-    waits_clash_requires
-    refused_requires
-    returns
-    waits_counted_requires
-    returns_2)
+    count_waits-count-requires
+    waits_clash-requires
+    refused-requires
+    returns-then-waits_clash
+    waits_counted-requires
+    returns-then-waits_clash)

@@ -11,48 +11,48 @@ use Rattle.judge_edges.proofs.serialize.Tie as tie
 abbrev start : tie.After-reach → tie.Start
 start s = s.before.before.before.before
 
-abbrev reached : tie.After-is-inconsistent → tie.After-reach
+abbrev reached : tie.After-is_inconsistent → tie.After-reach
 reached s = s.before.before.before
 
-reach_requires : tie.Need-reach-requires
-reach_requires c κs = search rules
+reach-requires : tie.Need-reach-requires
+reach-requires c κs = search rules
 
-waits_counted_requires : tie.Need-waits-counted-requires
-waits_counted_requires c κs = search rules
+waits_counted-requires : tie.Need-waits_counted-requires
+waits_counted-requires c κs = search rules
 
-returns : tie.Need-returns
-returns c =
+returns-then-not-reach : tie.Need-returns-then-not-reach
+returns-then-not-reach c =
     let r = c.before.before in
     let p = (start r).requires in
-    let w = c.waits-counted.ensures in
-    (w.sorts, λ h. unweighed_posed _ _ _ _ _ _ _ h.sheet.shape (r.reach.ensures.0 h.anchors) p.0.some p.0.few h.sheet.entered h.anchors h.passes (r.reach.ensures.1 (not-true _ c.before.if1.true)) p.1.no_maps w.counts (λ e. w.judges _ _ (sym w.counts ∙ e)))
+    let w = c.waits_counted.ensures in
+    (w.sorts, λ h. unweighed_posed _ _ _ _ _ _ _ h.sheet.shape (r.reach.ensures.0 h.anchors) p.0.some p.0.few h.sheet.entered h.anchors h.passes (r.reach.ensures.1 (not-true _ c.before.if-not-reach.true)) p.1.no_maps w.counts (λ e. w.judges _ _ (sym w.counts ∙ e)))
 
-is_inconsistent_requires : tie.Need-is-inconsistent-requires
-is_inconsistent_requires c κs = search rules
+is_inconsistent-requires : tie.Need-is_inconsistent-requires
+is_inconsistent-requires c κs = search rules
 
-refused_requires : tie.Need-refused-requires
-refused_requires c κs = search rules
+refused-requires : tie.Need-refused-requires
+refused-requires c κs = search rules
 
-returns_2 : tie.Need-returns-2
-returns_2 c =
+returns-then-is_inconsistent : tie.Need-returns-then-is_inconsistent
+returns-then-not-reach-then-is_inconsistent c =
     let u = c.refused.ensures in
     let i = c.before.before in
     let r = reached i in (
       u.1.sorts,
       λ h.
           let R = r.reach.ensures.0 h.anchors in
-          let own = sym (i.is-inconsistent.ensures.1 _ (reached_reaches h.sheet.shape R)) ∙ c.before.if2.true in
+          let own = sym (i.is_inconsistent.ensures.1 _ (reached_reaches h.sheet.shape R)) ∙ c.before.if-is_inconsistent.true in
           unweighed_11 _ _ _ _ _ _ _ h.sheet.shape R own (ap verdict_of u.0) (start r).pre.1.no_maps u.1.none,
     )
 
-wait_maps_requires : tie.Need-wait-maps-requires
-wait_maps_requires c κs = search rules
+wait_maps-requires : tie.Need-wait_maps-requires
+wait_maps-requires c κs = search rules
 
-put_in_requires : tie.Need-put-in-requires
-put_in_requires c κs = search rules
+put_in-requires : tie.Need-put_in-requires
+put_in-requires c κs = search rules
 
-returns_3 : tie.Need-returns-3
-returns_3 c =
+returns : tie.Need-returns
+returns-then-not-reach c =
     let m = c.before.before in
     let i = m.before.before.before.before in
     let r = reached i in (
@@ -60,7 +60,7 @@ returns_3 c =
       λ h.
           let R = r.reach.ensures.0 h.anchors in
           let reaches = reached_reaches h.sheet.shape R in
-          let consistent = sym (i.is-inconsistent.ensures.1 _ reaches) ∙ m.before.before.before.if2.false in
+          let consistent = sym (i.is_inconsistent.ensures.1 _ reaches) ∙ m.before.before.before.if-is_inconsistent.false in
           let maps = m.wait_maps.ensures.1 _ (record { shape = h.sheet.shape; reaches = reaches; anchors = h.anchors }) in
           let some = (start r).pre.0.some in
           unweighed_rest _ _ _ _ _ _ _ h.sheet.shape R consistent (λ first.
@@ -71,12 +71,12 @@ pub serialize_spec : {M : Type 1} → statement M
 serialize_spec =
     tie.close
     (tie.spec
-    reach_requires
-    waits_counted_requires
-    returns
-    is_inconsistent_requires
-    refused_requires
-    returns_2
-    wait_maps_requires
-    put_in_requires
-    returns_3)
+    reach-requires
+    waits_counted-requires
+    returns-then-not-reach
+    is_inconsistent-requires
+    refused-requires
+    returns-then-not-reach-then-is_inconsistent
+    wait_maps-requires
+    put_in-requires
+    returns-then-not-reach)

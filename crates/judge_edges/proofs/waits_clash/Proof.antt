@@ -8,15 +8,15 @@ use Rattle.demands.proofs.Sheets.{unneeded_serializable}
 use Rattle.judge_edges.proofs.waits_clash.Statement.{statement}
 use Rattle.judge_edges.proofs.waits_clash.Tie as tie
 
-returns : tie.Need-returns
+returns-then-count-eq0 : tie.Need-returns-then-count-eq0
 unfolding needs_waits
-returns c w count = sym (unneeded_serializable _ w.well w.acyclic (ap (ltb 0) (sym count ∙ c.if1.true)))
+returns-then-count-eq0 c w count = sym (unneeded_serializable _ w.well w.acyclic (ap (ltb 0) (sym count ∙ c.if-count-eq0.true)))
 
-can_serialize_requires : tie.Need-can-serialize-requires
-can_serialize_requires c κs = search rules
+can_serialize-requires : tie.Need-can_serialize-requires
+can_serialize-requires c κs = search rules
 
-returns_2 : tie.Need-returns-2
-returns_2 c w count = ap not (c.can-serialize.ensures w) ∙ not-not _
+returns : tie.Need-returns
+returns-then-count-eq0 c w count = ap not (c.can_serialize.ensures w) ∙ not-not _
 
 pub waits_clash_spec : {M : Type 1} → statement M
-waits_clash_spec = tie.close (tie.spec returns can_serialize_requires returns_2)
+waits_clash_spec = tie.close (tie.spec returns-then-count-eq0 can_serialize-requires returns-then-count-eq0)

@@ -7,14 +7,14 @@ use Rattle.judge_edges.proofs.waits_verdict.Tie as tie
 use Rattle.judge_edges.proofs.waits_verdict.Reads as reads
 use Rattle.judge_edges.proofs.waits_verdict.Lts as lts
 
+returns-then-count-eq0 : tie.Need-returns-then-count-eq0
+returns-then-count-eq0 c n g e = sym (waits_none n g (sym e ∙ c.if-count-eq0.true) _)
+
+returns-then-allow : tie.Need-returns-then-allow
+returns-then-count-eq0-then-allow c n g e = rw c.if-allow.true (sym (waits_allowed n g (omega arith)))
+
 returns : tie.Need-returns
-returns c n g e = sym (waits_none n g (sym e ∙ c.if1.true) _)
-
-returns_2 : tie.Need-returns-2
-returns_2 c n g e = rw c.if2.true (sym (waits_allowed n g (omega arith)))
-
-returns_3 : tie.Need-returns-3
-returns_3 c n g e = rw c.if2.false (sym (waits_refused n g (omega arith)))
+returns-then-count-eq0 c n g e = rw c.if-allow.false (sym (waits_refused n g (omega arith)))
 
 pub waits_verdict_spec : {M : Type 1} → statement M
-waits_verdict_spec = tie.close (tie.spec returns returns_2 returns_3)
+waits_verdict_spec = tie.close (tie.spec returns-then-count-eq0 returns-then-count-eq0-then-allow returns-then-count-eq0)

@@ -12,37 +12,37 @@ use Rattle.judge_possible.proofs.is_impossible.Tie as tie
 abbrev said : Status → Bool
 said st = is_impossible (status_of st 0)
 
-judge_possible_requires : tie.Need-judge-possible-requires
-judge_possible_requires c κs = search rules
+judge_possible-requires : tie.Need-judge_possible-requires
+judge_possible-requires c κs = search rules
 
-enum_told : tie.Need-enum-told
-enum_told c = search rules
+enum_told-1 : tie.Need-enum_told-1
+enum_told-1 c = search rules
 
-enum_known_k : tie.Need-enum-known-k
-enum_known_k c = search rules
+enum_known-k : tie.Need-enum_known-k
+enum_known-k c = search rules
 
-means_impossible_requires : tie.Need-means-impossible-requires
-means_impossible_requires c κs = search rules
+means_impossible-requires : tie.Need-means_impossible-requires
+means_impossible-requires c κs = search rules
 
-returns : tie.Need-returns
+returns-in-Done : tie.Need-returns-in-Done
 unfolding is_impossible
-returns c shape entered least =
+returns-in-Done c shape entered least =
     let j = c.before.before.judge_possible in
-    sym (ap said c.enum_told.given.1) ∙ impossible_by _ _ least j.result (j.ensures shape entered)
+    sym (ap said c.enum_told-1.given.1) ∙ impossible_by _ _ least j.result (j.ensures shape entered)
 
-returns_2 : tie.Need-returns-2
-returns_2 c shape entered least =
+returns-in-Refused : tie.Need-returns-in-Refused
+returns-in-Done-in-Refused c shape entered least =
     let k = c.before.before in
     let j = k.before.before.judge_possible in
-    c.means-impossible.ensures ∙ sym (ap said k.k.given.1) ∙ impossible_by _ _ least j.result (j.ensures shape entered)
+    c.means_impossible.ensures ∙ sym (ap said k.k-1.given.1) ∙ impossible_by _ _ least j.result (j.ensures shape entered)
 
 pub is_impossible_spec : {M : Type 1} → statement M
 is_impossible_spec =
     tie.close
     (tie.spec
-    judge_possible_requires
-    enum_told
-    enum_known_k
-    means_impossible_requires
-    returns
-    returns_2)
+    judge_possible-requires
+    enum_told-1
+    enum_known-k
+    means_impossible-requires
+    returns-in-Done
+    returns-in-Done-in-Refused)

@@ -20,10 +20,10 @@ use Rattle.judge_possible.proofs.judge_possible.Tie as tie
 abbrev start : tie.After-sort → tie.Start
 start s = s.before.before.before.before.before
 
-abbrev passing : tie.After-feasible → tie.Else1
+abbrev passing : tie.After-feasible → tie.Else-not-sort
 passing f = f.before.before
 
-abbrev keeping : tie.After-waits-for-itself → tie.Else2
+abbrev keeping : tie.After-waits_for_itself → tie.Else-not-feasible
 keeping w = w.before.before.before
 
 -- The number of steps, the words and their edges.
@@ -38,53 +38,53 @@ Sheet s = Shape (count s) (members (graph (words s))) × Entered (count s) (memb
 
 -- What is known where 10 is tested: they pass 8, and the test is that of the definition.
 passed : (f : tie.After-feasible) → let s = (passing f).before in Sheet s → judge_order (count s) (graph (words s)) ≡ given tt
-passed f sheet = sorting_order _ _ ((passing f).before.sort.ensures sheet.0 sheet.1) (not-false _ (passing f).if1.false)
+passed f sheet = sorting_order _ _ ((passing f).before.sort.ensures sheet.0 sheet.1) (not-false _ (passing f).if-not-sort.false)
 
 settles : (f : tie.After-feasible) → let s = (passing f).before in Sheet s → f.feasible.result ≡ rests (count s) (words s)
 settles f sheet = f.feasible.ensures sheet.0 (all_rooted _ _ (passed f sheet) (start (passing f).before).requires.some sheet.0 sheet.1)
 
 -- And where 11 is: they pass 8 and 10.
-first : (w : tie.After-waits-for-itself) → let s = (passing (keeping w).before).before in Sheet s → judge_first (count s) (graph (words s)) ≡ given tt
-first w sheet = let f = (keeping w).before in first_done _ _ (passed f sheet) (sym (settles f sheet) ∙ not-false _ (keeping w).if2.false)
+first : (w : tie.After-waits_for_itself) → let s = (passing (keeping w).before).before in Sheet s → judge_first (count s) (graph (words s)) ≡ given tt
+first w sheet = let f = (keeping w).before in first_done _ _ (passed f sheet) (sym (settles f sheet) ∙ not-false _ (keeping w).if-not-feasible.false)
 
-waits : (w : tie.After-waits-for-itself) → let s = (passing (keeping w).before).before in Sheet s → w.waits-for-itself.result ≡ inconsistent (count s) (graph (words s))
+waits : (w : tie.After-waits_for_itself) → let s = (passing (keeping w).before).before in Sheet s → w.waits_for_itself.result ≡ inconsistent (count s) (graph (words s))
 waits w sheet =
     let f = (keeping w).before in
     let found = (passing f).before.sort.ensures sheet.0 sheet.1 in
-    w.waits-for-itself.ensures (record { shape = sheet.0; anchors = found.found (not-false _ (passing f).if1.left); passes = passed f sheet })
+    w.waits_for_itself.ensures (record { shape = sheet.0; anchors = found.found (not-false _ (passing f).if-not-sort.left); passes = passed f sheet })
 
-sort_requires : tie.Need-sort-requires
-sort_requires c κs = search rules
+sort-requires : tie.Need-sort-requires
+sort-requires c κs = search rules
 
-returns : tie.Need-returns
-returns c shape entered = sym (possible_refused _ _ 8 (first_refused _ _ _ (sorting_order _ _ (c.before.sort.ensures shape entered) (not-true _ c.if1.true))))
+returns-then-not-sort : tie.Need-returns-then-not-sort
+returns-then-not-sort c shape entered = sym (possible_refused _ _ 8 (first_refused _ _ _ (sorting_order _ _ (c.before.sort.ensures shape entered) (not-true _ c.if-not-sort.true))))
 
-feasible_requires : tie.Need-feasible-requires
-feasible_requires c κs = search rules
+feasible-requires : tie.Need-feasible-requires
+feasible-requires c κs = search rules
 
-returns_2 : tie.Need-returns-2
-returns_2 c shape entered =
+returns-then-not-feasible : tie.Need-returns-then-not-feasible
+returns-then-not-sort-then-not-feasible c shape entered =
     let f = c.before in
     let sheet : Sheet (passing f).before = (shape, entered) in
-    sym (possible_refused _ _ 10 (first_10 _ _ (passed f sheet) (sym (settles f sheet) ∙ not-true _ c.if2.true)))
+    sym (possible_refused _ _ 10 (first_10 _ _ (passed f sheet) (sym (settles f sheet) ∙ not-true _ c.if-not-feasible.true)))
 
-waits_for_itself_requires : tie.Need-waits-for-itself-requires
-waits_for_itself_requires c κs = search rules
+waits_for_itself-requires : tie.Need-waits_for_itself-requires
+waits_for_itself-requires c κs = search rules
 
-returns_3 : tie.Need-returns-3
-returns_3 c shape entered = let w = c.before in sym (possible_11 _ _ (first w (shape, entered)) (sym (waits w (shape, entered)) ∙ c.if3.true))
+returns-then-waits_for_itself : tie.Need-returns-then-waits_for_itself
+returns-then-not-sort-then-waits_for_itself c shape entered = let w = c.before in sym (possible_11 _ _ (first w (shape, entered)) (sym (waits w (shape, entered)) ∙ c.if-waits_for_itself.true))
 
-returns_4 : tie.Need-returns-4
-returns_4 c shape entered = let w = c.before in sym (possible_done _ _ (first w (shape, entered)) (sym (waits w (shape, entered)) ∙ c.if3.false))
+returns : tie.Need-returns
+returns-then-not-sort c shape entered = let w = c.before in sym (possible_done _ _ (first w (shape, entered)) (sym (waits w (shape, entered)) ∙ c.if-waits_for_itself.false))
 
 pub judge_possible_spec : {M : Type 1} → statement M
 judge_possible_spec =
     tie.close
     (tie.spec
-    sort_requires
-    returns
-    feasible_requires
-    returns_2
-    waits_for_itself_requires
-    returns_3
-    returns_4)
+    sort-requires
+    returns-then-not-sort
+    feasible-requires
+    returns-then-not-sort-then-not-feasible
+    waits_for_itself-requires
+    returns-then-not-sort-then-waits_for_itself
+    returns-then-not-sort)

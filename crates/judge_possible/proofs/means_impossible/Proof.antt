@@ -5,16 +5,16 @@ use borrow.Author.Rules.{rules}
 use Rattle.judge_possible.proofs.means_impossible.Statement.{statement}
 use Rattle.judge_possible.proofs.means_impossible.Tie as tie
 
-refusal_number_requires : tie.Need-refusal-number-requires
-refusal_number_requires c κs = search rules
+refusal_number-number-requires : tie.Need-refusal_number-number-requires
+refusal_number-number-requires c κs = search rules
 
-returns : tie.Need-returns
+returns-then-number-eq10 : tie.Need-returns-then-number-eq10
 unfolding is_impossible
-returns c = rw (← c.before.refusal-number.ensures.0, eq-eqb c.before.refusal-number.result 10 c.if1.true)
+returns-then-number-eq10 c = rw (← c.before.refusal_number-number.ensures.0, eq-eqb c.before.refusal_number-number.result 10 c.if-number-eq10.true)
 
-returns_2 : tie.Need-returns-2
+returns-else-number-eq10 : tie.Need-returns-else-number-eq10
 unfolding is_impossible
-returns_2 c = rw (← c.before.refusal-number.ensures.0, ne_eqb c.before.refusal-number.result 10 c.if1.false)
+returns-then-number-eq10-else-number-eq10 c = rw (← c.before.refusal_number-number.ensures.0, ne_eqb c.before.refusal_number-number.result 10 c.if-number-eq10.false)
 
 pub means_impossible_spec : {M : Type 1} → statement M
-means_impossible_spec = tie.close (tie.spec refusal_number_requires returns returns_2)
+means_impossible_spec = tie.close (tie.spec refusal_number-number-requires returns-then-number-eq10 returns-then-number-eq10-else-number-eq10)

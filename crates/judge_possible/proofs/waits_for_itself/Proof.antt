@@ -10,23 +10,23 @@ use Rattle.judge_possible.proofs.waits_for_itself.Tie as tie
 abbrev start : tie.After-reach → tie.Start
 start s = s.before.before.before.before
 
-abbrev reached : tie.After-is-inconsistent → tie.After-reach
+abbrev reached : tie.After-is_inconsistent → tie.After-reach
 reached s = s.before.before.before
 
-reach_requires : tie.Need-reach-requires
-reach_requires c κs = search rules
+reach-requires : tie.Need-reach-requires
+reach-requires c κs = search rules
+
+returns-then-not-reach : tie.Need-returns-then-not-reach
+returns-then-not-reach c p =
+    let r = c.before in
+    sym (stripped_consistent _ _ p.passes (start r).requires.some p.shape (r.reach.ensures.0 p.anchors) p.anchors (r.reach.ensures.1 (not-true _ c.if-not-reach.true)))
+
+is_inconsistent-requires : tie.Need-is_inconsistent-requires
+is_inconsistent-requires c κs = search rules
 
 returns : tie.Need-returns
-returns c p =
-    let r = c.before in
-    sym (stripped_consistent _ _ p.passes (start r).requires.some p.shape (r.reach.ensures.0 p.anchors) p.anchors (r.reach.ensures.1 (not-true _ c.if1.true)))
-
-is_inconsistent_requires : tie.Need-is-inconsistent-requires
-is_inconsistent_requires c κs = search rules
-
-returns_2 : tie.Need-returns-2
-returns_2 c p = c.is-inconsistent.ensures.1 _ (reached_reaches p.shape ((reached c).reach.ensures.0 p.anchors))
+returns-then-not-reach c p = c.is_inconsistent.ensures.1 _ (reached_reaches p.shape ((reached c).reach.ensures.0 p.anchors))
 
 pub waits_for_itself_spec : {M : Type 1} → statement M
 waits_for_itself_spec =
-    tie.close (tie.spec reach_requires returns is_inconsistent_requires returns_2)
+    tie.close (tie.spec reach-requires returns-then-not-reach is_inconsistent-requires returns-then-not-reach)

@@ -9,42 +9,42 @@ use Rattle.judge_serial.proofs.can_serialize.Statement.{statement}
 use Rattle.judge_serial.proofs.can_serialize.Tie as tie
 
 -- The start, from where it was seen whether a return is late.
-abbrev start : tie.After-has-late → tie.Start
+abbrev start : tie.After-has_late → tie.Start
 start s = s.before.before.before
 
-abbrev least : tie.After-has-late → ℕ → ℕ
+abbrev least : tie.After-has_late → ℕ → ℕ
 least s = leasts_in (start s).args.leasts.now
 
-has_late_requires : tie.Need-has-late-requires
-has_late_requires c κs = search rules
+has_late-requires : tie.Need-has_late-requires
+has_late-requires c κs = search rules
+
+returns-then-not-has_late : tie.Need-returns-then-not-has_late
+returns-then-not-has_late c w = timely_passes (least c.before) (start c.before).requires.few w.well w.acyclic (sym c.before.has_late.ensures ∙ not-true _ c.if-not-has_late.true)
+
+closes_circle-requires : tie.Need-closes_circle-requires
+closes_circle-requires c κs = search rules
+
+returns-then-closes_circle : tie.Need-returns-then-closes_circle
+returns-then-not-has_late-then-closes_circle c w =
+    let s = c.before.before.before in
+    circle_refused (least s) (start s).requires.few w.well (sym (c.before.closes_circle.ensures (least s) w.well.shape w.waits) ∙ c.if-closes_circle.true)
+
+leaves_times-requires : tie.Need-leaves_times-requires
+leaves_times-requires c κs = search rules
 
 returns : tie.Need-returns
-returns c w = timely_passes (least c.before) (start c.before).requires.few w.well w.acyclic (sym c.before.has-late.ensures ∙ not-true _ c.if1.true)
-
-closes_circle_requires : tie.Need-closes-circle-requires
-closes_circle_requires c κs = search rules
-
-returns_2 : tie.Need-returns-2
-returns_2 c w =
-    let s = c.before.before.before in
-    circle_refused (least s) (start s).requires.few w.well (sym (c.before.closes_circle.ensures (least s) w.well.shape w.waits) ∙ c.if2.true)
-
-leaves_times_requires : tie.Need-leaves-times-requires
-leaves_times_requires c κs = search rules
-
-returns_3 : tie.Need-returns-3
-returns_3 c w =
+returns-then-not-has_late c w =
     let s = c.before.before.before.before in
-    let no_circle = sym (c.before.before.closes_circle.ensures (least s) w.well.shape w.waits) ∙ c.before.if2.false in
-    c.leaves-times.ensures w.well w.gains w.leasts w.waits no_circle ∙ times_refused (least s) (start s).requires.few w.well no_circle
+    let no_circle = sym (c.before.before.closes_circle.ensures (least s) w.well.shape w.waits) ∙ c.before.if-closes_circle.false in
+    c.leaves_times.ensures w.well w.gains w.leasts w.waits no_circle ∙ times_refused (least s) (start s).requires.few w.well no_circle
 
 pub can_serialize_spec : {M : Type 1} → statement M
 can_serialize_spec =
     tie.close
     (tie.spec
-    has_late_requires
-    returns
-    closes_circle_requires
-    returns_2
-    leaves_times_requires
-    returns_3)
+    has_late-requires
+    returns-then-not-has_late
+    closes_circle-requires
+    returns-then-not-has_late-then-closes_circle
+    leaves_times-requires
+    returns-then-not-has_late)

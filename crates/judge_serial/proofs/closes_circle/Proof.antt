@@ -15,19 +15,19 @@ use borrow.Author.Rules.{rules}
 use Rattle.judge_serial.proofs.closes_circle.Statement.{statement}
 use Rattle.judge_serial.proofs.closes_circle.Tie as tie
 
-waited_rows_requires : tie.Need-waited-rows-requires
-waited_rows_requires c κs = search rules
+waited_rows-rows-requires : tie.Need-waited_rows-rows-requires
+waited_rows-rows-requires c κs = search rules
 
-arrange_requires : tie.Need-arrange-requires
-arrange_requires c κs = search rules
+arrange-requires : tie.Need-arrange-requires
+arrange-requires c κs = search rules
 
 returns : tie.Need-returns
 returns c least shape waits =
     let s = c.before.before.before in
     let b = s.before.before in
-    let rows = s.waited-rows in
+    let rows = s.waited_rows-rows in
     sym (arranged_circle (waited_predecessors least b.requires shape rows.result rows.ensures.0 (λ v u. rows.ensures.1 v u ∙ ap (λ (m : List ℕ). ltb v b.args.n && (any (precedes v u) (graph b.args.es.now) || row_bit m v u)) waits)) (serialized_shape shape least) c.arrange.ensures)
 
 pub closes_circle_spec : {M : Type 1} → statement M
 closes_circle_spec =
-    tie.close (tie.spec waited_rows_requires arrange_requires returns)
+    tie.close (tie.spec waited_rows-rows-requires arrange-requires returns)

@@ -8,53 +8,53 @@ use Rattle.judge_serial.proofs.Late.{Seen, seen_all, seen_more, seen_none}
 use Rattle.judge_serial.proofs.has_late.Statement.{statement}
 use Rattle.judge_serial.proofs.has_late.Tie as tie
 
-abbrev invariant-loop : tie.invariant-loop
-invariant-loop es seen₀ k₀ seen k = (k ≤ length es) × Seen es k seen
+abbrev invariant-loop-k : tie.invariant-loop-k
+invariant-loop-k es seen₀ k₀ seen k = (k ≤ length es) × Seen es k seen
 
-abbrev decreases-loop : tie.decreases-loop
-decreases-loop es seen₀ k₀ seen k = length es - k
+abbrev decreases-loop-k : tie.decreases-loop-k
+decreases-loop-k es seen₀ k₀ seen k = length es - k
 
-loop_holds : tie.Need-loop-init invariant-loop decreases-loop
-loop_holds c = (omega arith, seen_none c.before.args.es.now)
+loop-k-init : tie.Need-loop-k-init invariant-loop-k decreases-loop-k
+loop-k-init c = (omega arith, seen_none c.before.args.es.now)
 
-mul_union : tie.Need-overflow-mul-union invariant-loop decreases-loop
-mul_union c = search rules
+offset_bounds-es-k : tie.Need-offset_bounds-es-k invariant-loop-k decreases-loop-k
+offset_bounds-es-k c = search rules
 
-shared_slice_read_union : tie.Need-shared-slice-read-union invariant-loop decreases-loop
-shared_slice_read_union c = search rules
+bounds-es-k : tie.Need-bounds-es-k invariant-loop-k decreases-loop-k
+bounds-es-k c = search rules
 
-union_requires : tie.Need-union-requires invariant-loop decreases-loop
-union_requires c κs = search rules
+union-seen-requires : tie.Need-union-seen-requires invariant-loop-k decreases-loop-k
+union-seen-requires c κs = search rules
 
-add_k : tie.Need-overflow-add-k invariant-loop decreases-loop
-add_k c = search rules
+overflow_add-k : tie.Need-overflow_add-k invariant-loop-k decreases-loop-k
+overflow_add-k c = search rules
 
-loop_less : tie.Need-loop-smaller invariant-loop decreases-loop
-loop_less c = search rules
+loop-k-smaller : tie.Need-loop-k-smaller invariant-loop-k decreases-loop-k
+loop-k-smaller c = search rules
 
-loop_again : tie.Need-loop-preserved invariant-loop decreases-loop
-loop_again c =
+loop-k-preserved : tie.Need-loop-k-preserved invariant-loop-k decreases-loop-k
+loop-k-preserved c =
     let s = c.before.before.before in
-    (search rules, seen_more s.before.before.args.es.now s.loop.k _ _ (search rules) s.loop.invariant.1 c.union.ensures)
+    (search rules, seen_more s.before.before.args.es.now s.loop-k.k _ _ (search rules) s.loop-k.invariant.1 c.union-seen.ensures)
 
-is_late_requires : tie.Need-is-late-requires invariant-loop decreases-loop
-is_late_requires c κs = search rules
+is_late-requires : tie.Need-is_late-requires invariant-loop-k decreases-loop-k
+is_late-requires c κs = search rules
 
-returns : tie.Need-returns invariant-loop decreases-loop
-returns c = c.is-late.ensures ∙ seen_all _ _ _ c.before.loop-test.false c.before.before.loop.invariant.1
+returns : tie.Need-returns invariant-loop-k decreases-loop-k
+returns c = c.is_late.ensures ∙ seen_all _ _ _ c.before.loop-k-test.false c.before.before.loop-k.invariant.1
 
 pub has_late_spec : {M : Type 1} → statement M
 has_late_spec =
     tie.close
     (tie.spec
-    invariant-loop
-    decreases-loop
-    loop_holds
-    mul_union
-    shared_slice_read_union
-    union_requires
-    add_k
-    loop_less
-    loop_again
-    is_late_requires
+    invariant-loop-k
+    decreases-loop-k
+    loop-k-init
+    offset_bounds-es-k
+    bounds-es-k
+    union-seen-requires
+    overflow_add-k
+    loop-k-smaller
+    loop-k-preserved
+    is_late-requires
     returns)

@@ -26,79 +26,79 @@ use Rattle.judge_serial.proofs.leaves_times.Statement.{statement}
 use Rattle.judge_serial.proofs.leaves_times.Tie as tie
 
 -- Places, from where 10 is known not to apply: the walks, and from them the start.
-abbrev walked : tie.Else1 → tie.After-walks-if-possible
+abbrev walked : tie.Else-not-walks_if_possible → tie.After-walks_if_possible
 walked s = s.before.before
 
-abbrev start : tie.After-walks-if-possible → tie.Start
+abbrev start : tie.After-walks_if_possible → tie.Start
 start s = s.before.before.before.before.before.before
 
 -- What the table then says, and that its first column holds the source's offsets over the edges and the waits.
-abbrev table : tie.Else1 → List (List ℕ)
-table s = said (walked s).walks-if-possible.new.0
+abbrev table : tie.Else-not-walks_if_possible → List (List ℕ)
+table s = said (walked s).walks_if_possible.new.d-1
 
-abbrev steps : tie.Else1 → ℕ
+abbrev steps : tie.Else-not-walks_if_possible → ℕ
 steps s = (start (walked s)).args.n
 
-abbrev edges : tie.Else1 → List Edge
+abbrev edges : tie.Else-not-walks_if_possible → List Edge
 edges s = graph (start (walked s)).args.es.now
 
-abbrev least : tie.Else1 → ℕ → ℕ
+abbrev least : tie.Else-not-walks_if_possible → ℕ → ℕ
 least s = leasts_in (start (walked s)).args.leasts.now
 
-offsets : (s : tie.Else1) → Well (steps s) (members (edges s)) → SheetLeasts (least s) (members (edges s)) → (start (walked s)).args.maps.now ≡ wait_maps (steps s) (edges s) → Offsets (steps s) (serialized (steps s) (least s) (edges s)) (replicate 64 1) (table s)
+offsets : (s : tie.Else-not-walks_if_possible) → Well (steps s) (members (edges s)) → SheetLeasts (least s) (members (edges s)) → (start (walked s)).args.maps.now ≡ wait_maps (steps s) (edges s) → Offsets (steps s) (serialized (steps s) (least s) (edges s)) (replicate 64 1) (table s)
 offsets s well leasts waits =
-    let w = (walked s).walks-if-possible in
+    let w = (walked s).walks_if_possible in
     let few = (start (walked s)).requires.few in
     walks_offsets (least s) few well.shape waits (replicate 64 1) (table s)
-    (λ within. first_column w.last.1.0 w.last.0 few (w.ensures.first 0 well.some (sole_source 0 (omega arith))) (w.ensures.cells (not-false _ s.if1.false) within leasts))
+    (λ within. first_column w.last.1.0 w.last.0 few (w.ensures.first 0 well.some (sole_source 0 (omega arith))) (w.ensures.cells (not-false _ s.if-not-walks_if_possible.false) within leasts))
 
 -- Whether it says nothing of the source itself.
-none_told : (s : tie.After-is-none) → s.is_none.result ≡ eqb (entry (table s.before.before) 0 0) 0
+none_told : (s : tie.After-is_none) → s.is_none.result ≡ eqb (entry (table s.before.before) 0 0) 0
 none_told s =
     let w = walked s.before.before in
-    let square : Square 64 w.walks-if-possible.last.0 = w.walks-if-possible.ensures.square in
-    rw (read_says w.walks-if-possible.last.0 square {v = 0} {k = 0} (search rules) (search rules) s.before.is-none-arg.given) at s.is_none.ensures
+    let square : Square 64 w.walks_if_possible.last.0 = w.walks_if_possible.ensures.square in
+    rw (read_says w.walks_if_possible.last.0 square {v = 0} {k = 0} (search rules) (search rules) s.before.is_none-arg-1.given) at s.is_none.ensures
 
-slice_aggregate_walks_if_possible : tie.Need-slice-aggregate-walks-if-possible
-slice_aggregate_walks_if_possible c = search rules
+slice_bounds-walks_if_possible-end : tie.Need-slice_bounds-walks_if_possible-end
+slice_bounds-walks_if_possible-end c = search rules
 
-walks_if_possible_requires : tie.Need-walks-if-possible-requires
-walks_if_possible_requires c κs =
+walks_if_possible-requires : tie.Need-walks_if_possible-requires
+walks_if_possible-requires c κs =
     let s = c.before.before.before.before.before in
     let p = s.requires in
     record { given = p; inside = search rules; bare = empty_found 64; blank = blank_found; ends = λ k b. omega (arith, ends_below_64 s.args.es.now k b) }
 
-returns : tie.Need-returns
-returns c = λ well gains leasts waits no_circle.
+returns-then-not-walks_if_possible : tie.Need-returns-then-not-walks_if_possible
+returns-then-not-walks_if_possible c = λ well gains leasts waits no_circle.
     let w = c.before.before in
     let few = (start w).requires.few in
-    let told = w.walks-if-possible.ensures.told well.shape well.rooted gains leasts (λ v b. sole_source v (omega arith)) in
-    absurd (both_ways (told ∙ (stable_nonpositive_iff well.some well.shape well.rooted).1 well.never) (not-true _ c.if1.true))
+    let told = w.walks_if_possible.ensures.told well.shape well.rooted gains leasts (λ v b. sole_source v (omega arith)) in
+    absurd (both_ways (told ∙ (stable_nonpositive_iff well.some well.shape well.rooted).1 well.never) (not-true _ c.if-not-walks_if_possible.true))
 
-index_1_is_none : tie.Need-bounds-1-is-none
-index_1_is_none c = search rules
+bounds-d-0 : tie.Need-bounds-d-0
+bounds-d-0 c = search rules
 
-index_2_is_none : tie.Need-bounds-2-is-none
-index_2_is_none c = search rules
+bounds-d-0-else-not-walks_if_possible : tie.Need-bounds-d-0-else-not-walks_if_possible
+bounds-d-0-else-not-walks_if_possible c = search rules
 
-is_none_requires : tie.Need-is-none-requires
-is_none_requires c κs = search rules
+is_none-requires : tie.Need-is_none-requires
+is_none-requires c κs = search rules
 
-returns_2 : tie.Need-returns-2
-returns_2 c = λ well gains leasts waits no_circle.
+returns-then-is_none : tie.Need-returns-then-is_none
+returns-then-not-walks_if_possible-then-is_none c = λ well gains leasts waits no_circle.
     let e = c.before.before.before in
-    let none = eqb-true (entry (table e) 0 0) 0 (sym (none_told c.before) ∙ c.if2.true) in
+    let none = eqb-true (entry (table e) 0 0) 0 (sym (none_told c.before) ∙ c.if-is_none.true) in
     untried_infeasible (least e) (start (walked e)).requires.few well gains leasts.leasts no_circle (table e) (offsets e well leasts waits) (λ T. omega (arith, T.source, none))
 
-settled_requires : tie.Need-settled-requires
-settled_requires c κs = search rules
+settled-requires : tie.Need-settled-requires
+settled-requires c κs = search rules
 
-returns_3 : tie.Need-returns-3
-returns_3 c = λ well gains leasts waits no_circle.
+returns : tie.Need-returns
+returns-then-not-walks_if_possible c = λ well gains leasts waits no_circle.
     let n = c.before.before.before in
     let e = n.before.before in
     let few = (start (walked e)).requires.few in
-    let some = eqb-false (entry (table e) 0 0) 0 (sym (none_told n) ∙ c.before.before.if2.false) in
+    let some = eqb-false (entry (table e) 0 0) 0 (sym (none_told n) ∙ c.before.before.if-is_none.false) in
     c.settled.ensures (maps_within (least e) few well.shape waits)
     ∙ ap (λ (l : List Edge). all (handed_on (table e)) l) (edges_waited (least e) few well.shape waits)
     ∙ settled_feasible (least e) few well gains leasts.leasts no_circle (table e) (offsets e well leasts waits) (omega (arith, some))
@@ -107,12 +107,12 @@ pub leaves_times_spec : {M : Type 1} → statement M
 leaves_times_spec =
     tie.close
     (tie.spec
-    slice_aggregate_walks_if_possible
-    walks_if_possible_requires
-    returns
-    index_1_is_none
-    index_2_is_none
-    is_none_requires
-    returns_2
-    settled_requires
-    returns_3)
+    slice_bounds-walks_if_possible-end
+    walks_if_possible-requires
+    returns-then-not-walks_if_possible
+    bounds-d-0
+    bounds-d-0-else-not-walks_if_possible
+    is_none-requires
+    returns-then-not-walks_if_possible-then-is_none
+    settled-requires
+    returns-then-not-walks_if_possible)

@@ -15,80 +15,80 @@ use Rattle.judge_serial.proofs.waited_rows.Tie as tie
 abbrev both : List ℕ → List ℕ → ℕ → ℕ → Bool
 both before maps w k = row_bit before w k || row_bit maps w k
 
-abbrev invariant-loop : tie.invariant-loop
-invariant-loop es maps n before rows₀ v₀ rows v = (v ≤ n) × Made (both before maps) v rows
+abbrev invariant-loop-v : tie.invariant-loop-v
+invariant-loop-v es maps n before rows₀ v₀ rows v = (v ≤ n) × Made (both before maps) v rows
 
-abbrev decreases-loop : tie.decreases-loop
-decreases-loop es maps n before rows₀ v₀ rows v = n - v
+abbrev decreases-loop-v : tie.decreases-loop-v
+decreases-loop-v es maps n before rows₀ v₀ rows v = n - v
 
 -- Places: the start, from where the predecessors are known, and those.
-abbrev start : tie.After-predecessors invariant-loop decreases-loop → tie.Start invariant-loop decreases-loop
+abbrev start : tie.After-predecessors invariant-loop-v decreases-loop-v → tie.Start invariant-loop-v decreases-loop-v
 start s = s.before.before.before.before
 
-abbrev direct : tie.After-predecessors invariant-loop decreases-loop → List ℕ
-direct s = s.predecessors.new.1.0
+abbrev direct : tie.After-predecessors invariant-loop-v decreases-loop-v → List ℕ
+direct s = s.predecessors.new.before
 
-predecessors_requires : tie.Need-predecessors-requires invariant-loop decreases-loop
-predecessors_requires c κs = search rules
+predecessors-requires : tie.Need-predecessors-requires invariant-loop-v decreases-loop-v
+predecessors-requires c κs = search rules
 
-loop_holds : tie.Need-loop-init invariant-loop decreases-loop
-loop_holds c = (omega arith, made_no_row (both (direct c) (start c).args.maps.now))
+loop-v-init : tie.Need-loop-v-init invariant-loop-v decreases-loop-v
+loop-v-init c = (omega arith, made_no_row (both (direct c) (start c).args.maps.now))
 
-mul_union : tie.Need-overflow-mul-union invariant-loop decreases-loop
-mul_union c = search rules
+offset_bounds-before-v : tie.Need-offset_bounds-before-v invariant-loop-v decreases-loop-v
+offset_bounds-before-v c = search rules
 
-array_read_union : tie.Need-array-read-union invariant-loop decreases-loop
-array_read_union c = search rules
+bounds-before-v : tie.Need-bounds-before-v invariant-loop-v decreases-loop-v
+bounds-before-v c = search rules
 
-mul_union_2 : tie.Need-overflow-mul-union-2 invariant-loop decreases-loop
-mul_union_2 c = search rules
+offset_bounds-maps-v : tie.Need-offset_bounds-maps-v invariant-loop-v decreases-loop-v
+offset_bounds-maps-v c = search rules
 
-element_copy_out_union : tie.Need-element-copy-out-union invariant-loop decreases-loop
-element_copy_out_union c = search rules
+bounds-maps-v : tie.Need-bounds-maps-v invariant-loop-v decreases-loop-v
+bounds-maps-v c = search rules
 
-union_requires : tie.Need-union-requires invariant-loop decreases-loop
-union_requires c κs = search rules
+union-row-requires : tie.Need-union-row-requires invariant-loop-v decreases-loop-v
+union-row-requires c κs = search rules
 
-mul_rows : tie.Need-overflow-mul-rows invariant-loop decreases-loop
-mul_rows c = search rules
+offset_bounds-rows-v : tie.Need-offset_bounds-rows-v invariant-loop-v decreases-loop-v
+offset_bounds-rows-v c = search rules
 
-array_write_rows : tie.Need-array-write-rows invariant-loop decreases-loop
-array_write_rows c = search rules
+bounds-rows-v : tie.Need-bounds-rows-v invariant-loop-v decreases-loop-v
+bounds-rows-v c = search rules
 
-add_v : tie.Need-overflow-add-v invariant-loop decreases-loop
-add_v c = search rules
+overflow_add-v : tie.Need-overflow_add-v invariant-loop-v decreases-loop-v
+overflow_add-v c = search rules
 
-loop_less : tie.Need-loop-smaller invariant-loop decreases-loop
-loop_less c = search rules
+loop-v-smaller : tie.Need-loop-v-smaller invariant-loop-v decreases-loop-v
+loop-v-smaller c = search rules
 
-loop_again : tie.Need-loop-preserved invariant-loop decreases-loop
-loop_again c =
+loop-v-preserved : tie.Need-loop-v-preserved invariant-loop-v decreases-loop-v
+loop-v-preserved c =
     let t = c.before.before.before in
-    (omega arith, made_row (both (direct t.before) (start t.before).args.maps.now) c.union.result (search rules) t.loop.invariant.1 (λ k. c.union.ensures k))
+    (omega arith, made_row (both (direct t.before) (start t.before).args.maps.now) c.union-row.result (search rules) t.loop-v.invariant.1 (λ k. c.union-row.ensures k))
 
-returns : tie.Need-returns invariant-loop decreases-loop
+returns : tie.Need-returns invariant-loop-v decreases-loop-v
 returns c =
     let t = c.before in
     let p = t.before in
-    let e : t.loop.v ≡ (start p).args.n = omega arith in
-    (t.loop.invariant.1.long, λ v u. t.loop.invariant.1.bits v u ∙ ap₂ (λ (x : ℕ) (b : Bool). ltb v x && (b || row_bit (start p).args.maps.now v u)) e (p.predecessors.ensures.0.bits v u))
+    let e : t.loop-v.v ≡ (start p).args.n = omega arith in
+    (t.loop-v.invariant.1.long, λ v u. t.loop-v.invariant.1.bits v u ∙ ap₂ (λ (x : ℕ) (b : Bool). ltb v x && (b || row_bit (start p).args.maps.now v u)) e (p.predecessors.ensures.0.bits v u))
 
 pub waited_rows_spec : {M : Type 1} → statement M
 waited_rows_spec =
     tie.close
     (tie.spec
-    invariant-loop
-    decreases-loop
-    predecessors_requires
-    loop_holds
-    mul_union
-    array_read_union
-    mul_union_2
-    element_copy_out_union
-    union_requires
-    mul_rows
-    array_write_rows
-    add_v
-    loop_less
-    loop_again
+    invariant-loop-v
+    decreases-loop-v
+    predecessors-requires
+    loop-v-init
+    offset_bounds-before-v
+    bounds-before-v
+    offset_bounds-maps-v
+    bounds-maps-v
+    union-row-requires
+    offset_bounds-rows-v
+    bounds-rows-v
+    overflow_add-v
+    loop-v-smaller
+    loop-v-preserved
     returns)

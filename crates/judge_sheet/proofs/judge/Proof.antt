@@ -3,17 +3,17 @@ use borrow.Author.Rules.{rules}
 use Rattle.judge_sheet.proofs.judge.Statement.{statement}
 use Rattle.judge_sheet.proofs.judge.Tie as tie
 
-slice_aggregate_answer : tie.Need-slice-aggregate-answer
-slice_aggregate_answer c = search rules
+slice_bounds-answer-end : tie.Need-slice_bounds-answer-end
+slice_bounds-answer-end c = search rules
 
-slice_aggregate_answer_2 : tie.Need-slice-aggregate-answer-2
-slice_aggregate_answer_2 c = search rules
+slice_bounds-answer-end-2 : tie.Need-slice_bounds-answer-end-2
+slice_bounds-answer-end-2 c = search rules
 
-answer_requires : tie.Need-answer-requires
-answer_requires c κs = search rules
+answer-found-requires : tie.Need-answer-found-requires
+answer-found-requires c κs = search rules
 
 returns : tie.Need-returns
-returns c = record { verdict = c.before.answer.ensures.verdict }
+returns c = record { verdict = c.before.answer-found.ensures.verdict }
 
 pub judge_spec : {M : Type 1} → statement M
-judge_spec = tie.close (tie.spec slice_aggregate_answer slice_aggregate_answer_2 answer_requires returns)
+judge_spec = tie.close (tie.spec slice_bounds-answer-end slice_bounds-answer-end-2 answer-found-requires returns)

@@ -18,63 +18,63 @@ members_of maps k = length (select_below (test_bit (get_or maps k 0)) 64)
 sum_small : (maps : List ℕ) (i : ℕ) → sum_below (members_of maps) i ≤ 64 * i
 sum_small maps i = sum_below_bound (members_of maps) 64 i (λ k. select_length_bound (test_bit (get_or maps k 0)) 64)
 
-abbrev invariant-loop : tie.invariant-loop
-invariant-loop maps n total₀ i₀ total i = (i ≤ n) × (total ≡ sum_below (members_of maps) i)
+abbrev invariant-loop-i : tie.invariant-loop-i
+invariant-loop-i maps n total₀ i₀ total i = (i ≤ n) × (total ≡ sum_below (members_of maps) i)
 
-abbrev decreases-loop : tie.decreases-loop
-decreases-loop maps n total₀ i₀ total i = n - i
+abbrev decreases-loop-i : tie.decreases-loop-i
+decreases-loop-i maps n total₀ i₀ total i = n - i
 
-loop_holds : tie.Need-loop-init invariant-loop decreases-loop
-loop_holds c = (omega arith, sym (sum_below_none (members_of c.args.maps.now)))
+loop-i-init : tie.Need-loop-i-init invariant-loop-i decreases-loop-i
+loop-i-init c = (omega arith, sym (sum_below_none (members_of c.args.maps.now)))
 
-mul_count : tie.Need-overflow-mul-count invariant-loop decreases-loop
-mul_count c = search rules
+offset_bounds-maps-i : tie.Need-offset_bounds-maps-i invariant-loop-i decreases-loop-i
+offset_bounds-maps-i c = search rules
 
-element_copy_out_count : tie.Need-element-copy-out-count invariant-loop decreases-loop
-element_copy_out_count c = search rules
+bounds-maps-i : tie.Need-bounds-maps-i invariant-loop-i decreases-loop-i
+bounds-maps-i c = search rules
 
-count_requires : tie.Need-count-requires invariant-loop decreases-loop
-count_requires c κs = search rules
+count-total-requires : tie.Need-count-total-requires invariant-loop-i decreases-loop-i
+count-total-requires c κs = search rules
 
-add_total : tie.Need-overflow-add-total invariant-loop decreases-loop
-add_total c =
+overflow_add-total : tie.Need-overflow_add-total invariant-loop-i decreases-loop-i
+overflow_add-total c =
     let s = c.before.before.before in
     let maps = s.before.args.maps.now in
-    omega (arith, s.loop.invariant.1, sum_small maps s.loop.i, c.count.ensures, select_length_bound (test_bit (get_or maps s.loop.i 0)) 64)
+    omega (arith, s.loop-i.invariant.1, sum_small maps s.loop-i.i, c.count-total.ensures, select_length_bound (test_bit (get_or maps s.loop-i.i 0)) 64)
 
-add_i : tie.Need-overflow-add-i invariant-loop decreases-loop
-add_i c = search rules
+overflow_add-i : tie.Need-overflow_add-i invariant-loop-i decreases-loop-i
+overflow_add-i c = search rules
 
-loop_less : tie.Need-loop-smaller invariant-loop decreases-loop
-loop_less c = search rules
+loop-i-smaller : tie.Need-loop-i-smaller invariant-loop-i decreases-loop-i
+loop-i-smaller c = search rules
 
-loop_again : tie.Need-loop-preserved invariant-loop decreases-loop
-loop_again c =
+loop-i-preserved : tie.Need-loop-i-preserved invariant-loop-i decreases-loop-i
+loop-i-preserved c =
     let s = c.before.before.before in
     let maps = s.before.args.maps.now in
-    (omega arith, omega (arith, s.loop.invariant.1, c.count.ensures, sum_below_more (members_of maps) s.loop.i))
+    (omega arith, omega (arith, s.loop-i.invariant.1, c.count-total.ensures, sum_below_more (members_of maps) s.loop-i.i))
 
-returns : tie.Need-returns invariant-loop decreases-loop
+returns : tie.Need-returns invariant-loop-i decreases-loop-i
 returns c =
     let s = c.before in
-    let e : s.loop.i ≡ s.before.args.n = omega arith in
+    let e : s.loop-i.i ≡ s.before.args.n = omega arith in
     let few : s.before.args.n ≤ 64 = search rules in
     let maps = s.before.args.maps.now in
-    let total = s.loop.invariant.1 ∙ ap (sum_below (members_of maps)) e in
+    let total = s.loop-i.invariant.1 ∙ ap (sum_below (members_of maps)) e in
     (total ∙ sym (flatMap_length (λ i. select_below (test_bit (get_or maps i 0)) 64) s.before.args.n), λ g h. total ∙ count_by s.before.args.n g s.before.args.maps.now few h)
 
 pub count_waits_spec : {M : Type 1} → statement M
 count_waits_spec =
     tie.close
     (tie.spec
-    invariant-loop
-    decreases-loop
-    loop_holds
-    mul_count
-    element_copy_out_count
-    count_requires
-    add_total
-    add_i
-    loop_less
-    loop_again
+    invariant-loop-i
+    decreases-loop-i
+    loop-i-init
+    offset_bounds-maps-i
+    bounds-maps-i
+    count-total-requires
+    overflow_add-total
+    overflow_add-i
+    loop-i-smaller
+    loop-i-preserved
     returns)

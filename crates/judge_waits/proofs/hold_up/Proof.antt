@@ -6,76 +6,76 @@ use Rattle.judge_waits.proofs.hold_up.Statement.{statement}
 use Rattle.judge_waits.proofs.hold_up.Tie as tie
 
 -- Places: from where the map is made, those that may use the edge; from there its ends; from there the start.
-abbrev users : tie.After-union → tie.After-usable-by
+abbrev users : tie.After-union-map → tie.After-usable_by-users
 users s = s.before.before.before.before
 
-abbrev ends : tie.After-usable-by → tie.After-edge-to
+abbrev ends : tie.After-usable_by-users → tie.After-edge_to-i
 ends s = s.before.before
 
-abbrev start : tie.After-edge-to → tie.Start
+abbrev start : tie.After-edge_to-i → tie.Start
 start s = s.before.before
 
-edge_from_requires : tie.Need-edge-from-requires
-edge_from_requires c κs = search rules
+edge_from-j-requires : tie.Need-edge_from-j-requires
+edge_from-j-requires c κs = search rules
 
-edge_to_requires : tie.Need-edge-to-requires
-edge_to_requires c κs = search rules
+edge_to-i-requires : tie.Need-edge_to-i-requires
+edge_to-i-requires c κs = search rules
 
-mul_usable_by : tie.Need-overflow-mul-usable-by
-mul_usable_by c = search rules
+offset_bounds-reach-j : tie.Need-offset_bounds-reach-j
+offset_bounds-reach-j c = search rules
 
-element_copy_out_usable_by : tie.Need-element-copy-out-usable-by
-element_copy_out_usable_by c = search rules
+bounds-reach-j : tie.Need-bounds-reach-j
+bounds-reach-j c = search rules
 
-usable_by_requires : tie.Need-usable-by-requires
-usable_by_requires c κs = search rules
+usable_by-users-requires : tie.Need-usable_by-users-requires
+usable_by-users-requires c κs = search rules
 
-mul_minus : tie.Need-overflow-mul-minus
-mul_minus c = search rules
+offset_bounds-sets-i : tie.Need-offset_bounds-sets-i
+offset_bounds-sets-i c = search rules
 
-element_copy_out_minus : tie.Need-element-copy-out-minus
-element_copy_out_minus c = search rules
+bounds-sets-i : tie.Need-bounds-sets-i
+bounds-sets-i c = search rules
 
-minus_requires : tie.Need-minus-requires
-minus_requires c κs = search rules
+minus-held-requires : tie.Need-minus-held-requires
+minus-held-requires c κs = search rules
 
-mul_union : tie.Need-overflow-mul-union
-mul_union c = search rules
+offset_bounds-maps-i : tie.Need-offset_bounds-maps-i
+offset_bounds-maps-i c = search rules
 
-element_copy_out_union : tie.Need-element-copy-out-union
-element_copy_out_union c = search rules
+bounds-maps-i : tie.Need-bounds-maps-i
+bounds-maps-i c = search rules
 
-union_requires : tie.Need-union-requires
-union_requires c κs = search rules
+union-map-requires : tie.Need-union-map-requires
+union-map-requires c κs = search rules
 
-mul_maps : tie.Need-overflow-mul-maps
-mul_maps c = search rules
+offset_bounds-maps-i-2 : tie.Need-offset_bounds-maps-i-2
+offset_bounds-maps-i-2 c = search rules
 
-element_write_maps : tie.Need-element-write-maps
-element_write_maps c = search rules
+bounds-maps-i-2 : tie.Need-bounds-maps-i-2
+bounds-maps-i-2 c = search rules
 
 returns : tie.Need-returns
 returns c =
     let e = ends (users c) in
     let s = start e in
-    let to = e.edge_to.ensures in
-    held_store s.args.reach.now s.args.sets.now _ (unpack s.args.w) s.pre.0 _ _ _ _ _ to.0 to.1 e.before.edge-from.ensures.0 s.pre.1 (users c).usable-by.ensures c.before.before.minus.ensures c.union.ensures
+    let to = e.edge_to-i.ensures in
+    held_store s.args.reach.now s.args.sets.now _ (unpack s.args.w) s.pre.0 _ _ _ _ _ to.0 to.1 e.before.edge_from-j.ensures.0 s.pre.1 (users c).usable_by-users.ensures c.before.before.minus-held.ensures c.union-map.ensures
 
 pub hold_up_spec : {M : Type 1} → statement M
 hold_up_spec =
     tie.close
     (tie.spec
-    edge_from_requires
-    edge_to_requires
-    mul_usable_by
-    element_copy_out_usable_by
-    usable_by_requires
-    mul_minus
-    element_copy_out_minus
-    minus_requires
-    mul_union
-    element_copy_out_union
-    union_requires
-    mul_maps
-    element_write_maps
+    edge_from-j-requires
+    edge_to-i-requires
+    offset_bounds-reach-j
+    bounds-reach-j
+    usable_by-users-requires
+    offset_bounds-sets-i
+    bounds-sets-i
+    minus-held-requires
+    offset_bounds-maps-i
+    bounds-maps-i
+    union-map-requires
+    offset_bounds-maps-i-2
+    bounds-maps-i-2
     returns)

@@ -5,11 +5,11 @@ use borrow.Author.Rules.{rules}
 use Rattle.judge_waits.proofs.is_inconsistent.Statement.{statement}
 use Rattle.judge_waits.proofs.is_inconsistent.Tie as tie
 
-has_loop_requires : tie.Need-has-loop-requires
-has_loop_requires c κs = search rules
+has_loop-requires : tie.Need-has_loop-requires
+has_loop-requires c κs = search rules
 
 returns : tie.Need-returns
-returns c = (c.has-loop.ensures, λ g reaches. c.has-loop.ensures ∙ loop_is_inconsistent reaches)
+returns c = (c.has_loop.ensures, λ g reaches. c.has_loop.ensures ∙ loop_is_inconsistent reaches)
 
 pub is_inconsistent_spec : {M : Type 1} → statement M
-is_inconsistent_spec = tie.close (tie.spec has_loop_requires returns)
+is_inconsistent_spec = tie.close (tie.spec has_loop-requires returns)

@@ -9,84 +9,84 @@ use Rattle.order_forward.proofs.Drawing.{Drawing, drawing_end, drawing_more, dra
 use Rattle.order_forward.proofs.draw.Statement.{statement}
 use Rattle.order_forward.proofs.draw.Tie as tie
 
-abbrev invariant-loop : tie.invariant-loop
-invariant-loop before order n rows₀ k₀ rows k = (O : Ordered n before order) × Drawing O rows₀ k rows
+abbrev invariant-loop-k : tie.invariant-loop-k
+invariant-loop-k before order n rows₀ k₀ rows k = (O : Ordered n before order) × Drawing O rows₀ k rows
 
-abbrev decreases-loop : tie.decreases-loop
-decreases-loop before order n rows₀ k₀ rows k = n - k
+abbrev decreases-loop-k : tie.decreases-loop-k
+decreases-loop-k before order n rows₀ k₀ rows k = n - k
 
 -- Places: the step at place k, from where its row is gathered; the turn.
-abbrev placed : tie.After-gather invariant-loop decreases-loop → tie.After-place invariant-loop decreases-loop
+abbrev placed : tie.After-gather-row invariant-loop-k decreases-loop-k → tie.After-place-u invariant-loop-k decreases-loop-k
 placed s = s.before.before.before.before
 
-abbrev turn : tie.After-gather invariant-loop decreases-loop → tie.At-loop invariant-loop decreases-loop
+abbrev turn : tie.After-gather-row invariant-loop-k decreases-loop-k → tie.At-loop-k invariant-loop-k decreases-loop-k
 turn s = (placed s).before.before.before
 
-loop_holds : tie.Need-loop-init invariant-loop decreases-loop
-loop_holds c = (c.requires.ordered, drawing_start c.requires.ordered _ c.requires.long)
+loop-k-init : tie.Need-loop-k-init invariant-loop-k decreases-loop-k
+loop-k-init c = (c.requires.ordered, drawing_start c.requires.ordered _ c.requires.long)
 
-element_copy_out_place : tie.Need-element-copy-out-place invariant-loop decreases-loop
-element_copy_out_place c = search rules
+bounds-order-k : tie.Need-bounds-order-k invariant-loop-k decreases-loop-k
+bounds-order-k c = search rules
 
-place_requires : tie.Need-place-requires invariant-loop decreases-loop
-place_requires c κs = search rules
+place-u-requires : tie.Need-place-u-requires invariant-loop-k decreases-loop-k
+place-u-requires c κs = search rules
 
-mul_own : tie.Need-overflow-mul-own invariant-loop decreases-loop
-mul_own c = search rules
+offset_bounds-rows-u : tie.Need-offset_bounds-rows-u invariant-loop-k decreases-loop-k
+offset_bounds-rows-u c = search rules
 
-element_copy_out_own : tie.Need-element-copy-out-own invariant-loop decreases-loop
-element_copy_out_own c = search rules
+bounds-rows-u : tie.Need-bounds-rows-u invariant-loop-k decreases-loop-k
+bounds-rows-u c = search rules
 
-mul_gather : tie.Need-overflow-mul-gather invariant-loop decreases-loop
-mul_gather c = search rules
+offset_bounds-before-u : tie.Need-offset_bounds-before-u invariant-loop-k decreases-loop-k
+offset_bounds-before-u c = search rules
 
-element_copy_out_gather : tie.Need-element-copy-out-gather invariant-loop decreases-loop
-element_copy_out_gather c = search rules
+bounds-before-u : tie.Need-bounds-before-u invariant-loop-k decreases-loop-k
+bounds-before-u c = search rules
 
-gather_requires : tie.Need-gather-requires invariant-loop decreases-loop
-gather_requires c κs = search rules
+gather-row-requires : tie.Need-gather-row-requires invariant-loop-k decreases-loop-k
+gather-row-requires c κs = search rules
 
-mul_rows : tie.Need-overflow-mul-rows invariant-loop decreases-loop
-mul_rows c = search rules
+offset_bounds-rows-u-in-loop-k : tie.Need-offset_bounds-rows-u-in-loop-k invariant-loop-k decreases-loop-k
+offset_bounds-rows-u-in-loop-k c = search rules
 
-element_write_rows : tie.Need-element-write-rows invariant-loop decreases-loop
-element_write_rows c = search rules
+bounds-rows-u-in-loop-k : tie.Need-bounds-rows-u-in-loop-k invariant-loop-k decreases-loop-k
+bounds-rows-u-in-loop-k c = search rules
 
-add_k : tie.Need-overflow-add-k invariant-loop decreases-loop
-add_k c = search rules
+overflow_add-k : tie.Need-overflow_add-k invariant-loop-k decreases-loop-k
+overflow_add-k c = search rules
 
-loop_less : tie.Need-loop-smaller invariant-loop decreases-loop
-loop_less c = search rules
+loop-k-smaller : tie.Need-loop-k-smaller invariant-loop-k decreases-loop-k
+loop-k-smaller c = search rules
 
-loop_again : tie.Need-loop-preserved invariant-loop decreases-loop
-loop_again c =
+loop-k-preserved : tie.Need-loop-k-preserved invariant-loop-k decreases-loop-k
+loop-k-preserved c =
     let t = turn c in
-    let O = t.loop.inv.0 in
-    let p = (placed c).place in
-    let inside : t.loop.k < t.before.args.n = search rules in
-    let at : p.result ≡ get_or t.before.args.order.now t.loop.k 0 = omega (arith, p.ensures.0, O.filled t.loop.k inside, t.before.pre.few) in
-    (O, drawing_more O _ t.before.pre.few t.loop.k t.loop.rows t.loop.inv.1 inside p.result c.gather.result at c.gather.ensures)
+    let O = t.loop-k.inv.0 in
+    let p = (placed c).place-u in
+    let inside : t.loop-k.k < t.before.args.n = search rules in
+    let at : p.result ≡ get_or t.before.args.order.now t.loop-k.k 0 = omega (arith, p.ensures.0, O.filled t.loop-k.k inside, t.before.pre.few) in
+    (O, drawing_more O _ t.before.pre.few t.loop-k.k t.loop-k.rows t.loop-k.inv.1 inside p.result c.gather-row.result at c.gather-row.ensures)
 
-returns : tie.Need-returns invariant-loop decreases-loop
-returns c = let i = c.before.loop.invariant in drawing_end i.0 _ _ _ (search rules) i.1
+returns : tie.Need-returns invariant-loop-k decreases-loop-k
+returns c = let i = c.before.loop-k.invariant in drawing_end i.0 _ _ _ (search rules) i.1
 
 pub draw_spec : {M : Type 1} → statement M
 draw_spec =
     tie.close
     (tie.spec
-    invariant-loop
-    decreases-loop
-    loop_holds
-    element_copy_out_place
-    place_requires
-    mul_own
-    element_copy_out_own
-    mul_gather
-    element_copy_out_gather
-    gather_requires
-    mul_rows
-    element_write_rows
-    add_k
-    loop_less
-    loop_again
+    invariant-loop-k
+    decreases-loop-k
+    loop-k-init
+    bounds-order-k
+    place-u-requires
+    offset_bounds-rows-u
+    bounds-rows-u
+    offset_bounds-before-u
+    bounds-before-u
+    gather-row-requires
+    offset_bounds-rows-u-in-loop-k
+    bounds-rows-u-in-loop-k
+    overflow_add-k
+    loop-k-smaller
+    loop-k-preserved
     returns)

@@ -8,64 +8,64 @@ use Rattle.order_forward.proofs.Drawing.{gather_all, gather_more, with_rows}
 use Rattle.order_forward.proofs.gather.Statement.{statement}
 use Rattle.order_forward.proofs.gather.Tie as tie
 
-abbrev invariant-loop : tie.invariant-loop
-invariant-loop rows own steps all₀ left₀ all left = (a : ℕ) → with_rows rows all left a ≡ with_rows rows own steps a
+abbrev invariant-loop-left : tie.invariant-loop-left
+invariant-loop-left rows own steps all₀ left₀ all left = (a : ℕ) → with_rows rows all left a ≡ with_rows rows own steps a
 
-abbrev decreases-loop : tie.decreases-loop
-decreases-loop rows own steps all₀ left₀ all left = left
+abbrev decreases-loop-left : tie.decreases-loop-left
+decreases-loop-left rows own steps all₀ left₀ all left = left
 
 -- Places: the lowest step that is left, from where its row was taken in; the turn.
-abbrev lowest : tie.After-union invariant-loop decreases-loop → tie.After-lowest invariant-loop decreases-loop
+abbrev lowest : tie.After-union-all invariant-loop-left decreases-loop-left → tie.After-lowest-u invariant-loop-left decreases-loop-left
 lowest s = s.before.before
 
-abbrev turn : tie.After-union invariant-loop decreases-loop → tie.At-loop invariant-loop decreases-loop
+abbrev turn : tie.After-union-all invariant-loop-left decreases-loop-left → tie.At-loop-left invariant-loop-left decreases-loop-left
 turn s = (lowest s).before.before
 
-loop_holds : tie.Need-loop-init invariant-loop decreases-loop
-loop_holds c a = refl
+loop-left-init : tie.Need-loop-left-init invariant-loop-left decreases-loop-left
+loop-left-init c a = refl
 
-lowest_requires : tie.Need-lowest-requires invariant-loop decreases-loop
-lowest_requires c κs = search rules
+lowest-u-requires : tie.Need-lowest-u-requires invariant-loop-left decreases-loop-left
+lowest-u-requires c κs = search rules
 
-mul_union : tie.Need-overflow-mul-union invariant-loop decreases-loop
-mul_union c = search rules
+offset_bounds-rows-u : tie.Need-offset_bounds-rows-u invariant-loop-left decreases-loop-left
+offset_bounds-rows-u c = search rules
 
-element_copy_out_union : tie.Need-element-copy-out-union invariant-loop decreases-loop
-element_copy_out_union c = search rules
+bounds-rows-u : tie.Need-bounds-rows-u invariant-loop-left decreases-loop-left
+bounds-rows-u c = search rules
 
-union_requires : tie.Need-union-requires invariant-loop decreases-loop
-union_requires c κs = search rules
+union-all-requires : tie.Need-union-all-requires invariant-loop-left decreases-loop-left
+union-all-requires c κs = search rules
 
-without_lowest_requires : tie.Need-without-lowest-requires invariant-loop decreases-loop
-without_lowest_requires c κs = omega arith
+without_lowest-left-requires : tie.Need-without_lowest-left-requires invariant-loop-left decreases-loop-left
+without_lowest-left-requires c κs = omega arith
 
-loop_less : tie.Need-loop-smaller invariant-loop decreases-loop
-loop_less c =
-    let u = (lowest c.before).lowest in
-    removed_lt _ _ _ u.ensures.member (c.without-lowest.ensures _ u.ensures)
+loop-left-smaller : tie.Need-loop-left-smaller invariant-loop-left decreases-loop-left
+loop-left-smaller c =
+    let u = (lowest c.before).lowest-u in
+    removed_lt _ _ _ u.ensures.member (c.without_lowest-left.ensures _ u.ensures)
 
-loop_again : tie.Need-loop-preserved invariant-loop decreases-loop
-loop_again c a =
+loop-left-preserved : tie.Need-loop-left-preserved invariant-loop-left decreases-loop-left
+loop-left-preserved c a =
     let s = c.before in
-    let u = (lowest s).lowest in
-    gather_more (turn s).before.args.rows.now _ _ _ _ u.result a u.ensures.below u.ensures.member (c.without-lowest.ensures _ u.ensures) s.union.ensures
-    ∙ (turn s).loop.invariant a
+    let u = (lowest s).lowest-u in
+    gather_more (turn s).before.args.rows.now _ _ _ _ u.result a u.ensures.below u.ensures.member (c.without_lowest-left.ensures _ u.ensures) s.union-all.ensures
+    ∙ (turn s).loop-left.invariant a
 
-returns : tie.Need-returns invariant-loop decreases-loop
-returns c a = gather_all c.before.before.args.rows.now _ c.before.loop.left a (omega arith) ∙ c.before.loop.invariant a
+returns : tie.Need-returns invariant-loop-left decreases-loop-left
+returns c a = gather_all c.before.before.args.rows.now _ c.before.loop-left.left a (omega arith) ∙ c.before.loop-left.invariant a
 
 pub gather_spec : {M : Type 1} → statement M
 gather_spec =
     tie.close
     (tie.spec
-    invariant-loop
-    decreases-loop
-    loop_holds
-    lowest_requires
-    mul_union
-    element_copy_out_union
-    union_requires
-    without_lowest_requires
-    loop_less
-    loop_again
+    invariant-loop-left
+    decreases-loop-left
+    loop-left-init
+    lowest-u-requires
+    offset_bounds-rows-u
+    bounds-rows-u
+    union-all-requires
+    without_lowest-left-requires
+    loop-left-smaller
+    loop-left-preserved
     returns)

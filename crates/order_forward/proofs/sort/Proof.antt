@@ -19,47 +19,47 @@ direct s = s.before.before.before
 abbrev start : tie.After-arrange → tie.Start
 start s = (direct s).before.before.before.before
 
-abbrev entered : tie.After-draw-arg2 → tie.After-insert
+abbrev entered : tie.After-draw-arg2 → tie.After-insert-own
 entered s = s.before.before.before
 
-abbrev found : tie.After-insert → tie.Else1
+abbrev found : tie.After-insert-own → tie.Else-not-arrange
 found s = s.before.before
 
 -- The rows before they are drawn.
-enters : (s : tie.After-insert) → Adjoined (graph (start (found s).before).args.es.now) (set (direct (found s).before).predecessors.new.1.1.0 0 s.insert.result)
-enters s = entered_by _ _ _ (direct (found s).before).predecessors.ensures.1 s.insert.ensures
+enters : (s : tie.After-insert-own) → Adjoined (graph (start (found s).before).args.es.now) (set (direct (found s).before).predecessors.new.counted 0 s.insert-own.result)
+enters s = entered_by _ _ _ (direct (found s).before).predecessors.ensures.1 s.insert-own.ensures
 
-predecessors_requires : tie.Need-predecessors-requires
-predecessors_requires c κs = search rules
+predecessors-requires : tie.Need-predecessors-requires
+predecessors-requires c κs = search rules
 
-arrange_requires : tie.Need-arrange-requires
-arrange_requires c κs = search rules
+arrange-requires : tie.Need-arrange-requires
+arrange-requires c κs = search rules
+
+returns-then-not-arrange : tie.Need-returns-then-not-arrange
+returns-then-not-arrange c shape into =
+    let s = c.before in
+    sorting_circle (arranged_circle (direct s).predecessors.ensures.0 shape s.arrange.ensures ∙ c.if-not-arrange.true)
+
+bounds-sets-0 : tie.Need-bounds-sets-0
+bounds-sets-0 c = search rules
+
+insert-own-requires : tie.Need-insert-own-requires
+insert-own-requires c κs = search rules
+
+bounds-sets-0-2 : tie.Need-bounds-sets-0-2
+bounds-sets-0-2 c = search rules
+
+draw-requires : tie.Need-draw-requires
+draw-requires c κs =
+    let f = found (entered c) in
+    record { few = (start f.before).requires.few; ordered = f.before.arrange.ensures.ordered (not-false _ f.if-not-arrange.left); long = (enters (entered c)).long }
 
 returns : tie.Need-returns
-returns c shape into =
-    let s = c.before in
-    sorting_circle (arranged_circle (direct s).predecessors.ensures.0 shape s.arrange.ensures ∙ c.if1.true)
-
-element_copy_out_insert : tie.Need-element-copy-out-insert
-element_copy_out_insert c = search rules
-
-insert_requires : tie.Need-insert-requires
-insert_requires c κs = search rules
-
-element_write_sets : tie.Need-element-write-sets
-element_write_sets c = search rules
-
-draw_requires : tie.Need-draw-requires
-draw_requires c κs =
-    let f = found (entered c) in
-    record { few = (start f.before).requires.few; ordered = f.before.arrange.ensures.ordered (not-false _ f.if1.left); long = (enters (entered c)).long }
-
-returns_2 : tie.Need-returns-2
-returns_2 c shape into =
+returns-then-not-arrange c shape into =
     let i = entered c.before in
     let a = (found i).before in
     let p = (start a).pre in
-    let ok = (found i).if1.left in
+    let ok = (found i).if-not-arrange.left in
     let P = (direct a).predecessors.ensures.0 in
     let O = a.arrange.ensures.ordered (not-false _ ok) in
     let E = enters i in
@@ -69,11 +69,11 @@ pub sort_spec : {M : Type 1} → statement M
 sort_spec =
     tie.close
     (tie.spec
-    predecessors_requires
-    arrange_requires
-    returns
-    element_copy_out_insert
-    insert_requires
-    element_write_sets
-    draw_requires
-    returns_2)
+    predecessors-requires
+    arrange-requires
+    returns-then-not-arrange
+    bounds-sets-0
+    insert-own-requires
+    bounds-sets-0-2
+    draw-requires
+    returns-then-not-arrange)

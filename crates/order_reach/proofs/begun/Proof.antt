@@ -5,14 +5,14 @@ use Rattle.laws.proofs.Bools.{cond_false, cond_true}
 use Rattle.order_reach.proofs.begun.Statement.{statement}
 use Rattle.order_reach.proofs.begun.Tie as tie
 
-is_counted_requires : tie.Need-is-counted-requires
-is_counted_requires c κs = search rules
+is_counted-requires : tie.Need-is_counted-requires
+is_counted-requires c κs = search rules
 
-returns : tie.Need-returns
-returns c = sym (cond_true _ _ (sym c.before.is-counted.ensures ∙ c.if1.true))
+returns-then-is_counted : tie.Need-returns-then-is_counted
+returns-then-is_counted c = sym (cond_true _ _ (sym c.before.is_counted.ensures ∙ c.if-is_counted.true))
 
-returns_2 : tie.Need-returns-2
-returns_2 c = sym (cond_false _ _ (sym c.before.is-counted.ensures ∙ c.if1.false))
+returns-else-is_counted : tie.Need-returns-else-is_counted
+returns-then-is_counted-else-is_counted c = sym (cond_false _ _ (sym c.before.is_counted.ensures ∙ c.if-is_counted.false))
 
 pub begun_spec : {M : Type 1} → statement M
-begun_spec = tie.close (tie.spec is_counted_requires returns returns_2)
+begun_spec = tie.close (tie.spec is_counted-requires returns-then-is_counted returns-then-is_counted-else-is_counted)

@@ -8,49 +8,49 @@ use Rattle.order_reach.proofs.Searching.{Own}
 use Rattle.order_reach.proofs.carry_on.Statement.{statement}
 use Rattle.order_reach.proofs.carry_on.Tie as tie
 
-abbrev invariant-loop : tie.invariant-loop
-invariant-loop rows₀ marks es lists order n left₀ k₀ rows left k = CarriedAll (Own es) (λ v. ⊥) rows₀ rows marks left
+abbrev invariant-loop-k : tie.invariant-loop-k
+invariant-loop-k rows₀ marks es lists order n left₀ k₀ rows left k = CarriedAll (Own es) (λ v. ⊥) rows₀ rows marks left
 
-abbrev decreases-loop : tie.decreases-loop
-decreases-loop rows₀ marks es lists order n left₀ k₀ rows left k = n - k
+abbrev decreases-loop-k : tie.decreases-loop-k
+decreases-loop-k rows₀ marks es lists order n left₀ k₀ rows left k = n - k
 
-loop_holds : tie.Need-loop-init invariant-loop decreases-loop
-loop_holds c = carried_none c.before.before.requires.1.long (λ v x. x)
+loop-k-init : tie.Need-loop-k-init invariant-loop-k decreases-loop-k
+loop-k-init c = carried_none c.before.before.requires.1.long (λ v x. x)
 
-element_copy_out_place : tie.Need-element-copy-out-place invariant-loop decreases-loop
-element_copy_out_place c = search rules
+bounds-order-k : tie.Need-bounds-order-k invariant-loop-k decreases-loop-k
+bounds-order-k c = search rules
 
-place_requires : tie.Need-place-requires invariant-loop decreases-loop
-place_requires c κs = search rules
+place-u-requires : tie.Need-place-u-requires invariant-loop-k decreases-loop-k
+place-u-requires c κs = search rules
 
-visit_requires : tie.Need-visit-requires invariant-loop decreases-loop
-visit_requires c κs =
+visit-left-requires : tie.Need-visit-left-requires invariant-loop-k decreases-loop-k
+visit-left-requires c κs =
     let p = c.before.before.before.before.before.before.before.requires in
-    (c.before.place.ensures.1, record { listed = p.1.listed; long = c.before.before.before.before.loop.invariant.long })
+    (c.before.place-u.ensures.1, record { listed = p.1.listed; long = c.before.before.before.before.loop-k.invariant.long })
 
-add_k : tie.Need-overflow-add-k invariant-loop decreases-loop
-add_k c = search rules
+overflow_add-k : tie.Need-overflow_add-k invariant-loop-k decreases-loop-k
+overflow_add-k c = search rules
 
-loop_less : tie.Need-loop-smaller invariant-loop decreases-loop
-loop_less c = search rules
+loop-k-smaller : tie.Need-loop-k-smaller invariant-loop-k decreases-loop-k
+loop-k-smaller c = search rules
 
-loop_again : tie.Need-loop-preserved invariant-loop decreases-loop
-loop_again c = carried_then (λ v x. inl x) c.before.before.before.before.before.loop.invariant c.visit.ensures
+loop-k-preserved : tie.Need-loop-k-preserved invariant-loop-k decreases-loop-k
+loop-k-preserved c = carried_then (λ v x. inl x) c.before.before.before.before.before.loop-k.invariant c.visit-left.ensures
 
-returns : tie.Need-returns invariant-loop decreases-loop
-returns c = c.before.loop.invariant
+returns : tie.Need-returns invariant-loop-k decreases-loop-k
+returns c = c.before.loop-k.invariant
 
 pub carry_on_spec : {M : Type 1} → statement M
 carry_on_spec =
     tie.close
     (tie.spec
-    invariant-loop
-    decreases-loop
-    loop_holds
-    element_copy_out_place
-    place_requires
-    visit_requires
-    add_k
-    loop_less
-    loop_again
+    invariant-loop-k
+    decreases-loop-k
+    loop-k-init
+    bounds-order-k
+    place-u-requires
+    visit-left-requires
+    overflow_add-k
+    loop-k-smaller
+    loop-k-preserved
     returns)

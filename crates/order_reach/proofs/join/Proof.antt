@@ -4,37 +4,37 @@ use Rattle.order_reach.proofs.Pushing.{joined}
 use Rattle.order_reach.proofs.join.Statement.{statement}
 use Rattle.order_reach.proofs.join.Tie as tie
 
-mul_old : tie.Need-overflow-mul-old
-mul_old c = search rules
+offset_bounds-rows-v : tie.Need-offset_bounds-rows-v
+offset_bounds-rows-v c = search rules
 
-element_copy_out_old : tie.Need-element-copy-out-old
-element_copy_out_old c = search rules
+bounds-rows-v : tie.Need-bounds-rows-v
+bounds-rows-v c = search rules
 
-union_requires : tie.Need-union-requires
-union_requires c κs = search rules
+union-new-requires : tie.Need-union-new-requires
+union-new-requires c κs = search rules
 
-mul_rows : tie.Need-overflow-mul-rows
-mul_rows c = search rules
+offset_bounds-rows-v-2 : tie.Need-offset_bounds-rows-v-2
+offset_bounds-rows-v-2 c = search rules
 
-element_write_rows : tie.Need-element-write-rows
-element_write_rows c = search rules
+bounds-rows-v-2 : tie.Need-bounds-rows-v-2
+bounds-rows-v-2 c = search rules
 
-insert_if_requires : tie.Need-insert-if-requires
-insert_if_requires c κs = search rules
+insert_if-requires : tie.Need-insert_if-requires
+insert_if-requires c κs = search rules
 
 returns : tie.Need-returns
 returns c =
     let p = c.before.before.before.requires in
-    joined _ _ _ _ _ _ p.0 p.1 c.before.union.ensures c.insert-if.ensures
+    joined _ _ _ _ _ _ p.0 p.1 c.before.union-new.ensures c.insert_if.ensures
 
 pub join_spec : {M : Type 1} → statement M
 join_spec =
     tie.close
     (tie.spec
-    mul_old
-    element_copy_out_old
-    union_requires
-    mul_rows
-    element_write_rows
-    insert_if_requires
+    offset_bounds-rows-v
+    bounds-rows-v
+    union-new-requires
+    offset_bounds-rows-v-2
+    bounds-rows-v-2
+    insert_if-requires
     returns)

@@ -8,105 +8,105 @@ use Rattle.order_reach.proofs.Returning.{HomingAll, homing_end, homing_pass, hom
 use Rattle.order_reach.proofs.push_returns.Statement.{statement}
 use Rattle.order_reach.proofs.push_returns.Tie as tie
 
-abbrev invariant-loop : tie.invariant-loop
-invariant-loop rows₀ es lists marks₀ at₀ k₀ rows marks at k = Returning (HomingAll es rows₀ rows marks) es at k
+abbrev invariant-loop-k : tie.invariant-loop-k
+invariant-loop-k rows₀ es lists marks₀ at₀ k₀ rows marks at k = Returning (HomingAll es rows₀ rows marks) es at k
 
-abbrev decreases-loop : tie.decreases-loop
-decreases-loop rows₀ es lists marks₀ at₀ k₀ rows marks at k = length lists - at
+abbrev decreases-loop-k : tie.decreases-loop-k
+decreases-loop-k rows₀ es lists marks₀ at₀ k₀ rows marks at k = length lists - at
 
 -- Places: the function's start, from the first return and from a turn; a turn, from where its return has handed on; and this, from where the next return is read.
-abbrev start : tie.After-index invariant-loop decreases-loop → tie.Start invariant-loop decreases-loop
+abbrev start : tie.After-index-k invariant-loop-k decreases-loop-k → tie.Start invariant-loop-k decreases-loop-k
 start s = s.before.before.before.before
 
-abbrev entry : tie.At-loop invariant-loop decreases-loop → tie.Start invariant-loop decreases-loop
+abbrev entry : tie.At-loop-k invariant-loop-k decreases-loop-k → tie.Start invariant-loop-k decreases-loop-k
 entry s = start s.before
 
-abbrev turn : tie.After-push-return invariant-loop decreases-loop → tie.At-loop invariant-loop decreases-loop
+abbrev turn : tie.After-push_return-marks invariant-loop-k decreases-loop-k → tie.At-loop-k invariant-loop-k decreases-loop-k
 turn s = s.before.before.before.before
 
-abbrev pushed : tie.After-index2 invariant-loop decreases-loop → tie.After-push-return invariant-loop decreases-loop
+abbrev pushed : tie.After-index-k-in-loop-k invariant-loop-k decreases-loop-k → tie.After-push_return-marks invariant-loop-k decreases-loop-k
 pushed s = s.before.before
 
-some : (s : tie.After-push-return invariant-loop decreases-loop) → 1 ≤ (turn s).loop.k
+some : (s : tie.After-push_return-marks invariant-loop-k decreases-loop-k) → 1 ≤ (turn s).loop-k.k
 some s = omega arith
 
-below : (s : tie.After-push-return invariant-loop decreases-loop) → (turn s).loop.at < 64 + length (entry (turn s)).args.es.now + length (entry (turn s)).args.es.now
-below s = returning_below (some s) (turn s).loop.invariant
+below : (s : tie.After-push_return-marks invariant-loop-k decreases-loop-k) → (turn s).loop-k.at < 64 + length (entry (turn s)).args.es.now + length (entry (turn s)).args.es.now
+below s = returning_below (some s) (turn s).loop-k.invariant
 
-add_at : tie.Need-overflow-add-at invariant-loop decreases-loop
-add_at c = omega (arith, c.before.before.requires.listed.few)
+overflow_add-at : tie.Need-overflow_add-at invariant-loop-k decreases-loop-k
+overflow_add-at c = omega (arith, c.before.before.requires.listed.few)
 
-mul_index : tie.Need-overflow-mul-index invariant-loop decreases-loop
-mul_index c = omega (arith, c.before.before.requires.listed.few)
+offset_bounds-lists-at : tie.Need-offset_bounds-lists-at invariant-loop-k decreases-loop-k
+offset_bounds-lists-at c = omega (arith, c.before.before.requires.listed.few)
 
-shared_slice_read_index : tie.Need-shared-slice-read-index invariant-loop decreases-loop
-shared_slice_read_index c = omega (arith, c.before.before.before.requires.listed.long)
+bounds-lists-at : tie.Need-bounds-lists-at invariant-loop-k decreases-loop-k
+bounds-lists-at c = omega (arith, c.before.before.before.requires.listed.long)
 
-index_requires : tie.Need-index-requires invariant-loop decreases-loop
-index_requires c κs = search rules
+index-k-requires : tie.Need-index-k-requires invariant-loop-k decreases-loop-k
+index-k-requires c κs = search rules
 
-loop_holds : tie.Need-loop-init invariant-loop decreases-loop
-loop_holds c =
+loop-k-init : tie.Need-loop-k-init invariant-loop-k decreases-loop-k
+loop-k-init c =
     let p = (start c).requires in
-    returning_start p.listed (homing_pass _ _ _ 0) c.index.ensures (homing_start _ _ p.long)
+    returning_start p.listed (homing_pass _ _ _ 0) c.index-k.ensures (homing_start _ _ p.long)
 
-sub_push_return : tie.Need-overflow-sub-push-return invariant-loop decreases-loop
-sub_push_return c = search rules
+overflow_sub-k : tie.Need-overflow_sub-k invariant-loop-k decreases-loop-k
+overflow_sub-k c = search rules
 
-mul_push_return : tie.Need-overflow-mul-push-return invariant-loop decreases-loop
-mul_push_return c = omega (arith, c.before.before.loop.invariant.few)
+offset_bounds-es-k : tie.Need-offset_bounds-es-k invariant-loop-k decreases-loop-k
+offset_bounds-es-k c = omega (arith, c.before.before.loop-k.invariant.few)
 
-shared_slice_read_push_return : tie.Need-shared-slice-read-push-return invariant-loop decreases-loop
-shared_slice_read_push_return c = omega (arith, c.before.before.before.loop.invariant.few)
+bounds-es-k : tie.Need-bounds-es-k invariant-loop-k decreases-loop-k
+bounds-es-k c = omega (arith, c.before.before.before.loop-k.invariant.few)
 
-push_return_requires : tie.Need-push-return-requires invariant-loop decreases-loop
-push_return_requires c κs =
-    let L = c.before.before.before.loop.invariant in
+push_return-marks-requires : tie.Need-push_return-marks-requires invariant-loop-k decreases-loop-k
+push_return-marks-requires c κs =
+    let L = c.before.before.before.loop-k.invariant in
     ((L.been (omega arith)).long, L.back (omega arith))
 
-add_at_2 : tie.Need-overflow-add-at-2 invariant-loop decreases-loop
-add_at_2 c = omega (arith, below c, (entry (turn c)).pre.listed.few)
+overflow_add-at-in-loop-k : tie.Need-overflow_add-at-in-loop-k invariant-loop-k decreases-loop-k
+overflow_add-at-in-loop-k c = omega (arith, below c, (entry (turn c)).pre.listed.few)
 
-mul_index_2 : tie.Need-overflow-mul-index-2 invariant-loop decreases-loop
-mul_index_2 c = omega (arith, below c, (entry (turn c)).pre.listed.few)
+offset_bounds-lists-at-in-loop-k : tie.Need-offset_bounds-lists-at-in-loop-k invariant-loop-k decreases-loop-k
+offset_bounds-lists-at-in-loop-k c = omega (arith, below c, (entry (turn c)).pre.listed.few)
 
-shared_slice_read_index_2 : tie.Need-shared-slice-read-index-2 invariant-loop decreases-loop
-shared_slice_read_index_2 c = let s = c.before in omega (arith, below s, (entry (turn s)).pre.listed.long)
+bounds-lists-at-in-loop-k : tie.Need-bounds-lists-at-in-loop-k invariant-loop-k decreases-loop-k
+bounds-lists-at-in-loop-k c = let s = c.before in omega (arith, below s, (entry (turn s)).pre.listed.long)
 
-index_requires_2 : tie.Need-index-requires-2 invariant-loop decreases-loop
-index_requires_2 c κs = search rules
+index-k-requires-in-loop-k : tie.Need-index-k-requires-in-loop-k invariant-loop-k decreases-loop-k
+index-k-requires-in-loop-k c κs = search rules
 
-loop_less : tie.Need-loop-smaller invariant-loop decreases-loop
-loop_less c = let s = pushed c in omega (arith, below s, (entry (turn s)).pre.listed.long)
+loop-k-smaller : tie.Need-loop-k-smaller invariant-loop-k decreases-loop-k
+loop-k-smaller c = let s = pushed c in omega (arith, below s, (entry (turn s)).pre.listed.long)
 
-loop_again : tie.Need-loop-preserved invariant-loop decreases-loop
-loop_again c =
+loop-k-preserved : tie.Need-loop-k-preserved invariant-loop-k decreases-loop-k
+loop-k-preserved c =
     let s = pushed c in
     let t = turn s in
-    returning_turn (entry t).pre.listed (homing_pass _ _ _ _) (some s) c.index2.ensures (λ S. homing_turn _ _ _ _ _ _ _ (omega (arith, t.loop.inv.few)) S s.push-return.ensures) t.loop.inv
+    returning_turn (entry t).pre.listed (homing_pass _ _ _ _) (some s) c.index-k-in-loop-k.ensures (λ S. homing_turn _ _ _ _ _ _ _ (omega (arith, t.loop-k.inv.few)) S s.push_return-marks.ensures) t.loop-k.inv
 
-returns : tie.Need-returns invariant-loop decreases-loop
-returns c = homing_end _ _ _ _ _ (omega arith) (c.before.loop.invariant.done (omega arith))
+returns : tie.Need-returns invariant-loop-k decreases-loop-k
+returns c = homing_end _ _ _ _ _ (omega arith) (c.before.loop-k.invariant.done (omega arith))
 
 pub push_returns_spec : {M : Type 1} → statement M
 push_returns_spec =
     tie.close
     (tie.spec
-    invariant-loop
-    decreases-loop
-    add_at
-    mul_index
-    shared_slice_read_index
-    index_requires
-    loop_holds
-    sub_push_return
-    mul_push_return
-    shared_slice_read_push_return
-    push_return_requires
-    add_at_2
-    mul_index_2
-    shared_slice_read_index_2
-    index_requires_2
-    loop_less
-    loop_again
+    invariant-loop-k
+    decreases-loop-k
+    overflow_add-at
+    offset_bounds-lists-at
+    bounds-lists-at
+    index-k-requires
+    loop-k-init
+    overflow_sub-k
+    offset_bounds-es-k
+    bounds-es-k
+    push_return-marks-requires
+    overflow_add-at-in-loop-k
+    offset_bounds-lists-at-in-loop-k
+    bounds-lists-at-in-loop-k
+    index-k-requires-in-loop-k
+    loop-k-smaller
+    loop-k-preserved
     returns)

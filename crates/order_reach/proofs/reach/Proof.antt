@@ -11,66 +11,66 @@ use Rattle.order_reach.proofs.Searching.{Searched, searched_end, searched_more, 
 use Rattle.order_reach.proofs.reach.Statement.{statement}
 use Rattle.order_reach.proofs.reach.Tie as tie
 
-abbrev invariant-loop : tie.invariant-loop
-invariant-loop es lists order sets n rows₀ marks₀ done₀ rows marks done = (length rows ≡ 64) × (AnchorSets n (graph es) sets → Searched es n done rows marks)
+abbrev invariant-loop-done : tie.invariant-loop-done
+invariant-loop-done es lists order sets n rows₀ marks₀ done₀ rows marks done = (length rows ≡ 64) × (AnchorSets n (graph es) sets → Searched es n done rows marks)
 
-abbrev decreases-loop : tie.decreases-loop
-decreases-loop es lists order sets n rows₀ marks₀ done₀ rows marks done = n - done
+abbrev decreases-loop-done : tie.decreases-loop-done
+decreases-loop-done es lists order sets n rows₀ marks₀ done₀ rows marks done = n - done
 
-strip_requires : tie.Need-strip-requires invariant-loop decreases-loop
-strip_requires c κs = search rules
+strip-requires : tie.Need-strip-requires invariant-loop-done decreases-loop-done
+strip-requires c κs = search rules
 
-push_returns_requires : tie.Need-push-returns-requires invariant-loop decreases-loop
-push_returns_requires c κs = record { listed = c.before.before.before.before.before.requires.listed; long = c.before.strip.ensures.long }
+push_returns-marks-requires : tie.Need-push_returns-marks-requires invariant-loop-done decreases-loop-done
+push_returns-marks-requires c κs = record { listed = c.before.before.before.before.before.requires.listed; long = c.before.strip.ensures.long }
 
-loop_holds : tie.Need-loop-init invariant-loop decreases-loop
-loop_holds c =
-    let h = c.before.push-returns.ensures in
+loop-done-init : tie.Need-loop-done-init invariant-loop-done decreases-loop-done
+loop-done-init c =
+    let h = c.before.push_returns-marks.ensures in
     (h.long, λ sets. searched_start _ _ _ _ _ _ sets c.before.before.before.strip.ensures h)
 
-returns : tie.Need-returns invariant-loop decreases-loop
-returns c =
-    let h = c.before.push-returns.ensures in
+returns-then-marks-eq0 : tie.Need-returns-then-marks-eq0 invariant-loop-done decreases-loop-done
+returns-then-marks-eq0 c =
+    let h = c.before.push_returns-marks.ensures in
     let start = c.before.before.before.strip.ensures in
-    (λ sets. searched_rest _ _ 0 _ _ h.long c.if1.true (searched_start _ _ _ _ _ _ sets start h), λ new. stripped_still _ _ _ _ _ h.long c.if1.true h.marked start)
+    (λ sets. searched_rest _ _ 0 _ _ h.long c.if-marks-eq0.true (searched_start _ _ _ _ _ _ sets start h), λ new. stripped_still _ _ _ _ _ h.long c.if-marks-eq0.true h.marked start)
 
-returns_2 : tie.Need-returns-2 invariant-loop decreases-loop
-returns_2 c =
-    let h = c.before.before.loop.invariant in
-    (λ sets. searched_rest _ _ _ _ _ h.0 c.if2.true (h.1 sets), λ new. absurd (true≢false new))
+returns-then-marks-eq0-2 : tie.Need-returns-then-marks-eq0-2 invariant-loop-done decreases-loop-done
+returns-then-marks-eq0-then-marks-eq0-2 c =
+    let h = c.before.before.loop-done.invariant in
+    (λ sets. searched_rest _ _ _ _ _ h.0 c.if-marks-eq0-2.true (h.1 sets), λ new. absurd (true≢false new))
 
-carry_requires : tie.Need-carry-requires invariant-loop decreases-loop
-carry_requires c κs =
+carry-marks-requires : tie.Need-carry-marks-requires invariant-loop-done decreases-loop-done
+carry-marks-requires c κs =
     let p = c.before.before.before.before.before.before.before.before.before.before.before.requires in
-    (p.few, record { listed = p.listed; long = c.before.before.before.loop.invariant.0 })
+    (p.few, record { listed = p.listed; long = c.before.before.before.loop-done.invariant.0 })
 
-add_done : tie.Need-overflow-add-done invariant-loop decreases-loop
-add_done c = search rules
+overflow_add-done : tie.Need-overflow_add-done invariant-loop-done decreases-loop-done
+overflow_add-done c = search rules
 
-loop_less : tie.Need-loop-smaller invariant-loop decreases-loop
-loop_less c = search rules
+loop-done-smaller : tie.Need-loop-done-smaller invariant-loop-done decreases-loop-done
+loop-done-smaller c = search rules
 
-loop_again : tie.Need-loop-preserved invariant-loop decreases-loop
-loop_again c = (c.carry.ensures.long, λ sets. searched_more _ _ _ _ _ _ _ c.carry.ensures (c.before.before.before.before.loop.invariant.1 sets))
+loop-done-preserved : tie.Need-loop-done-preserved invariant-loop-done decreases-loop-done
+loop-done-preserved c = (c.carry-marks.ensures.long, λ sets. searched_more _ _ _ _ _ _ _ c.carry-marks.ensures (c.before.before.before.before.loop-done.invariant.1 sets))
 
-returns_3 : tie.Need-returns-3 invariant-loop decreases-loop
-returns_3 c =
-    let h = c.before.loop.invariant in
-    (λ sets. searched_end _ _ _ _ _ h.0 c.loop-test.false (h.1 sets), λ new. absurd (true≢false new))
+returns : tie.Need-returns invariant-loop-done decreases-loop-done
+returns-then-marks-eq0 c =
+    let h = c.before.loop-done.invariant in
+    (λ sets. searched_end _ _ _ _ _ h.0 c.loop-done-test.false (h.1 sets), λ new. absurd (true≢false new))
 
 pub reach_spec : {M : Type 1} → statement M
 reach_spec =
     tie.close
     (tie.spec
-    invariant-loop
-    decreases-loop
-    strip_requires
-    push_returns_requires
-    returns
-    loop_holds
-    returns_2
-    carry_requires
-    add_done
-    loop_less
-    loop_again
-    returns_3)
+    invariant-loop-done
+    decreases-loop-done
+    strip-requires
+    push_returns-marks-requires
+    returns-then-marks-eq0
+    loop-done-init
+    returns-then-marks-eq0-then-marks-eq0-2
+    carry-marks-requires
+    overflow_add-done
+    loop-done-smaller
+    loop-done-preserved
+    returns-then-marks-eq0)

@@ -6,35 +6,35 @@ use Rattle.order_reach.proofs.Passing.{visited, visited_idle}
 use Rattle.order_reach.proofs.visit.Statement.{statement}
 use Rattle.order_reach.proofs.visit.Tie as tie
 
-has_requires : tie.Need-has-requires
-has_requires c κs = search rules
+has-requires : tie.Need-has-requires
+has-requires c κs = search rules
+
+returns-then-not-has : tie.Need-returns-then-not-has
+returns-then-not-has c = visited_idle _ c.before.before.before.before.requires.1.long (sym c.before.has.ensures ∙ not-true _ c.if-not-has.true)
+
+remove-rest-requires : tie.Need-remove-rest-requires
+remove-rest-requires c κs = search rules
+
+offset_bounds-rows-u : tie.Need-offset_bounds-rows-u
+offset_bounds-rows-u c = search rules
+
+bounds-rows-u : tie.Need-bounds-rows-u
+bounds-rows-u c = search rules
+
+push_edges-requires : tie.Need-push_edges-requires
+push_edges-requires c κs = search rules
 
 returns : tie.Need-returns
-returns c = visited_idle _ c.before.before.before.before.requires.1.long (sym c.before.has.ensures ∙ not-true _ c.if1.true)
-
-remove_requires : tie.Need-remove-requires
-remove_requires c κs = search rules
-
-mul_m : tie.Need-overflow-mul-m
-mul_m c = search rules
-
-element_copy_out_m : tie.Need-element-copy-out-m
-element_copy_out_m c = search rules
-
-push_edges_requires : tie.Need-push-edges-requires
-push_edges_requires c κs = search rules
-
-returns_2 : tie.Need-returns-2
-returns_2 c = visited _ c.before.before.before.remove.ensures c.push-edges.ensures
+returns-then-not-has c = visited _ c.before.before.before.remove-rest.ensures c.push_edges.ensures
 
 pub visit_spec : {M : Type 1} → statement M
 visit_spec =
     tie.close
     (tie.spec
-    has_requires
-    returns
-    remove_requires
-    mul_m
-    element_copy_out_m
-    push_edges_requires
-    returns_2)
+    has-requires
+    returns-then-not-has
+    remove-rest-requires
+    offset_bounds-rows-u
+    bounds-rows-u
+    push_edges-requires
+    returns-then-not-has)

@@ -8,54 +8,54 @@ use Rattle.order_steps.proofs.Placing.{placing_all, placing_none, placing_stuck}
 use Rattle.order_steps.proofs.arrange.Statement.{statement}
 use Rattle.order_steps.proofs.arrange.Tie as tie
 
-abbrev invariant-loop : tie.invariant-loop
-invariant-loop rows n order₀ all front₀ order front = Placing n rows order front.left front.placed
+abbrev invariant-loop-front : tie.invariant-loop-front
+invariant-loop-front rows n order₀ all front₀ order front = Placing n rows order front.left front.placed
 
-abbrev decreases-loop : tie.decreases-loop
-decreases-loop rows n order₀ all front₀ order front = n - front.placed
+abbrev decreases-loop-front : tie.decreases-loop-front
+decreases-loop-front rows n order₀ all front₀ order front = n - front.placed
 
 -- Places: the turn of a pass, from where it is over; the pass, from where it was seen whether it put a step into the order.
-abbrev turn : tie.After-pass invariant-loop decreases-loop → tie.At-loop invariant-loop decreases-loop
+abbrev turn : tie.After-pass-next invariant-loop-front decreases-loop-front → tie.At-loop-front invariant-loop-front decreases-loop-front
 turn s = s.before.before.before.before
 
-abbrev passed : tie.After-struct-known3 invariant-loop decreases-loop → tie.After-pass invariant-loop decreases-loop
+abbrev passed : tie.After-struct_known-in-loop-front-2-1 invariant-loop-front decreases-loop-front → tie.After-pass-next invariant-loop-front decreases-loop-front
 passed s = s.before.before
 
-below_requires : tie.Need-below-requires invariant-loop decreases-loop
-below_requires c κs = search rules
+below-all-requires : tie.Need-below-all-requires invariant-loop-front decreases-loop-front
+below-all-requires c κs = search rules
 
-loop_holds : tie.Need-loop-init invariant-loop decreases-loop
-loop_holds c = placing_none c.before.requires.1 c.below.ensures
+loop-front-init : tie.Need-loop-front-init invariant-loop-front decreases-loop-front
+loop-front-init c = placing_none c.before.requires.1 c.below-all.ensures
 
-pass_requires : tie.Need-pass-requires invariant-loop decreases-loop
-pass_requires c κs = let t = c.before.before.before in (t.before.before.requires.0, t.loop.invariant)
+pass-next-requires : tie.Need-pass-next-requires invariant-loop-front decreases-loop-front
+pass-next-requires c κs = let t = c.before.before.before in (t.before.before.requires.0, t.loop-front.invariant)
 
-returns : tie.Need-returns invariant-loop decreases-loop
-returns c =
+returns-then-next-front : tie.Need-returns-then-next-front invariant-loop-front decreases-loop-front
+returns-then-next-front c =
     let s = passed c.before in
-    placing_stuck (omega (arith, s.before.before.if1.taken)) (omega arith) (turn s).loop.inv s.pass.ensures
+    placing_stuck (omega (arith, s.before.before.loop-front-test.taken)) (omega arith) (turn s).loop-front.inv s.pass-next.ensures
 
-loop_less : tie.Need-loop-smaller invariant-loop decreases-loop
-loop_less c =
+loop-front-smaller : tie.Need-loop-front-smaller invariant-loop-front decreases-loop-front
+loop-front-smaller c =
     let s = passed c.before in
-    omega (arith, s.before.before.if1.taken, s.pass.ensures.further, c.if2.false)
+    omega (arith, s.before.before.loop-front-test.taken, s.pass-next.ensures.further, c.if-next-front.false)
 
-loop_again : tie.Need-loop-preserved invariant-loop decreases-loop
-loop_again c = (passed c.before).pass.ensures.placing
+loop-front-preserved : tie.Need-loop-front-preserved invariant-loop-front decreases-loop-front
+loop-front-preserved c = (passed c.before).pass-next.ensures.placing
 
-returns_2 : tie.Need-returns-2 invariant-loop decreases-loop
-returns_2 c = placing_all (omega (arith, c.if1.false)) c.before.before.loop.invariant
+returns : tie.Need-returns invariant-loop-front decreases-loop-front
+returns-then-next-front c = placing_all (omega (arith, c.loop-front-test.false)) c.before.before.loop-front.invariant
 
 pub arrange_spec : {M : Type 1} → statement M
 arrange_spec =
     tie.close
     (tie.spec
-    invariant-loop
-    decreases-loop
-    below_requires
-    loop_holds
-    pass_requires
-    returns
-    loop_less
-    loop_again
-    returns_2)
+    invariant-loop-front
+    decreases-loop-front
+    below-all-requires
+    loop-front-init
+    pass-next-requires
+    returns-then-next-front
+    loop-front-smaller
+    loop-front-preserved
+    returns-then-next-front)

@@ -6,67 +6,67 @@ use Rattle.order_steps.proofs.Placing.{Passing, passing_end, passing_more, passi
 use Rattle.order_steps.proofs.pass.Statement.{statement}
 use Rattle.order_steps.proofs.pass.Tie as tie
 
-abbrev invariant-loop : tie.invariant-loop
-invariant-loop rows n order₀ after₀ rest₀ order after rest = Passing n rows order after₀.left after.left after₀.placed after.placed rest
+abbrev invariant-loop-rest : tie.invariant-loop-rest
+invariant-loop-rest rows n order₀ after₀ rest₀ order after rest = Passing n rows order after₀.left after.left after₀.placed after.placed rest
 
-abbrev decreases-loop : tie.decreases-loop
-decreases-loop rows n order₀ after₀ rest₀ order after rest = rest
+abbrev decreases-loop-rest : tie.decreases-loop-rest
+decreases-loop-rest rows n order₀ after₀ rest₀ order after rest = rest
 
 -- Places: the lowest step that is still to be tried, and the turn that it is tried in.
-abbrev lowest : tie.After-place-arg2 invariant-loop decreases-loop → tie.After-lowest invariant-loop decreases-loop
+abbrev lowest : tie.After-place-arg-in-loop-rest-1 invariant-loop-rest decreases-loop-rest → tie.After-lowest-u invariant-loop-rest decreases-loop-rest
 lowest s = s.before.before
 
-abbrev turn : tie.After-place-arg2 invariant-loop decreases-loop → tie.At-loop invariant-loop decreases-loop
+abbrev turn : tie.After-place-arg-in-loop-rest-1 invariant-loop-rest decreases-loop-rest → tie.At-loop-rest invariant-loop-rest decreases-loop-rest
 turn s = (lowest s).before.before
 
-loop_holds : tie.Need-loop-init invariant-loop decreases-loop
-loop_holds c = passing_start c.requires.1
+loop-rest-init : tie.Need-loop-rest-init invariant-loop-rest decreases-loop-rest
+loop-rest-init c = passing_start c.requires.1
 
-lowest_requires : tie.Need-lowest-requires invariant-loop decreases-loop
-lowest_requires c κs = search rules
+lowest-u-requires : tie.Need-lowest-u-requires invariant-loop-rest decreases-loop-rest
+lowest-u-requires c κs = search rules
 
-mul_place : tie.Need-overflow-mul-place invariant-loop decreases-loop
-mul_place c = search rules
+offset_bounds-rows-u : tie.Need-offset_bounds-rows-u invariant-loop-rest decreases-loop-rest
+offset_bounds-rows-u c = search rules
 
-element_copy_out_place : tie.Need-element-copy-out-place invariant-loop decreases-loop
-element_copy_out_place c = search rules
+bounds-rows-u : tie.Need-bounds-rows-u invariant-loop-rest decreases-loop-rest
+bounds-rows-u c = search rules
 
-place_requires : tie.Need-place-requires invariant-loop decreases-loop
-place_requires c κs =
-    let u = (lowest c).lowest in
-    let P = (turn c).loop.invariant in
+place-after-requires : tie.Need-place-after-requires invariant-loop-rest decreases-loop-rest
+place-after-requires c κs =
+    let u = (lowest c).lowest-u in
+    let P = (turn c).loop-rest.invariant in
     let room = placing_room u.result P.placing (P.untried u.result u.ensures.member) in
     record { long = P.placing.long; step = u.ensures.below; place = omega (arith, room, (turn c).before.requires.0) }
 
-without_lowest_requires : tie.Need-without-lowest-requires invariant-loop decreases-loop
-without_lowest_requires c κs = omega arith
+without_lowest-rest-requires : tie.Need-without_lowest-rest-requires invariant-loop-rest decreases-loop-rest
+without_lowest-rest-requires c κs = omega arith
 
-loop_less : tie.Need-loop-smaller invariant-loop decreases-loop
-loop_less c =
-    let u = (lowest c.before.before).lowest in
-    removed_lt _ _ _ u.ensures.member (c.without-lowest.ensures _ u.ensures)
+loop-rest-smaller : tie.Need-loop-rest-smaller invariant-loop-rest decreases-loop-rest
+loop-rest-smaller c =
+    let u = (lowest c.before.before).lowest-u in
+    removed_lt _ _ _ u.ensures.member (c.without_lowest-rest.ensures _ u.ensures)
 
-loop_again : tie.Need-loop-preserved invariant-loop decreases-loop
-loop_again c =
+loop-rest-preserved : tie.Need-loop-rest-preserved invariant-loop-rest decreases-loop-rest
+loop-rest-preserved c =
     let s = c.before.before in
-    let u = (lowest s).lowest in
-    passing_more u.result c.without-lowest.result (turn s).before.requires.0 (turn s).loop.invariant u.ensures.member (c.without-lowest.ensures _ u.ensures) c.before.place.ensures
+    let u = (lowest s).lowest-u in
+    passing_more u.result c.without_lowest-rest.result (turn s).before.requires.0 (turn s).loop-rest.invariant u.ensures.member (c.without_lowest-rest.ensures _ u.ensures) c.before.place-after.ensures
 
-returns : tie.Need-returns invariant-loop decreases-loop
-returns c = passing_end (omega arith) c.before.loop.invariant
+returns : tie.Need-returns invariant-loop-rest decreases-loop-rest
+returns c = passing_end (omega arith) c.before.loop-rest.invariant
 
 pub pass_spec : {M : Type 1} → statement M
 pass_spec =
     tie.close
     (tie.spec
-    invariant-loop
-    decreases-loop
-    loop_holds
-    lowest_requires
-    mul_place
-    element_copy_out_place
-    place_requires
-    without_lowest_requires
-    loop_less
-    loop_again
+    invariant-loop-rest
+    decreases-loop-rest
+    loop-rest-init
+    lowest-u-requires
+    offset_bounds-rows-u
+    bounds-rows-u
+    place-after-requires
+    without_lowest-rest-requires
+    loop-rest-smaller
+    loop-rest-preserved
     returns)

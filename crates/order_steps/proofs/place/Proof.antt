@@ -7,35 +7,35 @@ use Rattle.order_steps.proofs.Placing.{blocked_by, none_blocks}
 use Rattle.order_steps.proofs.place.Statement.{statement}
 use Rattle.order_steps.proofs.place.Tie as tie
 
-both_requires : tie.Need-both-requires
-both_requires c κs = search rules
+both-blocking-requires : tie.Need-both-blocking-requires
+both-blocking-requires c κs = search rules
+
+returns-then-blocking-ne0 : tie.Need-returns-then-blocking-ne0
+returns-then-blocking-ne0 c = inl (record { blocked = blocked_by _ _ _ c.before.both-blocking.ensures (search rules) (λ e. omega arith); same_order = refl; same_left = refl; same_placed = refl })
+
+overflow_cast-order : tie.Need-overflow_cast-order
+overflow_cast-order c = search rules
+
+bounds-order-at : tie.Need-bounds-order-at
+bounds-order-at c = search rules
+
+remove-left-requires : tie.Need-remove-left-requires
+remove-left-requires c κs = search rules
+
+overflow_add-result : tie.Need-overflow_add-result
+overflow_add-result c = search rules
 
 returns : tie.Need-returns
-returns c = inl (record { blocked = blocked_by _ _ _ c.before.both.ensures (search rules) (λ e. omega arith); same_order = refl; same_left = refl; same_placed = refl })
-
-cast_order : tie.Need-overflow-cast-order
-cast_order c = search rules
-
-element_write_order : tie.Need-element-write-order
-element_write_order c = search rules
-
-remove_requires : tie.Need-remove-requires
-remove_requires c κs = search rules
-
-add_t12 : tie.Need-overflow-add-t12
-add_t12 c = search rules
-
-returns_2 : tie.Need-returns-2
-returns_2 c = inr (record { free = none_blocks _ _ _ c.before.before.both.ensures (omega arith); stores = refl; leaves = c.remove.ensures; next = refl })
+returns-then-blocking-ne0 c = inr (record { free = none_blocks _ _ _ c.before.before.both-blocking.ensures (omega arith); stores = refl; leaves = c.remove-left.ensures; next = refl })
 
 pub place_spec : {M : Type 1} → statement M
 place_spec =
     tie.close
     (tie.spec
-    both_requires
-    returns
-    cast_order
-    element_write_order
-    remove_requires
-    add_t12
-    returns_2)
+    both-blocking-requires
+    returns-then-blocking-ne0
+    overflow_cast-order
+    bounds-order-at
+    remove-left-requires
+    overflow_add-result
+    returns-then-blocking-ne0)

@@ -11,128 +11,128 @@ use Rattle.order_steps.specs.Orders.{Counted, Predecessors, counts_into, precede
 use Rattle.order_steps.proofs.predecessors.Statement.{statement}
 use Rattle.order_steps.proofs.predecessors.Tie as tie
 
-abbrev invariant-loop : tie.invariant-loop
-invariant-loop es before₀ counted₀ i₀ before counted i = (i ≤ length es) × Predecessors (graph (take i es)) before × Counted (graph (take i es)) counted
+abbrev invariant-loop-i : tie.invariant-loop-i
+invariant-loop-i es before₀ counted₀ i₀ before counted i = (i ≤ length es) × Predecessors (graph (take i es)) before × Counted (graph (take i es)) counted
 
-abbrev decreases-loop : tie.decreases-loop
-decreases-loop es before₀ counted₀ i₀ before counted i = length es - i
+abbrev decreases-loop-i : tie.decreases-loop-i
+decreases-loop-i es before₀ counted₀ i₀ before counted i = length es - i
 
 -- Places: from where both bits of an edge are put in, the first of them; from there, the edge and the turn.
-abbrev first : tie.After-insert-if2 invariant-loop decreases-loop → tie.After-insert-if invariant-loop decreases-loop
+abbrev first : tie.After-insert_if-anchors invariant-loop-i decreases-loop-i → tie.After-insert_if-row invariant-loop-i decreases-loop-i
 first s = s.before.before.before
 
-abbrev edge : tie.After-insert-if invariant-loop decreases-loop → tie.After-is-back invariant-loop decreases-loop
+abbrev edge : tie.After-insert_if-row invariant-loop-i decreases-loop-i → tie.After-is_back-forward invariant-loop-i decreases-loop-i
 edge s = s.before.before
 
-abbrev turn : tie.After-is-back invariant-loop decreases-loop → tie.At-loop invariant-loop decreases-loop
+abbrev turn : tie.After-is_back-forward invariant-loop-i decreases-loop-i → tie.At-loop-i invariant-loop-i decreases-loop-i
 turn s = s.before.before.before.before.before
 
-loop_holds : tie.Need-loop-init invariant-loop decreases-loop
+loop-i-init : tie.Need-loop-i-init invariant-loop-i decreases-loop-i
 unfolding graph
-loop_holds c =
+loop-i-init c =
     let b = c.before in
     (omega arith, rw b.requires.0 (pass_none precedes unpack b.args.es.now), rw b.requires.1 (pass_none counts_into unpack b.args.es.now))
 
-mul_w : tie.Need-overflow-mul-w invariant-loop decreases-loop
-mul_w c = search rules
+offset_bounds-es-i : tie.Need-offset_bounds-es-i invariant-loop-i decreases-loop-i
+offset_bounds-es-i c = search rules
 
-shared_slice_read_w : tie.Need-shared-slice-read-w invariant-loop decreases-loop
-shared_slice_read_w c = search rules
+bounds-es-i : tie.Need-bounds-es-i invariant-loop-i decreases-loop-i
+bounds-es-i c = search rules
 
-edge_to_requires : tie.Need-edge-to-requires invariant-loop decreases-loop
-edge_to_requires c κs = search rules
+edge_to-v-requires : tie.Need-edge_to-v-requires invariant-loop-i decreases-loop-i
+edge_to-v-requires c κs = search rules
 
-edge_from_requires : tie.Need-edge-from-requires invariant-loop decreases-loop
-edge_from_requires c κs = search rules
+edge_from-u-requires : tie.Need-edge_from-u-requires invariant-loop-i decreases-loop-i
+edge_from-u-requires c κs = search rules
 
-is_back_requires : tie.Need-is-back-requires invariant-loop decreases-loop
-is_back_requires c κs = search rules
+is_back-forward-requires : tie.Need-is_back-forward-requires invariant-loop-i decreases-loop-i
+is_back-forward-requires c κs = search rules
 
-mul_insert_if : tie.Need-overflow-mul-insert-if invariant-loop decreases-loop
-mul_insert_if c = search rules
+offset_bounds-before-v : tie.Need-offset_bounds-before-v invariant-loop-i decreases-loop-i
+offset_bounds-before-v c = search rules
 
-element_copy_out_insert_if : tie.Need-element-copy-out-insert-if invariant-loop decreases-loop
-element_copy_out_insert_if c = search rules
+bounds-before-v : tie.Need-bounds-before-v invariant-loop-i decreases-loop-i
+bounds-before-v c = search rules
 
-insert_if_requires : tie.Need-insert-if-requires invariant-loop decreases-loop
-insert_if_requires c κs = search rules
+insert_if-row-requires : tie.Need-insert_if-row-requires invariant-loop-i decreases-loop-i
+insert_if-row-requires c κs = search rules
 
-mul_before : tie.Need-overflow-mul-before invariant-loop decreases-loop
-mul_before c = search rules
+offset_bounds-before-v-in-loop-i : tie.Need-offset_bounds-before-v-in-loop-i invariant-loop-i decreases-loop-i
+offset_bounds-before-v-in-loop-i c = search rules
 
-element_write_before : tie.Need-element-write-before invariant-loop decreases-loop
-element_write_before c = search rules
+bounds-before-v-in-loop-i : tie.Need-bounds-before-v-in-loop-i invariant-loop-i decreases-loop-i
+bounds-before-v-in-loop-i c = search rules
 
-is_counted_requires : tie.Need-is-counted-requires invariant-loop decreases-loop
-is_counted_requires c κs = search rules
+is_counted-counts-requires : tie.Need-is_counted-counts-requires invariant-loop-i decreases-loop-i
+is_counted-counts-requires c κs = search rules
 
-mul_insert_if_2 : tie.Need-overflow-mul-insert-if-2 invariant-loop decreases-loop
-mul_insert_if_2 c = search rules
+offset_bounds-counted-v : tie.Need-offset_bounds-counted-v invariant-loop-i decreases-loop-i
+offset_bounds-counted-v c = search rules
 
-element_copy_out_insert_if_2 : tie.Need-element-copy-out-insert-if-2 invariant-loop decreases-loop
-element_copy_out_insert_if_2 c = search rules
+bounds-counted-v : tie.Need-bounds-counted-v invariant-loop-i decreases-loop-i
+bounds-counted-v c = search rules
 
-insert_if_requires_2 : tie.Need-insert-if-requires-2 invariant-loop decreases-loop
-insert_if_requires_2 c κs = search rules
+insert_if-anchors-requires : tie.Need-insert_if-anchors-requires invariant-loop-i decreases-loop-i
+insert_if-anchors-requires c κs = search rules
 
-mul_counted : tie.Need-overflow-mul-counted invariant-loop decreases-loop
-mul_counted c = search rules
+offset_bounds-counted-v-in-loop-i : tie.Need-offset_bounds-counted-v-in-loop-i invariant-loop-i decreases-loop-i
+offset_bounds-counted-v-in-loop-i c = search rules
 
-element_write_counted : tie.Need-element-write-counted invariant-loop decreases-loop
-element_write_counted c = search rules
+bounds-counted-v-in-loop-i : tie.Need-bounds-counted-v-in-loop-i invariant-loop-i decreases-loop-i
+bounds-counted-v-in-loop-i c = search rules
 
-add_i : tie.Need-overflow-add-i invariant-loop decreases-loop
-add_i c = search rules
+overflow_add-i : tie.Need-overflow_add-i invariant-loop-i decreases-loop-i
+overflow_add-i c = search rules
 
-loop_less : tie.Need-loop-smaller invariant-loop decreases-loop
-loop_less c = search rules
+loop-i-smaller : tie.Need-loop-i-smaller invariant-loop-i decreases-loop-i
+loop-i-smaller c = search rules
 
-loop_again : tie.Need-loop-preserved invariant-loop decreases-loop
+loop-i-preserved : tie.Need-loop-i-preserved invariant-loop-i decreases-loop-i
 unfolding graph
-loop_again c =
+loop-i-preserved c =
     let b = edge (first c) in
     let t = turn b in
     let es = t.before.before.args.es.now in
-    let to = b.before.before.edge_to.ensures in
-    let from = b.before.edge-from.ensures in
-    let inside : t.loop.i < length es = search rules in (
+    let to = b.before.before.edge_to-v.ensures in
+    let from = b.before.edge_from-u.ensures in
+    let inside : t.loop-i.i < length es = search rules in (
       omega arith,
-      relate_more (λ e. e.to) (λ e. e.from) (λ e. not e.back) unpack es t.loop.i 0 (first c).insert-if.result inside t.loop.inv.1 to.0 to.1 from.0 (ap not b.is-back.ensures) (first c).insert-if.ensures,
-      relate_more (λ e. e.to) (λ e. e.from) (λ e. e.counted) unpack es t.loop.i 0 c.insert-if2.result inside t.loop.inv.2 to.0 to.1 from.0 c.before.before.is-counted.ensures c.insert-if2.ensures,
+      relate_more (λ e. e.to) (λ e. e.from) (λ e. not e.back) unpack es t.loop-i.i 0 (first c).insert_if-row.result inside t.loop-i.inv.1 to.0 to.1 from.0 (ap not b.is_back-forward.ensures) (first c).insert_if-row.ensures,
+      relate_more (λ e. e.to) (λ e. e.from) (λ e. e.counted) unpack es t.loop-i.i 0 c.insert_if-anchors.result inside t.loop-i.inv.2 to.0 to.1 from.0 c.before.before.is_counted-counts.ensures c.insert_if-anchors.ensures,
     )
 
-returns : tie.Need-returns invariant-loop decreases-loop
+returns : tie.Need-returns invariant-loop-i decreases-loop-i
 unfolding graph
 returns c =
     let t = c.before in
     let es = t.before.before.args.es.now in
-    let over : length es ≤ t.loop.i = search rules in
-    (pass_all precedes unpack es t.loop.i over t.loop.invariant.1, pass_all counts_into unpack es t.loop.i over t.loop.invariant.2)
+    let over : length es ≤ t.loop-i.i = search rules in
+    (pass_all precedes unpack es t.loop-i.i over t.loop-i.invariant.1, pass_all counts_into unpack es t.loop-i.i over t.loop-i.invariant.2)
 
 pub predecessors_spec : {M : Type 1} → statement M
 predecessors_spec =
     tie.close
     (tie.spec
-    invariant-loop
-    decreases-loop
-    loop_holds
-    mul_w
-    shared_slice_read_w
-    edge_to_requires
-    edge_from_requires
-    is_back_requires
-    mul_insert_if
-    element_copy_out_insert_if
-    insert_if_requires
-    mul_before
-    element_write_before
-    is_counted_requires
-    mul_insert_if_2
-    element_copy_out_insert_if_2
-    insert_if_requires_2
-    mul_counted
-    element_write_counted
-    add_i
-    loop_less
-    loop_again
+    invariant-loop-i
+    decreases-loop-i
+    loop-i-init
+    offset_bounds-es-i
+    bounds-es-i
+    edge_to-v-requires
+    edge_from-u-requires
+    is_back-forward-requires
+    offset_bounds-before-v
+    bounds-before-v
+    insert_if-row-requires
+    offset_bounds-before-v-in-loop-i
+    bounds-before-v-in-loop-i
+    is_counted-counts-requires
+    offset_bounds-counted-v
+    bounds-counted-v
+    insert_if-anchors-requires
+    offset_bounds-counted-v-in-loop-i
+    bounds-counted-v-in-loop-i
+    overflow_add-i
+    loop-i-smaller
+    loop-i-preserved
     returns)

@@ -11,108 +11,108 @@ use Rattle.plan_answer.proofs.answer_listed.Statement.{statement}
 use Rattle.plan_answer.proofs.answer_listed.Tie as tie
 
 -- Places on the way: the lists made, from where the question is looked at; and the start.
-abbrev listed : tie.After-slice-known3 → tie.After-list
+abbrev listed : tie.After-slice_known-3-1 → tie.After-list
 listed s = s.before.before
 
-abbrev start : tie.After-slice-known3 → tie.Start
+abbrev start : tie.After-slice_known-3-1 → tie.Start
 start s = (listed s).before.before.before.before.before.before
 
-list_requires : tie.Need-list-requires
-list_requires c κs =
+list-requires : tie.Need-list-requires
+list-requires c κs =
     let s = c.before.before.before.before.before in
     let p = s.requires.0 in
     record { few = p.sheet.edges; light = λ k b. p.sheet.formed.gains (unpack (get_or s.args.es.now k 0)) (graph_at s.args.es.now k b); long = p.room; empty = p.empty }
 
-enum_told : tie.Need-enum-told
-enum_told c = search rules
+enum_told-1 : tie.Need-enum_told-1
+enum_told-1 c = search rules
 
-judge_edges_requires : tie.Need-judge-edges-requires
-judge_edges_requires c κs =
+judge_edges-requires : tie.Need-judge_edges-requires
+judge_edges-requires c κs =
     let s = c.before.before.before.before in
     let p = (start s).requires in
     (record { some = p.0.sheet.some; few = p.0.sheet.few; listed = (listed s).list.ensures }, p.1)
 
-same_length : tie.Need-same-length
-same_length c = search rules
+shape_of-lists-in-Judgement : tie.Need-shape_of-lists-in-Judgement
+shape_of-lists-in-Judgement c = search rules
 
-returns : tie.Need-returns
-returns c os o =
+returns-in-Judgement : tie.Need-returns-in-Judgement
+returns-in-Judgement c os o =
     let told = c.before.before.before in
     let st = start told.before.before in
-    judged_responds _ _ _ st.args.allow os st.args.list.now st.args.out.now told.enum_told.given.1 (c.judge_edges.ensures st.pre.0.sheet.formed)
+    judged_responds _ _ _ st.args.allow os st.args.list.now st.args.out-1.now told.enum_told-1.given.1 (c.judge_edges.ensures st.pre.0.sheet.formed)
 
-slice_aggregate_answer_on : tie.Need-slice-aggregate-answer-on
-slice_aggregate_answer_on c = search rules
+slice_bounds-answer_on-end : tie.Need-slice_bounds-answer_on-end
+slice_bounds-answer_on-end c = search rules
 
-answer_on_requires : tie.Need-answer-on-requires
-answer_on_requires c κs =
+answer_on-requires : tie.Need-answer_on-requires
+answer_on-requires c κs =
     let s = c.before.before.before.before.before.before in
     (record { sheet = (start s).requires.0.sheet; adjacent = (listed s).list.ensures; rows = search rules; empty = empty_found few_steps }, (start s).requires.1)
 
-same_length_2 : tie.Need-same-length-2
-same_length_2 c = search rules
+shape_of-lists-then-n-le-FEW_STEPS : tie.Need-shape_of-lists-then-n-le-FEW_STEPS
+shape_of-lists-then-n-le-FEW_STEPS c = search rules
 
-same_length_3 : tie.Need-same-length-3
-same_length_3 c = search rules
+shape_of-out-then-n-le-FEW_STEPS : tie.Need-shape_of-out-then-n-le-FEW_STEPS
+shape_of-out-then-n-le-FEW_STEPS c = search rules
 
-returns_2 : tie.Need-returns-2
-returns_2 c = search rules
+returns-then-n-le-FEW_STEPS : tie.Need-returns-then-n-le-FEW_STEPS
+returns-in-Judgement-then-n-le-FEW_STEPS c = search rules
 
-slice_aggregate_answer_on_2 : tie.Need-slice-aggregate-answer-on-2
-slice_aggregate_answer_on_2 c = search rules
+slice_bounds-answer_on-end-then-n-le-SOME_STEPS : tie.Need-slice_bounds-answer_on-end-then-n-le-SOME_STEPS
+slice_bounds-answer_on-end-then-n-le-SOME_STEPS c = search rules
 
-answer_on_requires_2 : tie.Need-answer-on-requires-2
-answer_on_requires_2 c κs =
+answer_on-requires-then-n-le-SOME_STEPS : tie.Need-answer_on-requires-then-n-le-SOME_STEPS
+answer_on-requires-then-n-le-SOME_STEPS c κs =
     let s = c.before.before.before.before.before.before.before in
     (record { sheet = (start s).requires.0.sheet; adjacent = (listed s).list.ensures; rows = search rules; empty = empty_found some_steps }, (start s).requires.1)
 
-same_length_4 : tie.Need-same-length-4
-same_length_4 c = search rules
+shape_of-lists-then-n-le-SOME_STEPS : tie.Need-shape_of-lists-then-n-le-SOME_STEPS
+shape_of-lists-then-n-le-SOME_STEPS c = search rules
 
-same_length_5 : tie.Need-same-length-5
-same_length_5 c = search rules
+shape_of-out-then-n-le-SOME_STEPS : tie.Need-shape_of-out-then-n-le-SOME_STEPS
+shape_of-out-then-n-le-SOME_STEPS c = search rules
 
-returns_3 : tie.Need-returns-3
-returns_3 c = search rules
+returns-then-n-le-SOME_STEPS : tie.Need-returns-then-n-le-SOME_STEPS
+returns-in-Judgement-then-n-le-SOME_STEPS c = search rules
 
-slice_aggregate_answer_on_3 : tie.Need-slice-aggregate-answer-on-3
-slice_aggregate_answer_on_3 c = search rules
+slice_bounds-answer_on-end-2 : tie.Need-slice_bounds-answer_on-end-2
+slice_bounds-answer_on-end-2 c = search rules
 
-answer_on_requires_3 : tie.Need-answer-on-requires-3
-answer_on_requires_3 c κs =
+answer_on-requires-2 : tie.Need-answer_on-requires-2
+answer_on-requires-2 c κs =
     let s = c.before.before.before.before.before.before.before in
     (record { sheet = (start s).requires.0.sheet; adjacent = (listed s).list.ensures; rows = (start s).requires.0.sheet.few; empty = empty_found most_steps }, (start s).requires.1)
 
-same_length_6 : tie.Need-same-length-6
-same_length_6 c = search rules
+shape_of-lists : tie.Need-shape_of-lists
+shape_of-lists c = search rules
 
-same_length_7 : tie.Need-same-length-7
-same_length_7 c = search rules
+shape_of-out : tie.Need-shape_of-out
+shape_of-out c = search rules
 
-returns_4 : tie.Need-returns-4
-returns_4 c = search rules
+returns : tie.Need-returns
+returns-in-Judgement c = search rules
 
 pub answer_listed_spec : {M : Type 1} → statement M
 answer_listed_spec =
     tie.close
     (tie.spec
-    list_requires
-    enum_told
-    judge_edges_requires
-    same_length
-    returns
-    slice_aggregate_answer_on
-    answer_on_requires
-    same_length_2
-    same_length_3
-    returns_2
-    slice_aggregate_answer_on_2
-    answer_on_requires_2
-    same_length_4
-    same_length_5
-    returns_3
-    slice_aggregate_answer_on_3
-    answer_on_requires_3
-    same_length_6
-    same_length_7
-    returns_4)
+    list-requires
+    enum_told-1
+    judge_edges-requires
+    shape_of-lists-in-Judgement
+    returns-in-Judgement
+    slice_bounds-answer_on-end
+    answer_on-requires
+    shape_of-lists-then-n-le-FEW_STEPS
+    shape_of-out-then-n-le-FEW_STEPS
+    returns-in-Judgement-then-n-le-FEW_STEPS
+    slice_bounds-answer_on-end-then-n-le-SOME_STEPS
+    answer_on-requires-then-n-le-SOME_STEPS
+    shape_of-lists-then-n-le-SOME_STEPS
+    shape_of-out-then-n-le-SOME_STEPS
+    returns-in-Judgement-then-n-le-SOME_STEPS
+    slice_bounds-answer_on-end-2
+    answer_on-requires-2
+    shape_of-lists
+    shape_of-out
+    returns-in-Judgement)

@@ -13,78 +13,78 @@ use Rattle.plan_answer.proofs.answer_on.Statement.{statement}
 use Rattle.plan_answer.proofs.answer_on.Tie as tie
 
 -- Places on the way: the start, from where the edges are tabulated; that place, from where the verdict is checked; and this, from where it accepts.
-abbrev start : tie.After-tabulate → tie.Start
+abbrev start : tie.After-tabulate-found → tie.Start
 start s = s.before.before.before.before.before.before.before.before.before
 
-abbrev tabulated : tie.After-checked → tie.After-tabulate
+abbrev tabulated : tie.After-checked-verdict → tie.After-tabulate-found
 tabulated s = s.before.before
 
-abbrev check : tie.Else1 → tie.After-checked
+abbrev check : tie.Else-not-accepted → tie.After-checked-verdict
 check s = s.before.before
 
-accepts : (s : tie.Else1) → is_given (verdict_of (check s).checked.result) ≡ true
-accepts s = sym s.before.accepted.ensures ∙ not-false _ s.if1.false
+accepts : (s : tie.Else-not-accepted) → is_given (verdict_of (check s).checked-verdict.result) ≡ true
+accepts s = sym s.before.accepted.ensures ∙ not-false _ s.if-not-accepted.false
 
-tabulate_requires : tie.Need-tabulate-requires
-tabulate_requires c κs =
+tabulate-found-requires : tie.Need-tabulate-found-requires
+tabulate-found-requires c κs =
     let p = c.before.before.before.before.before.before.before.before.requires in
     (p.0, record { rows = search rules; maps = p.1; numbers = blank_found })
 
-checked_requires : tie.Need-checked-requires
-checked_requires c κs = (start c.before).requires.0.sheet.few
+checked-verdict-requires : tie.Need-checked-verdict-requires
+checked-verdict-requires c κs = (start c.before).requires.0.sheet.few
 
-accepted_requires : tie.Need-accepted-requires
-accepted_requires c κs = search rules
+accepted-requires : tie.Need-accepted-requires
+accepted-requires c κs = search rules
 
-same_length : tie.Need-same-length
-same_length c = search rules
+shape_of-d-then-not-accepted : tie.Need-shape_of-d-then-not-accepted
+shape_of-d-then-not-accepted c = search rules
 
-returns : tie.Need-returns
-returns c os o =
+returns-then-not-accepted : tie.Need-returns-then-not-accepted
+returns-then-not-accepted c os o =
     let k = c.before.before in
     let args = (start (tabulated k)).args in
-    let listed = (tabulated k).tabulate.ensures.listed in
-    let checks = k.checked.ensures.checks os o in
-    let no = sym c.before.accepted.ensures ∙ not-true _ c.if1.true in
+    let listed = (tabulated k).tabulate-found.ensures.listed in
+    let checks = k.checked-verdict.ensures.checks os o in
+    let no = sym c.before.accepted.ensures ∙ not-true _ c.if-not-accepted.true in
     record {
-      verdict = outcome_of args.question _ _ _ args.allow os args.list.now args.out.now listed.judges checks;
-      numbers = refused_stays args.question _ _ _ args.allow os args.list.now args.out.now listed.judges checks no;
+      verdict = outcome_of args.question _ _ _ args.allow os args.list.now args.out-1.now listed.judges checks;
+      numbers = refused_stays args.question _ _ _ args.allow os args.list.now args.out-1.now listed.judges checks no;
       waits = record { found = listed.found; blank = listed.blank };
     }
 
-write_requires : tie.Need-write-requires
-write_requires c κs =
+write-requires : tie.Need-write-requires
+write-requires c κs =
     let e = c.before.before.before.before in
     let k = check e in
-    let held = (tabulated k).tabulate.ensures.held (k.checked.ensures.accepted (accepts e)) in
+    let held = (tabulated k).tabulate-found.ensures.held (k.checked-verdict.ensures.accepted (accepts e)) in
     record {
       rows = held.rows;
       inside = λ v a b h. omega (arith, member_below held.holds a v b h, held.rows.inside);
-      room = k.checked.ensures.fits (accepts e);
+      room = k.checked-verdict.ensures.fits (accepts e);
     }
 
-same_length_2 : tie.Need-same-length-2
-same_length_2 c = search rules
+shape_of-d : tie.Need-shape_of-d
+shape_of-d c = search rules
 
-same_length_3 : tie.Need-same-length-3
-same_length_3 c = search rules
+shape_of-out : tie.Need-shape_of-out
+shape_of-out c = search rules
 
-returns_2 : tie.Need-returns-2
-returns_2 c os o =
+returns : tie.Need-returns
+returns-then-not-accepted c os o =
     let w = c.before.before in
     let e = w.before.before.before.before.before in
     let k = check e in
     let st = start (tabulated k) in
     let args = st.args in
     let sheet = st.pre.0.sheet in
-    let listed = (tabulated k).tabulate.ensures.listed in
-    let held = (tabulated k).tabulate.ensures.held (k.checked.ensures.accepted (accepts e)) in
-    let checks = k.checked.ensures.checks os o in
+    let listed = (tabulated k).tabulate-found.ensures.listed in
+    let held = (tabulated k).tabulate-found.ensures.held (k.checked-verdict.ensures.accepted (accepts e)) in
+    let checks = k.checked-verdict.ensures.checks os o in
     let right = list_right _ _ _ os _ _ checks (accepts e) in
-    let fits = fitting held sheet.formed.gains sheet.formed.leasts sheet.few args.question os args.list.now _ o.long o.least right (k.checked.ensures.fits (accepts e)) in
+    let fits = fitting held sheet.formed.gains sheet.formed.leasts sheet.few args.question os args.list.now _ o.long o.least right (k.checked-verdict.ensures.fits (accepts e)) in
     record {
-      verdict = outcome_of args.question _ _ _ args.allow os args.list.now args.out.now listed.judges checks;
-      numbers = given_written args.question _ _ _ args.allow os args.list.now args.out.now listed.judges checks (accepts e) (w.write.ensures _ sheet.formed.leasts held fits);
+      verdict = outcome_of args.question _ _ _ args.allow os args.list.now args.out-1.now listed.judges checks;
+      numbers = given_written args.question _ _ _ args.allow os args.list.now args.out-1.now listed.judges checks (accepts e) (w.write.ensures _ sheet.formed.leasts held fits);
       waits = record { found = listed.found; blank = listed.blank };
     }
 
@@ -92,12 +92,12 @@ pub answer_on_spec : {M : Type 1} → statement M
 answer_on_spec =
     tie.close
     (tie.spec
-    tabulate_requires
-    checked_requires
-    accepted_requires
-    same_length
-    returns
-    write_requires
-    same_length_2
-    same_length_3
-    returns_2)
+    tabulate-found-requires
+    checked-verdict-requires
+    accepted-requires
+    shape_of-d-then-not-accepted
+    returns-then-not-accepted
+    write-requires
+    shape_of-d
+    shape_of-out
+    returns-then-not-accepted)

@@ -10,53 +10,53 @@ use Rattle.plan_answer.proofs.answer_read.Statement.{statement}
 use Rattle.plan_answer.proofs.answer_read.Tie as tie
 
 -- Places on the way: the start, from where the sheet is found whole.
-abbrev start : tie.After-enum-told → tie.Start
+abbrev start : tie.In_default → tie.Start
 start s = s.before.before.before.before.before.before
 
 -- What was read: the sheet, held in the report and the words. Bytes are below 256.
-read_whole : (s : tie.After-enum-told) → Whole (start s).args.s.now (start s).args.words.now (start s).args.leasts.now (start s).args.report
-read_whole s = whole (start s).args.s.now _ _ _ (λ i. (s.before.before.before.before.before.shared-slice-known.given i).fits) (start s).requires.0 s.enum_told.given.1
+read_whole : (s : tie.In_default) → Whole (start s).args.s.now (start s).args.words.now (start s).args.leasts.now (start s).args.report
+read_whole s = whole (start s).args.s.now _ _ _ (λ i. (s.before.before.before.before.before.shared_slice_known-1.given i).fits) (start s).requires.0 s.enum_told-1.given.1
 
-enum_known_reading : tie.Need-enum-known-reading
-enum_known_reading c = search rules
+enum_known-reading : tie.Need-enum_known-reading
+enum_known-reading c = search rules
 
-returns : tie.Need-returns
-returns c =
+returns-in-Refused : tie.Need-returns-in-Refused
+returns-in-Refused c =
     let st = c.before.before.before.before.before.before.before in
-    refused_answers st.args.s.now (report_refused _ _ _ _ _ st.requires.0 c.before.reading.given.1) st.args.question st.args.allow st.args.list.now st.args.out.now refl st.requires.1 refl
+    refused_answers st.args.s.now (report_refused _ _ _ _ _ st.requires.0 c.before.reading-1.given.1) st.args.question st.args.allow st.args.list.now st.args.out-1.now refl st.requires.1 refl
 
-enum_told : tie.Need-enum-told
-enum_told c = search rules
+enum_told-1 : tie.Need-enum_told-1
+enum_told-1 c = search rules
 
-slice_aggregate_answer_edges : tie.Need-slice-aggregate-answer-edges
-slice_aggregate_answer_edges c = sym (length-take-le _ _ (read_whole c.before).found.holds.within)
+slice_bounds-answer_edges-end : tie.Need-slice_bounds-answer_edges-end
+slice_bounds-answer_edges-end c = sym (length-take-le _ _ (read_whole c.before).found.holds.within)
 
-answer_edges_requires : tie.Need-answer-edges-requires
-answer_edges_requires c κs =
+answer_edges-requires : tie.Need-answer_edges-requires
+answer_edges-requires c κs =
     let s = c.before.before.before in
     let w = read_whole s in
     (held_sheet w.fits w.found.holds, (start s).requires.1)
 
-same_length : tie.Need-same-length
-same_length c = search rules
+shape_of-out : tie.Need-shape_of-out
+shape_of-out c = search rules
 
-returns_2 : tie.Need-returns-2
-returns_2 c =
+returns : tie.Need-returns
+returns-in-Refused c =
     let called = c.before.before in
     let s = called.before.before.before.before in
     let args = (start s).args in
     let w = read_whole s in
-    given_answers args.s.now w.found.is_given args.question args.allow args.list.now args.out.now
-    (sheet_responds w.fits w.found.holds args.question args.allow args.list.now args.out.now called.answer-edges.ensures)
+    given_answers args.s.now w.found.is_given args.question args.allow args.list.now args.out-1.now
+    (sheet_responds w.fits w.found.holds args.question args.allow args.list.now args.out-1.now called.answer_edges.ensures)
 
 pub answer_read_spec : {M : Type 1} → statement M
 answer_read_spec =
     tie.close
     (tie.spec
-    enum_known_reading
-    returns
-    enum_told
-    slice_aggregate_answer_edges
-    answer_edges_requires
-    same_length
-    returns_2)
+    enum_known-reading
+    returns-in-Refused
+    enum_told-1
+    slice_bounds-answer_edges-end
+    answer_edges-requires
+    shape_of-out
+    returns-in-Refused)

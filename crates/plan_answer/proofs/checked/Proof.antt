@@ -15,49 +15,49 @@ abbrev start : tie.After-accepted → tie.Start
 start s = s.before.before
 
 -- Past the first test the verdict accepts.
-accepts : (s : tie.Else1) → is_given (verdict_of (start s.before).args.verdict) ≡ true
-accepts s = sym s.before.accepted.ensures ∙ not-false _ s.if1.false
+accepts : (s : tie.Else-not-accepted) → is_given (verdict_of (start s.before).args.verdict) ≡ true
+accepts s = sym s.before.accepted.ensures ∙ not-false _ s.if-not-accepted.false
 
-accepted_requires : tie.Need-accepted-requires
-accepted_requires c κs = search rules
+accepted-requires : tie.Need-accepted-requires
+accepted-requires c κs = search rules
 
-returns : tie.Need-returns
-returns c =
-    let no = sym c.before.accepted.ensures ∙ not-true _ c.if1.true in
+returns-then-not-accepted : tie.Need-returns-then-not-accepted
+returns-then-not-accepted c =
+    let no = sym c.before.accepted.ensures ∙ not-true _ c.if-not-accepted.true in
     record { checks = λ os o. sym (when_refused _ _ no); accepted = λ h. h; fits = λ h. absurd (both_ways h no) }
 
-wrong_list_requires : tie.Need-wrong-list-requires
-wrong_list_requires c κs = search rules
+wrong_list-requires : tie.Need-wrong_list-requires
+wrong_list-requires c κs = search rules
 
-returns_2 : tie.Need-returns-2
-returns_2 c =
+returns-then-wrong_list : tie.Need-returns-then-wrong_list
+returns-then-not-accepted-then-wrong_list c =
     let tested = c.before in
     record {
-      checks = λ os o. wrong_refused _ _ _ os _ _ (accepts tested.before) (sym (tested.wrong-list.ensures os o) ∙ c.if2.true);
+      checks = λ os o. wrong_refused _ _ _ os _ _ (accepts tested.before) (sym (tested.wrong_list.ensures os o) ∙ c.if-wrong_list.true);
       accepted = λ h. absurd (false≢true h);
       fits = λ h. absurd (false≢true h);
     }
 
-too_short_requires : tie.Need-too-short-requires
-too_short_requires c κs = search rules
+too_short-requires : tie.Need-too_short-requires
+too_short-requires c κs = search rules
 
-returns_3 : tie.Need-returns-3
-returns_3 c =
+returns-then-too_short : tie.Need-returns-then-too_short
+returns-then-not-accepted-then-too_short c =
     let right = c.before.before in
     let tested = right.before in
     record {
-      checks = λ os o. short_refused _ _ _ os _ _ (accepts tested.before) (sym (tested.wrong-list.ensures os o) ∙ right.if2.false) (sym c.before.too_short.ensures ∙ c.if3.true);
+      checks = λ os o. short_refused _ _ _ os _ _ (accepts tested.before) (sym (tested.wrong_list.ensures os o) ∙ right.if-wrong_list.false) (sym c.before.too_short.ensures ∙ c.if-too_short.true);
       accepted = λ h. absurd (false≢true h);
       fits = λ h. absurd (false≢true h);
     }
 
-returns_4 : tie.Need-returns-4
-returns_4 c =
+returns : tie.Need-returns
+returns-then-not-accepted c =
     let right = c.before.before in
     let tested = right.before in
-    let long = sym c.before.too_short.ensures ∙ c.if3.false in
+    let long = sym c.before.too_short.ensures ∙ c.if-too_short.false in
     record {
-      checks = λ os o. passes _ _ _ os _ _ (sym (tested.wrong-list.ensures os o) ∙ right.if2.false) long;
+      checks = λ os o. passes _ _ _ os _ _ (sym (tested.wrong_list.ensures os o) ∙ right.if-wrong_list.false) long;
       accepted = λ h. accepts tested.before;
       fits = λ h. long;
     }
@@ -66,10 +66,10 @@ pub checked_spec : {M : Type 1} → statement M
 checked_spec =
     tie.close
     (tie.spec
-    accepted_requires
-    returns
-    wrong_list_requires
-    returns_2
-    too_short_requires
-    returns_3
-    returns_4)
+    accepted-requires
+    returns-then-not-accepted
+    wrong_list-requires
+    returns-then-not-accepted-then-wrong_list
+    too_short-requires
+    returns-then-not-accepted-then-too_short
+    returns-then-not-accepted)

@@ -6,39 +6,39 @@ use Rattle.plan_answer.proofs.Writing.{list_long, list_short}
 use Rattle.plan_answer.proofs.too_short.Statement.{statement}
 use Rattle.plan_answer.proofs.too_short.Tie as tie
 
-enum_told : tie.Need-enum-told
-enum_told c = search rules
+enum_told-1 : tie.Need-enum_told-1
+enum_told-1 c = search rules
 
-enum_told_2 : tie.Need-enum-told-2
-enum_told_2 c = search rules
+enum_told-in-Plan : tie.Need-enum_told-in-Plan
+enum_told-1-in-Plan c = search rules
 
-mul_result : tie.Need-overflow-mul-result
-mul_result c = let start = c.before.before in record { fits = omega (arith, square_small start.args.n start.requires) }
+overflow_mul-result : tie.Need-overflow_mul-result
+overflow_mul-result c = let start = c.before.before in record { fits = omega (arith, square_small start.args.n start.requires) }
 
-enum_told_3 : tie.Need-enum-told-3
-enum_told_3 c = search rules
+enum_told-in-Starts : tie.Need-enum_told-in-Starts
+enum_told-1-in-Starts c = search rules
 
-returns : tie.Need-returns
-returns c = let start = c.before.before.before in rw c.before.enum-told3.given.1 (list_short start.args.n start.args.list start.args.room c.if1.true)
+returns-then-list-n : tie.Need-returns-then-list-n
+returns-then-list-n c = let start = c.before.before.before in rw c.before.enum_told-in-Starts-1.given.1 (list_short start.args.n start.args.list start.args.room c.if-list-n.true)
 
-returns_2 : tie.Need-returns-2
-returns_2 c = rw c.enum_told.given.1
+returns-in-Judgement : tie.Need-returns-in-Judgement
+returns-then-list-n-in-Judgement c = rw c.enum_told-1.given.1
 
-returns_3 : tie.Need-returns-3
-returns_3 c = rw c.enum-told2.given.1
+returns-in-Plan : tie.Need-returns-in-Plan
+returns-then-list-n-in-Plan c = rw c.enum_told-in-Plan-1.given.1
 
-returns_4 : tie.Need-returns-4
-returns_4 c = let start = c.before.before.before in rw c.before.enum-told3.given.1 (list_long start.args.n start.args.list start.args.room c.if1.false)
+returns-else-list-n : tie.Need-returns-else-list-n
+returns-then-list-n-else-list-n c = let start = c.before.before.before in rw c.before.enum_told-in-Starts-1.given.1 (list_long start.args.n start.args.list start.args.room c.if-list-n.false)
 
 pub too_short_spec : {M : Type 1} → statement M
 too_short_spec =
     tie.close
     (tie.spec
-    enum_told
-    enum_told_2
-    mul_result
-    enum_told_3
-    returns
-    returns_2
-    returns_3
-    returns_4)
+    enum_told-1
+    enum_told-1-in-Plan
+    overflow_mul-result
+    enum_told-1-in-Starts
+    returns-then-list-n
+    returns-then-list-n-in-Judgement
+    returns-then-list-n-in-Plan
+    returns-then-list-n-else-list-n)

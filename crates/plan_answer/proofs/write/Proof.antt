@@ -8,60 +8,60 @@ use Rattle.plan_answer.proofs.write.Statement.{statement}
 use Rattle.plan_answer.proofs.write.Tie as tie
 
 -- Places on the way: the start, from where the question is looked at.
-abbrev start : tie.After-slice-known → tie.Start
+abbrev start : tie.After-slice_known-1 → tie.Start
 start s = s.before.before
 
-enum_told : tie.Need-enum-told
-enum_told c = search rules
+enum_told-1 : tie.Need-enum_told-1
+enum_told-1 c = search rules
 
-enum_told_2 : tie.Need-enum-told-2
-enum_told_2 c = search rules
+enum_told-in-Plan : tie.Need-enum_told-in-Plan
+enum_told-1-in-Plan c = search rules
 
-fill_plan_requires : tie.Need-fill-plan-requires
-fill_plan_requires c κs =
+fill_plan-requires : tie.Need-fill_plan-requires
+fill_plan-requires c κs =
     let p = (start c.before.before.before).requires in
-    record { rows = p.rows; members = p.inside; room = plan_room _ _ _ c.before.enum-told2.given.1 p.room }
+    record { rows = p.rows; members = p.inside; room = plan_room _ _ _ c.before.enum_told-in-Plan-1.given.1 p.room }
 
-enum_told_3 : tie.Need-enum-told-3
-enum_told_3 c = search rules
+enum_told-in-Starts : tie.Need-enum_told-in-Starts
+enum_told-1-in-Starts c = search rules
 
-fill_starts_requires : tie.Need-fill-starts-requires
-fill_starts_requires c κs =
+fill_starts-requires : tie.Need-fill_starts-requires
+fill_starts-requires c κs =
     let p = (start c.before.before.before).requires in
-    let room = starts_room _ _ _ c.before.enum-told3.given.1 p.room in
+    let room = starts_room _ _ _ c.before.enum_told-in-Starts-1.given.1 p.room in
     record { rows = p.rows; long = room.0; room = room.1 }
 
-returns : tie.Need-returns
-returns c g l t fits = nothing_stands _ _ g _ _ c.enum_told.given.1 refl
+returns-in-Judgement : tie.Need-returns-in-Judgement
+returns-in-Judgement c g l t fits = nothing_stands _ _ g _ _ c.enum_told-1.given.1 refl
 
-same_length : tie.Need-same-length
-same_length c = search rules
+shape_of-out-in-Plan : tie.Need-shape_of-out-in-Plan
+shape_of-out-in-Plan c = search rules
 
-returns_2 : tie.Need-returns-2
-returns_2 c g l t fits =
+returns-in-Plan : tie.Need-returns-in-Plan
+returns-in-Judgement-in-Plan c g l t fits =
     let filled = c.before.before in
-    plan_stands _ _ g _ _ filled.before.before.enum-told2.given.1
-    (filled.fill-plan.ensures.plan _ _ (plan_lasting _ t.well t.serial l.leasts l.source) (λ a b. refl) t.holds (holds_orderly (plan_well _ t.well t.serial) (plan_posed _ t.well t.serial) t.holds))
+    plan_stands _ _ g _ _ filled.before.before.enum_told-in-Plan-1.given.1
+    (filled.fill_plan.ensures.plan _ _ (plan_lasting _ t.well t.serial l.leasts l.source) (λ a b. refl) t.holds (holds_orderly (plan_well _ t.well t.serial) (plan_posed _ t.well t.serial) t.holds))
 
-same_length_2 : tie.Need-same-length-2
-same_length_2 c = search rules
+shape_of-out-in-Starts : tie.Need-shape_of-out-in-Starts
+shape_of-out-in-Starts c = search rules
 
-returns_3 : tie.Need-returns-3
-returns_3 c g l t fits =
+returns-in-Starts : tie.Need-returns-in-Starts
+returns-in-Judgement-in-Starts c g l t fits =
     let filled = c.before.before in
-    starts_stand _ _ g _ _ filled.before.before.enum-told3.given.1 fits (λ narrow. filled.fill-starts.ensures.times _ _ (λ a b. refl) t.holds narrow)
+    starts_stand _ _ g _ _ filled.before.before.enum_told-in-Starts-1.given.1 fits (λ narrow. filled.fill_starts.ensures.times _ _ (λ a b. refl) t.holds narrow)
 
 pub write_spec : {M : Type 1} → statement M
 write_spec =
     tie.close
     (tie.spec
-    enum_told
-    enum_told_2
-    fill_plan_requires
-    enum_told_3
-    fill_starts_requires
-    returns
-    same_length
-    returns_2
-    same_length_2
-    returns_3)
+    enum_told-1
+    enum_told-1-in-Plan
+    fill_plan-requires
+    enum_told-1-in-Starts
+    fill_starts-requires
+    returns-in-Judgement
+    shape_of-out-in-Plan
+    returns-in-Judgement-in-Plan
+    shape_of-out-in-Starts
+    returns-in-Judgement-in-Starts)

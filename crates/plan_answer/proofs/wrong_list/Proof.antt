@@ -4,35 +4,35 @@ use borrow.Author.Rules.{rules}
 use Rattle.plan_answer.proofs.wrong_list.Statement.{statement}
 use Rattle.plan_answer.proofs.wrong_list.Tie as tie
 
-enum_told : tie.Need-enum-told
-enum_told c = search rules
+enum_told-1 : tie.Need-enum_told-1
+enum_told-1 c = search rules
 
-enum_told_2 : tie.Need-enum-told-2
-enum_told_2 c = search rules
+enum_told-in-Plan : tie.Need-enum_told-in-Plan
+enum_told-1-in-Plan c = search rules
 
-enum_told_3 : tie.Need-enum-told-3
-enum_told_3 c = search rules
+enum_told-in-Starts : tie.Need-enum_told-in-Starts
+enum_told-1-in-Starts c = search rules
 
-delays_bad_requires : tie.Need-delays-bad-requires
-delays_bad_requires c κs = search rules
+delays_bad-requires : tie.Need-delays_bad-requires
+delays_bad-requires c κs = search rules
 
-returns : tie.Need-returns
-returns c os o = rw c.enum_told.given.1
+returns-in-Judgement : tie.Need-returns-in-Judgement
+returns-in-Judgement c os o = rw c.enum_told-1.given.1
 
-returns_2 : tie.Need-returns-2
-returns_2 c os o = rw c.enum-told2.given.1
+returns-in-Plan : tie.Need-returns-in-Plan
+returns-in-Judgement-in-Plan c os o = rw c.enum_told-in-Plan-1.given.1
 
-returns_3 : tie.Need-returns-3
-returns_3 c os o = rw c.before.enum-told3.given.1 (c.delays-bad.ensures.wrong os o.long o.opens (λ i b. o.least i))
+returns-in-Starts : tie.Need-returns-in-Starts
+returns-in-Judgement-in-Starts c os o = rw c.before.enum_told-in-Starts-1.given.1 (c.delays_bad.ensures.wrong os o.long o.opens (λ i b. o.least i))
 
 pub wrong_list_spec : {M : Type 1} → statement M
 wrong_list_spec =
     tie.close
     (tie.spec
-    enum_told
-    enum_told_2
-    enum_told_3
-    delays_bad_requires
-    returns
-    returns_2
-    returns_3)
+    enum_told-1
+    enum_told-1-in-Plan
+    enum_told-1-in-Starts
+    delays_bad-requires
+    returns-in-Judgement
+    returns-in-Judgement-in-Plan
+    returns-in-Judgement-in-Starts)

@@ -11,71 +11,71 @@ use native.Mathlib.Omega.{arith}
 use Rattle.plan_deciding.proofs.deciding_set.Statement.{statement}
 use Rattle.plan_deciding.proofs.deciding_set.Tie as tie
 
-abbrev invariant-loop : tie.invariant-loop
-invariant-loop d number sets v kept₀ left₀ kept left = ((b : ℕ) → test_bit left b ≡ true → member sets v b ≡ true) × (Orderly (read_by number d) sets v → Sieving (read_by number d) sets v kept left)
+abbrev invariant-loop-left : tie.invariant-loop-left
+invariant-loop-left d number sets v kept₀ left₀ kept left = ((b : ℕ) → test_bit left b ≡ true → member sets v b ≡ true) × (Orderly (read_by number d) sets v → Sieving (read_by number d) sets v kept left)
 
-abbrev decreases-loop : tie.decreases-loop
-decreases-loop d number sets v kept₀ left₀ kept left = left
+abbrev decreases-loop-left : tie.decreases-loop-left
+decreases-loop-left d number sets v kept₀ left₀ kept left = left
 
-mul_kept : tie.Need-overflow-mul-kept invariant-loop decreases-loop
-mul_kept c = search rules
+offset_bounds-sets-v : tie.Need-offset_bounds-sets-v invariant-loop-left decreases-loop-left
+offset_bounds-sets-v c = search rules
 
-element_copy_out_kept : tie.Need-element-copy-out-kept invariant-loop decreases-loop
-element_copy_out_kept c = search rules
+bounds-sets-v : tie.Need-bounds-sets-v invariant-loop-left decreases-loop-left
+bounds-sets-v c = search rules
 
-mul_left : tie.Need-overflow-mul-left invariant-loop decreases-loop
-mul_left c = search rules
+offset_bounds-sets-v-2 : tie.Need-offset_bounds-sets-v-2 invariant-loop-left decreases-loop-left
+offset_bounds-sets-v-2 c = search rules
 
-element_copy_out_left : tie.Need-element-copy-out-left invariant-loop decreases-loop
-element_copy_out_left c = search rules
+bounds-sets-v-2 : tie.Need-bounds-sets-v-2 invariant-loop-left decreases-loop-left
+bounds-sets-v-2 c = search rules
 
-loop_holds : tie.Need-loop-init invariant-loop decreases-loop
-loop_holds c = (λ b h. h, λ T. sieving_start _ _ _)
+loop-left-init : tie.Need-loop-left-init invariant-loop-left decreases-loop-left
+loop-left-init c = (λ b h. h, λ T. sieving_start _ _ _)
 
-highest_requires : tie.Need-highest-requires invariant-loop decreases-loop
-highest_requires c κs = omega arith
+highest-b-requires : tie.Need-highest-b-requires invariant-loop-left decreases-loop-left
+highest-b-requires c κs = omega arith
 
-without_covered_requires : tie.Need-without-covered-requires invariant-loop decreases-loop
-without_covered_requires c κs =
+without_covered-kept-requires : tie.Need-without_covered-kept-requires invariant-loop-left decreases-loop-left
+without_covered-kept-requires c κs =
     let top = c.before.before in
     let p = top.before.before.before.requires in
-    record { own = p.own; over = record { below = c.highest.ensures.below; inside = p.members _ (top.loop.invariant.0 _ c.highest.ensures.member); square = p.own.square } }
+    record { own = p.own; over = record { below = c.highest-b.ensures.below; inside = p.members _ (top.loop-left.invariant.0 _ c.highest-b.ensures.member); square = p.own.square } }
 
-remove_requires : tie.Need-remove-requires invariant-loop decreases-loop
-remove_requires c κs = c.before.highest.ensures.below
+remove-less-requires : tie.Need-remove-less-requires invariant-loop-left decreases-loop-left
+remove-less-requires c κs = c.before.highest-b.ensures.below
 
-both_requires : tie.Need-both-requires invariant-loop decreases-loop
-both_requires c κs = search rules
+both-left-requires : tie.Need-both-left-requires invariant-loop-left decreases-loop-left
+both-left-requires c κs = search rules
 
-loop_less : tie.Need-loop-smaller invariant-loop decreases-loop
-loop_less c = sieving_less _ _ _ _ _ c.before.before.before.highest.ensures.member c.before.remove.ensures c.both.ensures
+loop-left-smaller : tie.Need-loop-left-smaller invariant-loop-left decreases-loop-left
+loop-left-smaller c = sieving_less _ _ _ _ _ c.before.before.before.highest-b.ensures.member c.before.remove-less.ensures c.both-left.ensures
 
-loop_again : tie.Need-loop-preserved invariant-loop decreases-loop
-loop_again c =
+loop-left-preserved : tie.Need-loop-left-preserved invariant-loop-left decreases-loop-left
+loop-left-preserved c =
     let top = c.before.before.before in
-    let inv = top.before.before.loop.invariant in (
-      λ a h. inv.0 a (part_of _ _ _ _ _ a (c.before.remove.ensures a) (c.both.ensures a) h),
-      λ T. sieving_turn _ _ _ _ _ _ _ _ _ top.highest.ensures.below top.highest.ensures.member c.before.remove.ensures c.both.ensures c.before.before.without-covered.ensures T (inv.1 T),
+    let inv = top.before.before.loop-left.invariant in (
+      λ a h. inv.0 a (part_of _ _ _ _ _ a (c.before.remove-less.ensures a) (c.both-left.ensures a) h),
+      λ T. sieving_turn _ _ _ _ _ _ _ _ _ top.highest-b.ensures.below top.highest-b.ensures.member c.before.remove-less.ensures c.both-left.ensures c.before.before.without_covered-kept.ensures T (inv.1 T),
     )
 
-returns : tie.Need-returns invariant-loop decreases-loop
-returns c T a = sym (all_left_out _ _ _ T _ c.before.loop.left _ (omega arith)) ∙ (c.before.loop.invariant.1 T).same a
+returns : tie.Need-returns invariant-loop-left decreases-loop-left
+returns c T a = sym (all_left_out _ _ _ T _ c.before.loop-left.left-1 _ (omega arith)) ∙ (c.before.loop-left.invariant.1 T).same a
 
 pub deciding_set_spec : {M : Type 1} → statement M
 deciding_set_spec =
     tie.close
     (tie.spec
-    invariant-loop
-    decreases-loop
-    mul_kept
-    element_copy_out_kept
-    mul_left
-    element_copy_out_left
-    loop_holds
-    highest_requires
-    without_covered_requires
-    remove_requires
-    both_requires
-    loop_less
-    loop_again
+    invariant-loop-left
+    decreases-loop-left
+    offset_bounds-sets-v
+    bounds-sets-v
+    offset_bounds-sets-v-2
+    bounds-sets-v-2
+    loop-left-init
+    highest-b-requires
+    without_covered-kept-requires
+    remove-less-requires
+    both-left-requires
+    loop-left-smaller
+    loop-left-preserved
     returns)

@@ -7,19 +7,19 @@ use borrow.Author.Rules.{rules}
 use Rattle.plan_deciding.proofs.remove_if.Statement.{statement}
 use Rattle.plan_deciding.proofs.remove_if.Tie as tie
 
-remove_requires : tie.Need-remove-requires
-remove_requires c κs = search rules
+remove-requires : tie.Need-remove-requires
+remove-requires c κs = search rules
 
-returns : tie.Need-returns
-returns c j =
+returns-then-out : tie.Need-returns-then-out
+returns-then-out c j =
     let args = c.before.before.args in
-    let stands : (eqb j args.a && args.out) ≡ eqb j args.a = rw c.before.if1.true (and-true (eqb j args.a)) in
+    let stands : (eqb j args.a && args.out) ≡ eqb j args.a = rw c.before.if-out.true (and-true (eqb j args.a)) in
     c.remove.ensures j ∙ ap (λ (t : Bool). test_bit args.map j && not t) (sym stands)
 
-returns_2 : tie.Need-returns-2
-returns_2 c j =
+returns : tie.Need-returns
+returns-then-out c j =
     let args = c.before.args in
-    sym (rw (c.if1.false, and-false (eqb j args.a)) (and-true (test_bit args.map j)))
+    sym (rw (c.if-out.false, and-false (eqb j args.a)) (and-true (test_bit args.map j)))
 
 pub remove_if_spec : {M : Type 1} → statement M
-remove_if_spec = tie.close (tie.spec remove_requires returns returns_2)
+remove_if_spec = tie.close (tie.spec remove-requires returns-then-out returns-then-out)

@@ -12,54 +12,54 @@ use native.Mathlib.Omega.{arith}
 use Rattle.plan_deciding.proofs.without_reached.Statement.{statement}
 use Rattle.plan_deciding.proofs.without_reached.Tie as tie
 
-abbrev invariant-loop : tie.invariant-loop
-invariant-loop d number v b map given kept₀ left₀ kept left = ((a : ℕ) → test_bit left a ≡ true → test_bit given a ≡ true) × (1 ≤ entry (read_by number d) v b → Full (read_by number d) v given → Full (read_by number d) b given → (a : ℕ) → kept_of (read_by number d) v b kept left a ≡ kept_of (read_by number d) v b map given a)
+abbrev invariant-loop-left : tie.invariant-loop-left
+invariant-loop-left d number v b map given kept₀ left₀ kept left = ((a : ℕ) → test_bit left a ≡ true → test_bit given a ≡ true) × (1 ≤ entry (read_by number d) v b → Full (read_by number d) v given → Full (read_by number d) b given → (a : ℕ) → kept_of (read_by number d) v b kept left a ≡ kept_of (read_by number d) v b map given a)
 
-abbrev decreases-loop : tie.decreases-loop
-decreases-loop d number v b map given kept₀ left₀ kept left = left
+abbrev decreases-loop-left : tie.decreases-loop-left
+decreases-loop-left d number v b map given kept₀ left₀ kept left = left
 
-loop_holds : tie.Need-loop-init invariant-loop decreases-loop
-loop_holds c = (λ a h. h, λ p f g a. refl)
+loop-left-init : tie.Need-loop-left-init invariant-loop-left decreases-loop-left
+loop-left-init c = (λ a h. h, λ p f g a. refl)
 
-lowest_requires : tie.Need-lowest-requires invariant-loop decreases-loop
-lowest_requires c κs = omega arith
+lowest-a-requires : tie.Need-lowest-a-requires invariant-loop-left decreases-loop-left
+lowest-a-requires c κs = omega arith
 
-reaches_requires : tie.Need-reaches-requires invariant-loop decreases-loop
-reaches_requires c κs = (c.lowest.ensures.below, c.before.before.before.requires)
+reaches-out-requires : tie.Need-reaches-out-requires invariant-loop-left decreases-loop-left
+reaches-out-requires c κs = (c.lowest-a.ensures.below, c.before.before.before.requires)
 
-remove_if_requires : tie.Need-remove-if-requires invariant-loop decreases-loop
-remove_if_requires c κs = c.before.lowest.ensures.below
+remove_if-kept-requires : tie.Need-remove_if-kept-requires invariant-loop-left decreases-loop-left
+remove_if-kept-requires c κs = c.before.lowest-a.ensures.below
 
-without_lowest_requires : tie.Need-without-lowest-requires invariant-loop decreases-loop
-without_lowest_requires c κs = omega arith
+without_lowest-left-requires : tie.Need-without_lowest-left-requires invariant-loop-left decreases-loop-left
+without_lowest-left-requires c κs = omega arith
 
-loop_less : tie.Need-loop-smaller invariant-loop decreases-loop
-loop_less c = removed_lt _ _ _ c.before.before.before.lowest.ensures.member (c.without-lowest.ensures _ c.before.before.before.lowest.ensures)
+loop-left-smaller : tie.Need-loop-left-smaller invariant-loop-left decreases-loop-left
+loop-left-smaller c = removed_lt _ _ _ c.before.before.before.lowest-a.ensures.member (c.without_lowest-left.ensures _ c.before.before.before.lowest-a.ensures)
 
-loop_again : tie.Need-loop-preserved invariant-loop decreases-loop
-loop_again c =
+loop-left-preserved : tie.Need-loop-left-preserved invariant-loop-left decreases-loop-left
+loop-left-preserved c =
     let least = c.before.before.before in
-    let inv = least.before.before.loop.invariant in
-    let x = inv.0 _ least.lowest.ensures.member in
-    let less = c.without-lowest.ensures _ least.lowest.ensures in (
+    let inv = least.before.before.loop-left.invariant in
+    let x = inv.0 _ least.lowest-a.ensures.member in
+    let less = c.without_lowest-left.ensures _ least.lowest-a.ensures in (
       λ a h. inv.0 a (left_of _ _ _ a (less a) h),
-      λ p f g a. one_compared _ _ _ _ _ _ _ _ _ least.lowest.ensures.member (c.before.before.reaches.ensures (f _ x) (g _ x) p) c.before.remove-if.ensures less a ∙ inv.1 p f g a,
+      λ p f g a. one_compared _ _ _ _ _ _ _ _ _ least.lowest-a.ensures.member (c.before.before.reaches-out.ensures (f _ x) (g _ x) p) c.before.remove_if-kept.ensures less a ∙ inv.1 p f g a,
     )
 
-returns : tie.Need-returns invariant-loop decreases-loop
-returns c p f g a = sym (all_compared _ _ _ _ c.before.loop.left _ (omega arith)) ∙ c.before.loop.invariant.1 p f g a
+returns : tie.Need-returns invariant-loop-left decreases-loop-left
+returns c p f g a = sym (all_compared _ _ _ _ c.before.loop-left.left _ (omega arith)) ∙ c.before.loop-left.invariant.1 p f g a
 
 pub without_reached_spec : {M : Type 1} → statement M
 without_reached_spec =
     tie.close
     (tie.spec
-    invariant-loop
-    decreases-loop
-    loop_holds
-    lowest_requires
-    reaches_requires
-    remove_if_requires
-    without_lowest_requires
-    loop_less
-    loop_again
+    invariant-loop-left
+    decreases-loop-left
+    loop-left-init
+    lowest-a-requires
+    reaches-out-requires
+    remove_if-kept-requires
+    without_lowest-left-requires
+    loop-left-smaller
+    loop-left-preserved
     returns)

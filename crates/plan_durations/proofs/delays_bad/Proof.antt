@@ -12,77 +12,77 @@ use native.Mathlib.Omega.{arith}
 use Rattle.plan_durations.proofs.delays_bad.Statement.{statement}
 use Rattle.plan_durations.proofs.delays_bad.Tie as tie
 
-abbrev invariant-loop : tie.invariant-loop
-invariant-loop list unbounded leasts n i₀ i = (i ≤ n) × (any_below (entry_outside unbounded leasts list) i ≡ false)
+abbrev invariant-loop-i : tie.invariant-loop-i
+invariant-loop-i list unbounded leasts n i₀ i = (i ≤ n) × (any_below (entry_outside unbounded leasts list) i ≡ false)
 
-abbrev decreases-loop : tie.decreases-loop
-decreases-loop list unbounded leasts n i₀ i = n - i
+abbrev decreases-loop-i : tie.decreases-loop-i
+decreases-loop-i list unbounded leasts n i₀ i = n - i
 
 -- A place: the top of the loop, from where an entry has been judged.
-abbrev top : tie.After-delay-bad invariant-loop decreases-loop → tie.At-loop invariant-loop decreases-loop
+abbrev top : tie.After-delay_bad invariant-loop-i decreases-loop-i → tie.At-loop-i invariant-loop-i decreases-loop-i
 top s = s.before.before.before.before.before
 
-loop_holds : tie.Need-loop-init invariant-loop decreases-loop
-loop_holds c = (omega arith, any_below_nothing _)
+loop-i-init : tie.Need-loop-i-init invariant-loop-i decreases-loop-i
+loop-i-init c = (omega arith, any_below_nothing _)
 
-returns : tie.Need-returns invariant-loop decreases-loop
-returns c =
+returns-then-list-i : tie.Need-returns-then-list-i invariant-loop-i decreases-loop-i
+returns-then-list-i c =
     let s = c.before.before in
-    judged (sym (none_outside _ _ _ s.loop.i _ (omega arith) s.loop.invariant.1))
+    judged (sym (none_outside _ _ _ s.loop-i.i _ (omega arith) s.loop-i.invariant.1))
 
-mul_delay_bad : tie.Need-overflow-mul-delay-bad invariant-loop decreases-loop
-mul_delay_bad c = search rules
+offset_bounds-list-i : tie.Need-offset_bounds-list-i invariant-loop-i decreases-loop-i
+offset_bounds-list-i c = search rules
 
-shared_slice_read_delay_bad : tie.Need-shared-slice-read-delay-bad invariant-loop decreases-loop
-shared_slice_read_delay_bad c = search rules
+bounds-list-i : tie.Need-bounds-list-i invariant-loop-i decreases-loop-i
+bounds-list-i c = search rules
 
-mul_delay_bad_2 : tie.Need-overflow-mul-delay-bad-2 invariant-loop decreases-loop
-mul_delay_bad_2 c = search rules
+offset_bounds-leasts-i : tie.Need-offset_bounds-leasts-i invariant-loop-i decreases-loop-i
+offset_bounds-leasts-i c = search rules
 
-element_copy_out_delay_bad : tie.Need-element-copy-out-delay-bad invariant-loop decreases-loop
-element_copy_out_delay_bad c = search rules
+bounds-leasts-i : tie.Need-bounds-leasts-i invariant-loop-i decreases-loop-i
+bounds-leasts-i c = search rules
 
-delay_bad_requires : tie.Need-delay-bad-requires invariant-loop decreases-loop
-delay_bad_requires c κs = search rules
+delay_bad-requires : tie.Need-delay_bad-requires invariant-loop-i decreases-loop-i
+delay_bad-requires c κs = search rules
 
-returns_2 : tie.Need-returns-2 invariant-loop decreases-loop
-returns_2 c =
+returns-then-delay_bad : tie.Need-returns-then-delay_bad invariant-loop-i decreases-loop-i
+returns-then-list-i-then-delay_bad c =
     let s = top c.before in
     judged
     (sym
-    (any_below_by _ _ {k = s.loop.i} (omega arith) (outside_there _ _ _ _ _ (omega arith) (sym c.before.delay-bad.ensures ∙ c.if2.true))))
+    (any_below_by _ _ {k = s.loop-i.i} (omega arith) (outside_there _ _ _ _ _ (omega arith) (sym c.before.delay_bad.ensures ∙ c.if-delay_bad.true))))
 
-add_i : tie.Need-overflow-add-i invariant-loop decreases-loop
-add_i c = search rules
+overflow_add-i : tie.Need-overflow_add-i invariant-loop-i decreases-loop-i
+overflow_add-i c = search rules
 
-loop_less : tie.Need-loop-smaller invariant-loop decreases-loop
-loop_less c = search rules
+loop-i-smaller : tie.Need-loop-i-smaller invariant-loop-i decreases-loop-i
+loop-i-smaller c = search rules
 
-loop_again : tie.Need-loop-preserved invariant-loop decreases-loop
-loop_again c =
+loop-i-preserved : tie.Need-loop-i-preserved invariant-loop-i decreases-loop-i
+loop-i-preserved c =
     let s = top c.before in
-    (omega arith, any_below_more _ _ s.loop.inv.1 (outside_there _ _ _ _ _ (omega arith) (sym c.before.delay-bad.ensures ∙ c.if2.false)))
+    (omega arith, any_below_more _ _ s.loop-i.inv.1 (outside_there _ _ _ _ _ (omega arith) (sym c.before.delay_bad.ensures ∙ c.if-delay_bad.false)))
 
-returns_3 : tie.Need-returns-3 invariant-loop decreases-loop
-returns_3 c =
-    let f : c.before.loop.i ≡ c.before.before.before.args.n = omega arith in
-    judged (sym (rw f at c.before.loop.invariant.1))
+returns : tie.Need-returns invariant-loop-i decreases-loop-i
+returns-then-list-i c =
+    let f : c.before.loop-i.i ≡ c.before.before.before.args.n = omega arith in
+    judged (sym (rw f at c.before.loop-i.invariant.1))
 
 pub delays_bad_spec : {M : Type 1} → statement M
 delays_bad_spec =
     tie.close
     (tie.spec
-    invariant-loop
-    decreases-loop
-    loop_holds
-    returns
-    mul_delay_bad
-    shared_slice_read_delay_bad
-    mul_delay_bad_2
-    element_copy_out_delay_bad
-    delay_bad_requires
-    returns_2
-    add_i
-    loop_less
-    loop_again
-    returns_3)
+    invariant-loop-i
+    decreases-loop-i
+    loop-i-init
+    returns-then-list-i
+    offset_bounds-list-i
+    bounds-list-i
+    offset_bounds-leasts-i
+    bounds-leasts-i
+    delay_bad-requires
+    returns-then-list-i-then-delay_bad
+    overflow_add-i
+    loop-i-smaller
+    loop-i-preserved
+    returns-then-list-i)

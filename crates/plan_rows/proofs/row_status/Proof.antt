@@ -7,31 +7,31 @@ use Rattle.plan_rows.proofs.Parts.{row_none, row_many, row_outside, row_short, r
 use Rattle.plan_rows.proofs.row_status.Statement.{statement}
 use Rattle.plan_rows.proofs.row_status.Tie as tie
 
-returns : tie.Need-returns
-returns c = rw (row_none c.before.args.table.now _ c.before.args.v c.if1.true)
+returns-then-n-eq0 : tie.Need-returns-then-n-eq0
+returns-then-n-eq0 c = rw (row_none c.before.args.table.now _ c.before.args.v c.if-n-eq0.true)
 
-returns_2 : tie.Need-returns-2
-returns_2 c = rw (row_many c.before.before.args.table.now _ c.before.before.args.v c.if2.true)
+returns-then-n-gt64 : tie.Need-returns-then-n-gt64
+returns-then-n-eq0-then-n-gt64 c = rw (row_many c.before.before.args.table.now _ c.before.before.args.v c.if-n-gt64.true)
 
-returns_3 : tie.Need-returns-3
-returns_3 c =
+returns-then-n-v : tie.Need-returns-then-n-v
+returns-then-n-eq0-then-n-v c =
     let a = c.before.before.before.args in
-    rw (row_outside a.table.now a.n a.v (omega arith) (omega arith) c.if3.true)
+    rw (row_outside a.table.now a.n a.v (omega arith) (omega arith) c.if-n-v.true)
 
-mul_size : tie.Need-overflow-mul-size
-mul_size c =
+overflow_mul-size : tie.Need-overflow_mul-size
+overflow_mul-size c =
     let few : c.before.before.before.args.n ≤ most_steps = omega arith in
     record { fits = omega (arith, mul-le-mul few few) }
 
-returns_4 : tie.Need-returns-4
-returns_4 c =
+returns-then-table-size : tie.Need-returns-then-table-size
+returns-then-n-eq0-then-table-size c =
     let a = c.before.before.before.before.args in
-    rw (row_short a.table.now a.n a.v (omega arith) (omega arith) (omega arith) c.if4.true)
+    rw (row_short a.table.now a.n a.v (omega arith) (omega arith) (omega arith) c.if-table-size.true)
 
-returns_5 : tie.Need-returns-5
-returns_5 c =
+returns : tie.Need-returns
+returns-then-n-eq0 c =
     let a = c.before.before.before.before.args in
-    rw (row_there a.table.now a.n a.v (omega arith) (omega arith) (omega arith) c.if4.false)
+    rw (row_there a.table.now a.n a.v (omega arith) (omega arith) (omega arith) c.if-table-size.false)
 
 pub row_status_spec : {M : Type 1} → statement M
-row_status_spec = tie.close (tie.spec returns returns_2 returns_3 mul_size returns_4 returns_5)
+row_status_spec = tie.close (tie.spec returns-then-n-eq0 returns-then-n-eq0-then-n-gt64 returns-then-n-eq0-then-n-v overflow_mul-size returns-then-n-eq0-then-table-size returns-then-n-eq0)

@@ -3,17 +3,17 @@ use borrow.Author.Rules.{rules}
 use Rattle.plan_sheet.proofs.plan.Statement.{statement}
 use Rattle.plan_sheet.proofs.plan.Tie as tie
 
-slice_aggregate_answer : tie.Need-slice-aggregate-answer
-slice_aggregate_answer c = search rules
+slice_bounds-answer-end : tie.Need-slice_bounds-answer-end
+slice_bounds-answer-end c = search rules
 
-answer_requires : tie.Need-answer-requires
-answer_requires c κs = search rules
+answer-found-requires : tie.Need-answer-found-requires
+answer-found-requires c κs = search rules
 
-same_length : tie.Need-same-length
-same_length c = search rules
+shape_of-table : tie.Need-shape_of-table
+shape_of-table c = search rules
 
 returns : tie.Need-returns
-returns c = let a = c.before.before.answer.ensures in record { verdict = a.verdict; numbers = a.numbers }
+returns c = let a = c.before.before.answer-found.ensures in record { verdict = a.verdict; numbers = a.numbers }
 
 pub plan_spec : {M : Type 1} → statement M
-plan_spec = tie.close (tie.spec slice_aggregate_answer answer_requires same_length returns)
+plan_spec = tie.close (tie.spec slice_bounds-answer-end answer-found-requires shape_of-table returns)

@@ -10,63 +10,63 @@ use native.Mathlib.Omega.{arith}
 use Rattle.plan_starts.proofs.fill_starts.Statement.{statement}
 use Rattle.plan_starts.proofs.fill_starts.Tie as tie
 
-abbrev invariant-loop : tie.invariant-loop
-invariant-loop d number leasts sets n list out₀ row v₀ out v = (v ≤ n) × (length out ≡ length out₀) × (out ≡ laid (cell row) v out₀)
+abbrev invariant-loop-v : tie.invariant-loop-v
+invariant-loop-v d number leasts sets n list out₀ row v₀ out v = (v ≤ n) × (length out ≡ length out₀) × (out ≡ laid (cell row) v out₀)
 
-abbrev decreases-loop : tie.decreases-loop
-decreases-loop d number leasts sets n list out₀ row v₀ out v = n - v
+abbrev decreases-loop-v : tie.decreases-loop-v
+decreases-loop-v d number leasts sets n list out₀ row v₀ out v = n - v
 
-turns_requires : tie.Need-turns-requires invariant-loop decreases-loop
-turns_requires c κs = search rules
+turns-row-requires : tie.Need-turns-row-requires invariant-loop-v decreases-loop-v
+turns-row-requires c κs = search rules
 
-loop_holds : tie.Need-loop-init invariant-loop decreases-loop
-loop_holds c = (omega arith, refl, laid_none _ _)
+loop-v-init : tie.Need-loop-v-init invariant-loop-v decreases-loop-v
+loop-v-init c = (omega arith, refl, laid_none _ _)
 
-mul_x : tie.Need-overflow-mul-x invariant-loop decreases-loop
-mul_x c = search rules
+offset_bounds-row-v : tie.Need-offset_bounds-row-v invariant-loop-v decreases-loop-v
+offset_bounds-row-v c = search rules
 
-array_read_x : tie.Need-array-read-x invariant-loop decreases-loop
-array_read_x c = search rules
+bounds-row-v : tie.Need-bounds-row-v invariant-loop-v decreases-loop-v
+bounds-row-v c = search rules
 
-mul_out : tie.Need-overflow-mul-out invariant-loop decreases-loop
-mul_out c = search rules
+offset_bounds-out-v : tie.Need-offset_bounds-out-v invariant-loop-v decreases-loop-v
+offset_bounds-out-v c = search rules
 
-slice_write_out : tie.Need-slice-write-out invariant-loop decreases-loop
-slice_write_out c = search rules
+bounds-out-v : tie.Need-bounds-out-v invariant-loop-v decreases-loop-v
+bounds-out-v c = search rules
 
-add_v : tie.Need-overflow-add-v invariant-loop decreases-loop
-add_v c = search rules
+overflow_add-v : tie.Need-overflow_add-v invariant-loop-v decreases-loop-v
+overflow_add-v c = search rules
 
-loop_less : tie.Need-loop-smaller invariant-loop decreases-loop
-loop_less c = search rules
+loop-v-smaller : tie.Need-loop-v-smaller invariant-loop-v decreases-loop-v
+loop-v-smaller c = search rules
 
-loop_again : tie.Need-loop-preserved invariant-loop decreases-loop
-loop_again c =
+loop-v-preserved : tie.Need-loop-v-preserved invariant-loop-v decreases-loop-v
+loop-v-preserved c =
     let s = c.before in
-    (omega arith, simp length-set s.loop.invariant.1, laid_more _ _ _ _ _ 0 (omega arith) s.loop.invariant.2 refl)
+    (omega arith, simp length-set s.loop-v.invariant.1, laid_more _ _ _ _ _ 0 (omega arith) s.loop-v.invariant.2 refl)
 
-same_length : tie.Need-same-length invariant-loop decreases-loop
-same_length c = search rules
+shape_of-out : tie.Need-shape_of-out invariant-loop-v decreases-loop-v
+shape_of-out c = search rules
 
-returns : tie.Need-returns invariant-loop decreases-loop
+returns : tie.Need-returns invariant-loop-v decreases-loop-v
 returns c =
-    let e : c.before.loop.v ≡ c.before.before.before.before.before.args.n = omega arith in
-    started c.before.before.turns.ensures (rw e at c.before.loop.invariant.2)
+    let e : c.before.loop-v.v ≡ c.before.before.before.before.before.args.n = omega arith in
+    started c.before.before.turns-row.ensures (rw e at c.before.loop-v.invariant.2)
 
 pub fill_starts_spec : {M : Type 1} → statement M
 fill_starts_spec =
     tie.close
     (tie.spec
-    invariant-loop
-    decreases-loop
-    turns_requires
-    loop_holds
-    mul_x
-    array_read_x
-    mul_out
-    slice_write_out
-    add_v
-    loop_less
-    loop_again
-    same_length
+    invariant-loop-v
+    decreases-loop-v
+    turns-row-requires
+    loop-v-init
+    offset_bounds-row-v
+    bounds-row-v
+    offset_bounds-out-v
+    bounds-out-v
+    overflow_add-v
+    loop-v-smaller
+    loop-v-preserved
+    shape_of-out
     returns)

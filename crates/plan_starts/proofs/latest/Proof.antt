@@ -12,58 +12,58 @@ use native.Mathlib.Omega.{arith}
 use Rattle.plan_starts.proofs.latest.Statement.{statement}
 use Rattle.plan_starts.proofs.latest.Tie as tie
 
-abbrev invariant-loop : tie.invariant-loop
-invariant-loop d number leasts members n list old v most₀ left₀ most left = latest_of (read_by number d) leasts list old v n most left ≡ largest (test_bit members) (term (read_by number d) leasts list old v) n
+abbrev invariant-loop-left : tie.invariant-loop-left
+invariant-loop-left d number leasts members n list old v most₀ left₀ most left = latest_of (read_by number d) leasts list old v n most left ≡ largest (test_bit members) (term (read_by number d) leasts list old v) n
 
-abbrev decreases-loop : tie.decreases-loop
-decreases-loop d number leasts members n list old v most₀ left₀ most left = left
+abbrev decreases-loop-left : tie.decreases-loop-left
+decreases-loop-left d number leasts members n list old v most₀ left₀ most left = left
 
-loop_holds : tie.Need-loop-init invariant-loop decreases-loop
-loop_holds c = none_taken _ _ _ _ _ _ _
+loop-left-init : tie.Need-loop-left-init invariant-loop-left decreases-loop-left
+loop-left-init c = none_taken _ _ _ _ _ _ _
 
-lowest_requires : tie.Need-lowest-requires invariant-loop decreases-loop
-lowest_requires c κs = omega arith
+lowest-a-requires : tie.Need-lowest-a-requires invariant-loop-left decreases-loop-left
+lowest-a-requires c κs = omega arith
 
-returns : tie.Need-returns invariant-loop decreases-loop
-returns c =
+returns-then-n-a : tie.Need-returns-then-n-a invariant-loop-left decreases-loop-left
+returns-then-n-a c =
     let least = c.before in
-    sym (all_taken _ _ _ _ _ _ _ least.before.before.loop.left (λ k b. least.lowest.ensures.least k (omega arith))) ∙ least.before.before.loop.invariant
+    sym (all_taken _ _ _ _ _ _ _ least.before.before.loop-left.left (λ k b. least.lowest-a.ensures.least k (omega arith))) ∙ least.before.before.loop-left.invariant
 
-term_of_requires : tie.Need-term-of-requires invariant-loop decreases-loop
-term_of_requires c κs = record { row = c.before.before.before.before.before.requires.0; column = c.before.lowest.ensures.below; entered = omega arith }
+term_of-x-requires : tie.Need-term_of-x-requires invariant-loop-left decreases-loop-left
+term_of-x-requires c κs = record { row = c.before.before.before.before.before.requires.0; column = c.before.lowest-a.ensures.below; entered = omega arith }
 
-larger_requires : tie.Need-larger-requires invariant-loop decreases-loop
-larger_requires c κs = search rules
+larger-most-requires : tie.Need-larger-most-requires invariant-loop-left decreases-loop-left
+larger-most-requires c κs = search rules
 
-without_lowest_requires : tie.Need-without-lowest-requires invariant-loop decreases-loop
-without_lowest_requires c κs = omega arith
+without_lowest-left-requires : tie.Need-without_lowest-left-requires invariant-loop-left decreases-loop-left
+without_lowest-left-requires c κs = omega arith
 
-loop_less : tie.Need-loop-smaller invariant-loop decreases-loop
-loop_less c = removed_lt _ _ _ c.before.before.before.before.lowest.ensures.member (c.without-lowest.ensures _ c.before.before.before.before.lowest.ensures)
+loop-left-smaller : tie.Need-loop-left-smaller invariant-loop-left decreases-loop-left
+loop-left-smaller c = removed_lt _ _ _ c.before.before.before.before.lowest-a.ensures.member (c.without_lowest-left.ensures _ c.before.before.before.before.lowest-a.ensures)
 
-loop_again : tie.Need-loop-preserved invariant-loop decreases-loop
-loop_again c =
+loop-left-preserved : tie.Need-loop-left-preserved invariant-loop-left decreases-loop-left
+loop-left-preserved c =
     let least = c.before.before.before.before in
-    one_taken _ _ _ _ _ _ _ _ _ _ _ _ (omega arith) least.lowest.ensures.member c.before.before.term_of.ensures c.before.larger.ensures (c.without-lowest.ensures _ least.lowest.ensures)
-    ∙ least.before.before.loop.invariant
+    one_taken _ _ _ _ _ _ _ _ _ _ _ _ (omega arith) least.lowest-a.ensures.member c.before.before.term_of-x.ensures c.before.larger-most.ensures (c.without_lowest-left.ensures _ least.lowest-a.ensures)
+    ∙ least.before.before.loop-left.invariant
 
-returns_2 : tie.Need-returns-2 invariant-loop decreases-loop
-returns_2 c =
-    let none : (k : ℕ) → test_bit c.before.loop.left k ≡ false = λ k. ap (λ (x : ℕ). test_bit x k) (omega arith) ∙ test_zero k in
-    sym (all_taken _ _ _ _ _ _ _ c.before.loop.left (λ k b. none k)) ∙ c.before.loop.invariant
+returns : tie.Need-returns invariant-loop-left decreases-loop-left
+returns-then-n-a c =
+    let none : (k : ℕ) → test_bit c.before.loop-left.left k ≡ false = λ k. ap (λ (x : ℕ). test_bit x k) (omega arith) ∙ test_zero k in
+    sym (all_taken _ _ _ _ _ _ _ c.before.loop-left.left (λ k b. none k)) ∙ c.before.loop-left.invariant
 
 pub latest_spec : {M : Type 1} → statement M
 latest_spec =
     tie.close
     (tie.spec
-    invariant-loop
-    decreases-loop
-    loop_holds
-    lowest_requires
-    returns
-    term_of_requires
-    larger_requires
-    without_lowest_requires
-    loop_less
-    loop_again
-    returns_2)
+    invariant-loop-left
+    decreases-loop-left
+    loop-left-init
+    lowest-a-requires
+    returns-then-n-a
+    term_of-x-requires
+    larger-most-requires
+    without_lowest-left-requires
+    loop-left-smaller
+    loop-left-preserved
+    returns-then-n-a)

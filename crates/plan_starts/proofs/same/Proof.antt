@@ -13,59 +13,59 @@ use native.Mathlib.Omega.{arith}
 use Rattle.plan_starts.proofs.same.Statement.{statement}
 use Rattle.plan_starts.proofs.same.Tie as tie
 
-abbrev invariant-loop : tie.invariant-loop
-invariant-loop a b n v₀ v = (v ≤ n) × (all_below (λ (k : ℕ). eqb (cell a k) (cell b k)) v ≡ true)
+abbrev invariant-loop-v : tie.invariant-loop-v
+invariant-loop-v a b n v₀ v = (v ≤ n) × (all_below (λ (k : ℕ). eqb (cell a k) (cell b k)) v ≡ true)
 
-abbrev decreases-loop : tie.decreases-loop
-decreases-loop a b n v₀ v = n - v
+abbrev decreases-loop-v : tie.decreases-loop-v
+decreases-loop-v a b n v₀ v = n - v
 
-loop_holds : tie.Need-loop-init invariant-loop decreases-loop
-loop_holds c = (omega arith, all_below_nothing _)
+loop-v-init : tie.Need-loop-v-init invariant-loop-v decreases-loop-v
+loop-v-init c = (omega arith, all_below_nothing _)
 
-mul_if1 : tie.Need-overflow-mul-if1 invariant-loop decreases-loop
-mul_if1 c = search rules
+offset_bounds-a-v : tie.Need-offset_bounds-a-v invariant-loop-v decreases-loop-v
+offset_bounds-a-v c = search rules
 
-element_copy_out_if1 : tie.Need-element-copy-out-if1 invariant-loop decreases-loop
-element_copy_out_if1 c = search rules
+bounds-a-v : tie.Need-bounds-a-v invariant-loop-v decreases-loop-v
+bounds-a-v c = search rules
 
-mul_if1_2 : tie.Need-overflow-mul-if1-2 invariant-loop decreases-loop
-mul_if1_2 c = search rules
+offset_bounds-b-v : tie.Need-offset_bounds-b-v invariant-loop-v decreases-loop-v
+offset_bounds-b-v c = search rules
 
-element_copy_out_if1_2 : tie.Need-element-copy-out-if1-2 invariant-loop decreases-loop
-element_copy_out_if1_2 c = search rules
+bounds-b-v : tie.Need-bounds-b-v invariant-loop-v decreases-loop-v
+bounds-b-v c = search rules
 
-returns : tie.Need-returns invariant-loop decreases-loop
-returns c =
-    sym (all_below_fails _ _ c.before.before.before.before.loop.v (omega arith) (ne_eqb _ _ c.if1.true))
+returns-then-a-v : tie.Need-returns-then-a-v invariant-loop-v decreases-loop-v
+returns-then-a-v c =
+    sym (all_below_fails _ _ c.before.before.before.before.loop-v.v (omega arith) (ne_eqb _ _ c.if-a-v.true))
 
-add_v : tie.Need-overflow-add-v invariant-loop decreases-loop
-add_v c = search rules
+overflow_add-v : tie.Need-overflow_add-v invariant-loop-v decreases-loop-v
+overflow_add-v c = search rules
 
-loop_less : tie.Need-loop-smaller invariant-loop decreases-loop
-loop_less c = search rules
+loop-v-smaller : tie.Need-loop-v-smaller invariant-loop-v decreases-loop-v
+loop-v-smaller c = search rules
 
-loop_again : tie.Need-loop-preserved invariant-loop decreases-loop
-loop_again c =
-    (omega arith, all_below_more _ _ c.before.before.before.before.loop.invariant.1 (eq-eqb _ _ c.if1.false))
+loop-v-preserved : tie.Need-loop-v-preserved invariant-loop-v decreases-loop-v
+loop-v-preserved c =
+    (omega arith, all_below_more _ _ c.before.before.before.before.loop-v.invariant.1 (eq-eqb _ _ c.if-a-v.false))
 
-returns_2 : tie.Need-returns-2 invariant-loop decreases-loop
-returns_2 c =
-    let e : c.before.loop.v ≡ c.before.before.args.n = omega arith in
-    sym (rw e at c.before.loop.invariant.1)
+returns : tie.Need-returns invariant-loop-v decreases-loop-v
+returns-then-a-v c =
+    let e : c.before.loop-v.v ≡ c.before.before.args.n = omega arith in
+    sym (rw e at c.before.loop-v.invariant.1)
 
 pub same_spec : {M : Type 1} → statement M
 same_spec =
     tie.close
     (tie.spec
-    invariant-loop
-    decreases-loop
-    loop_holds
-    mul_if1
-    element_copy_out_if1
-    mul_if1_2
-    element_copy_out_if1_2
-    returns
-    add_v
-    loop_less
-    loop_again
-    returns_2)
+    invariant-loop-v
+    decreases-loop-v
+    loop-v-init
+    offset_bounds-a-v
+    bounds-a-v
+    offset_bounds-b-v
+    bounds-b-v
+    returns-then-a-v
+    overflow_add-v
+    loop-v-smaller
+    loop-v-preserved
+    returns-then-a-v)

@@ -6,23 +6,23 @@ use borrow.Author.Rules.{rules}
 use Rattle.plan_starts.proofs.term_of.Statement.{statement}
 use Rattle.plan_starts.proofs.term_of.Tie as tie
 
-mul_sum : tie.Need-overflow-mul-sum
-mul_sum c = search rules
+offset_bounds-old-a : tie.Need-offset_bounds-old-a
+offset_bounds-old-a c = search rules
 
-element_copy_out_sum : tie.Need-element-copy-out-sum
-element_copy_out_sum c = search rules
+bounds-old-a : tie.Need-bounds-old-a
+bounds-old-a c = search rules
 
-mul_sum_2 : tie.Need-overflow-mul-sum-2
-mul_sum_2 c = search rules
+offset_bounds-list-a : tie.Need-offset_bounds-list-a
+offset_bounds-list-a c = search rules
 
-shared_slice_read_sum : tie.Need-shared-slice-read-sum
-shared_slice_read_sum c = search rules
+bounds-list-a : tie.Need-bounds-list-a
+bounds-list-a c = search rules
 
-offset_at_requires : tie.Need-offset-at-requires
-offset_at_requires c κs = search rules
+offset_at-requires : tie.Need-offset_at-requires
+offset_at-requires c κs = search rules
 
-sum_requires : tie.Need-sum-requires
-sum_requires c κs = search rules
+sum-requires : tie.Need-sum-requires
+sum-requires c κs = search rules
 
 returns : tie.Need-returns
 unfolding term
@@ -32,10 +32,10 @@ pub term_of_spec : {M : Type 1} → statement M
 term_of_spec =
     tie.close
     (tie.spec
-    mul_sum
-    element_copy_out_sum
-    mul_sum_2
-    shared_slice_read_sum
-    offset_at_requires
-    sum_requires
+    offset_bounds-old-a
+    bounds-old-a
+    offset_bounds-list-a
+    bounds-list-a
+    offset_at-requires
+    sum-requires
     returns)

@@ -10,52 +10,52 @@ use native.Mathlib.Omega.{arith}
 use Rattle.plan_starts.proofs.turn.Statement.{statement}
 use Rattle.plan_starts.proofs.turn.Tie as tie
 
-abbrev invariant-loop : tie.invariant-loop
-invariant-loop d number leasts sets n list old row₀ v₀ row v = (v ≤ n) × (length row ≡ 64) × (row ≡ laid (start_at (read_by number d) leasts sets n list old) v row₀)
+abbrev invariant-loop-v : tie.invariant-loop-v
+invariant-loop-v d number leasts sets n list old row₀ v₀ row v = (v ≤ n) × (length row ≡ 64) × (row ≡ laid (start_at (read_by number d) leasts sets n list old) v row₀)
 
-abbrev decreases-loop : tie.decreases-loop
-decreases-loop d number leasts sets n list old row₀ v₀ row v = n - v
+abbrev decreases-loop-v : tie.decreases-loop-v
+decreases-loop-v d number leasts sets n list old row₀ v₀ row v = n - v
 
-loop_holds : tie.Need-loop-init invariant-loop decreases-loop
-loop_holds c = (omega arith, search rules, laid_none _ _)
+loop-v-init : tie.Need-loop-v-init invariant-loop-v decreases-loop-v
+loop-v-init c = (omega arith, search rules, laid_none _ _)
 
-start_of_requires : tie.Need-start-of-requires invariant-loop decreases-loop
-start_of_requires c κs = search rules
+start_of-x-requires : tie.Need-start_of-x-requires invariant-loop-v decreases-loop-v
+start_of-x-requires c κs = search rules
 
-mul_row : tie.Need-overflow-mul-row invariant-loop decreases-loop
-mul_row c = search rules
+offset_bounds-row-v : tie.Need-offset_bounds-row-v invariant-loop-v decreases-loop-v
+offset_bounds-row-v c = search rules
 
-array_write_row : tie.Need-array-write-row invariant-loop decreases-loop
-array_write_row c = search rules
+bounds-row-v : tie.Need-bounds-row-v invariant-loop-v decreases-loop-v
+bounds-row-v c = search rules
 
-add_v : tie.Need-overflow-add-v invariant-loop decreases-loop
-add_v c = search rules
+overflow_add-v : tie.Need-overflow_add-v invariant-loop-v decreases-loop-v
+overflow_add-v c = search rules
 
-loop_less : tie.Need-loop-smaller invariant-loop decreases-loop
-loop_less c = search rules
+loop-v-smaller : tie.Need-loop-v-smaller invariant-loop-v decreases-loop-v
+loop-v-smaller c = search rules
 
-loop_again : tie.Need-loop-preserved invariant-loop decreases-loop
-loop_again c =
+loop-v-preserved : tie.Need-loop-v-preserved invariant-loop-v decreases-loop-v
+loop-v-preserved c =
     let s = c.before.before in
-    (omega arith, simp length-set s.loop.invariant.1, laid_more _ s.loop.v (replicate 64 0) s.loop.row c.start_of_lem.result 0 (omega arith) s.loop.invariant.2 c.start_of_lem.ensures)
+    (omega arith, simp length-set s.loop-v.invariant.1, laid_more _ s.loop-v.v (replicate 64 0) s.loop-v.row c.start_of_lem.result 0 (omega arith) s.loop-v.invariant.2 c.start_of_lem.ensures)
 
-returns : tie.Need-returns invariant-loop decreases-loop
+returns : tie.Need-returns invariant-loop-v decreases-loop-v
 unfolding next_row
 returns c =
-    let e : c.before.loop.v ≡ c.before.before.before.args.n = omega arith in
-    rw e at c.before.loop.invariant.2
+    let e : c.before.loop-v.v ≡ c.before.before.before.args.n = omega arith in
+    rw e at c.before.loop-v.invariant.2
 
 pub turn_spec : {M : Type 1} → statement M
 turn_spec =
     tie.close
     (tie.spec
-    invariant-loop
-    decreases-loop
-    loop_holds
-    start_of_requires
-    mul_row
-    array_write_row
-    add_v
-    loop_less
-    loop_again
+    invariant-loop-v
+    decreases-loop-v
+    loop-v-init
+    start_of-x-requires
+    offset_bounds-row-v
+    bounds-row-v
+    overflow_add-v
+    loop-v-smaller
+    loop-v-preserved
     returns)

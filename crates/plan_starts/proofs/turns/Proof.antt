@@ -9,53 +9,53 @@ use native.Mathlib.Omega.{arith}
 use Rattle.plan_starts.proofs.turns.Statement.{statement}
 use Rattle.plan_starts.proofs.turns.Tie as tie
 
-abbrev invariant-loop : tie.invariant-loop
-invariant-loop d number leasts sets n list row₀ k₀ row k = (k ≤ n) × (row ≡ row_after (read_by number d) leasts sets n list k)
+abbrev invariant-loop-k : tie.invariant-loop-k
+invariant-loop-k d number leasts sets n list row₀ k₀ row k = (k ≤ n) × (row ≡ row_after (read_by number d) leasts sets n list k)
 
-abbrev decreases-loop : tie.decreases-loop
-decreases-loop d number leasts sets n list row₀ k₀ row k = n - k
+abbrev decreases-loop-k : tie.decreases-loop-k
+decreases-loop-k d number leasts sets n list row₀ k₀ row k = n - k
 
-loop_holds : tie.Need-loop-init invariant-loop decreases-loop
-loop_holds c = (omega arith, row_after_none _ _ _ _ _)
+loop-k-init : tie.Need-loop-k-init invariant-loop-k decreases-loop-k
+loop-k-init c = (omega arith, row_after_none _ _ _ _ _)
 
-turn_requires : tie.Need-turn-requires invariant-loop decreases-loop
-turn_requires c κs = search rules
+turn-next-requires : tie.Need-turn-next-requires invariant-loop-k decreases-loop-k
+turn-next-requires c κs = search rules
 
-same_requires : tie.Need-same-requires invariant-loop decreases-loop
-same_requires c κs = search rules
+same-requires : tie.Need-same-requires invariant-loop-k decreases-loop-k
+same-requires c κs = search rules
 
-returns : tie.Need-returns invariant-loop decreases-loop
-returns c =
+returns-then-same : tie.Need-returns-then-same invariant-loop-k decreases-loop-k
+returns-then-same c =
     let s = c.before.before.before.before.before.before.before in
-    row_after_stop _ _ _ _ _ _ _ _ (omega arith) s.loop.invariant.1 c.before.before.before.before.turn.ensures (sym c.before.same.ensures ∙ c.if1.true)
+    row_after_stop _ _ _ _ _ _ _ _ (omega arith) s.loop-k.invariant.1 c.before.before.before.before.turn-next.ensures (sym c.before.same.ensures ∙ c.if-same.true)
 
-add_k : tie.Need-overflow-add-k invariant-loop decreases-loop
-add_k c = search rules
+overflow_add-k : tie.Need-overflow_add-k invariant-loop-k decreases-loop-k
+overflow_add-k c = search rules
 
-loop_less : tie.Need-loop-smaller invariant-loop decreases-loop
-loop_less c = search rules
+loop-k-smaller : tie.Need-loop-k-smaller invariant-loop-k decreases-loop-k
+loop-k-smaller c = search rules
 
-loop_again : tie.Need-loop-preserved invariant-loop decreases-loop
-loop_again c =
+loop-k-preserved : tie.Need-loop-k-preserved invariant-loop-k decreases-loop-k
+loop-k-preserved c =
     let s = c.before.before.before.before.before.before.before in
-    (omega arith, row_after_more _ _ _ _ _ _ _ _ s.loop.invariant.1 c.before.before.before.before.turn.ensures)
+    (omega arith, row_after_more _ _ _ _ _ _ _ _ s.loop-k.invariant.1 c.before.before.before.before.turn-next.ensures)
 
-returns_2 : tie.Need-returns-2 invariant-loop decreases-loop
-returns_2 c =
-    let e : c.before.loop.k ≡ c.before.before.before.args.n = omega arith in
-    rw e at c.before.loop.invariant.1
+returns : tie.Need-returns invariant-loop-k decreases-loop-k
+returns-then-same c =
+    let e : c.before.loop-k.k ≡ c.before.before.before.args.n = omega arith in
+    rw e at c.before.loop-k.invariant.1
 
 pub turns_spec : {M : Type 1} → statement M
 turns_spec =
     tie.close
     (tie.spec
-    invariant-loop
-    decreases-loop
-    loop_holds
-    turn_requires
-    same_requires
-    returns
-    add_k
-    loop_less
-    loop_again
-    returns_2)
+    invariant-loop-k
+    decreases-loop-k
+    loop-k-init
+    turn-next-requires
+    same-requires
+    returns-then-same
+    overflow_add-k
+    loop-k-smaller
+    loop-k-preserved
+    returns-then-same)

@@ -9,51 +9,51 @@ use native.Mathlib.Omega.{arith}
 use Rattle.plan_table.proofs.clear.Statement.{statement}
 use Rattle.plan_table.proofs.clear.Tie as tie
 
-abbrev invariant-loop : tie.invariant-loop
-invariant-loop count row₀ a₀ row a = (a ≤ count) × (length row ≡ length row₀) × (row ≡ laid cleared a row₀)
+abbrev invariant-loop-a : tie.invariant-loop-a
+invariant-loop-a count row₀ a₀ row a = (a ≤ count) × (length row ≡ length row₀) × (row ≡ laid cleared a row₀)
 
-abbrev decreases-loop : tie.decreases-loop
-decreases-loop count row₀ a₀ row a = count - a
+abbrev decreases-loop-a : tie.decreases-loop-a
+decreases-loop-a count row₀ a₀ row a = count - a
 
-loop_holds : tie.Need-loop-init invariant-loop decreases-loop
-loop_holds c = (omega arith, search rules, laid_none _ _)
+loop-a-init : tie.Need-loop-a-init invariant-loop-a decreases-loop-a
+loop-a-init c = (omega arith, search rules, laid_none _ _)
 
-mul_row : tie.Need-overflow-mul-row invariant-loop decreases-loop
-mul_row c = search rules
+offset_bounds-row-a : tie.Need-offset_bounds-row-a invariant-loop-a decreases-loop-a
+offset_bounds-row-a c = search rules
 
-slice_write_row : tie.Need-slice-write-row invariant-loop decreases-loop
-slice_write_row c = search rules
+bounds-row-a : tie.Need-bounds-row-a invariant-loop-a decreases-loop-a
+bounds-row-a c = search rules
 
-add_a : tie.Need-overflow-add-a invariant-loop decreases-loop
-add_a c = search rules
+overflow_add-a : tie.Need-overflow_add-a invariant-loop-a decreases-loop-a
+overflow_add-a c = search rules
 
-loop_less : tie.Need-loop-smaller invariant-loop decreases-loop
-loop_less c = search rules
+loop-a-smaller : tie.Need-loop-a-smaller invariant-loop-a decreases-loop-a
+loop-a-smaller c = search rules
 
-loop_again : tie.Need-loop-preserved invariant-loop decreases-loop
-loop_again c =
+loop-a-preserved : tie.Need-loop-a-preserved invariant-loop-a decreases-loop-a
+loop-a-preserved c =
     let s = c.before in
-    (omega arith, simp length-set s.loop.invariant.1, laid_more cleared _ _ _ _ 0 (omega arith) s.loop.invariant.2 refl)
+    (omega arith, simp length-set s.loop-a.invariant.1, laid_more cleared _ _ _ _ 0 (omega arith) s.loop-a.invariant.2 refl)
 
-same_length : tie.Need-same-length invariant-loop decreases-loop
-same_length c = search rules
+shape_of-row : tie.Need-shape_of-row invariant-loop-a decreases-loop-a
+shape_of-row c = search rules
 
-returns : tie.Need-returns invariant-loop decreases-loop
+returns : tie.Need-returns invariant-loop-a decreases-loop-a
 returns c =
-    let e : c.before.loop.a ≡ c.before.before.args.count = omega arith in
-    rw e at c.before.loop.invariant.2
+    let e : c.before.loop-a.a ≡ c.before.before.args.count = omega arith in
+    rw e at c.before.loop-a.invariant.2
 
 pub clear_spec : {M : Type 1} → statement M
 clear_spec =
     tie.close
     (tie.spec
-    invariant-loop
-    decreases-loop
-    loop_holds
-    mul_row
-    slice_write_row
-    add_a
-    loop_less
-    loop_again
-    same_length
+    invariant-loop-a
+    decreases-loop-a
+    loop-a-init
+    offset_bounds-row-a
+    bounds-row-a
+    overflow_add-a
+    loop-a-smaller
+    loop-a-preserved
+    shape_of-row
     returns)

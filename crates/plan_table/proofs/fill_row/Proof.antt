@@ -4,17 +4,17 @@ use Rattle.plan_table.proofs.Laws.{row_filled}
 use Rattle.plan_table.proofs.fill_row.Statement.{statement}
 use Rattle.plan_table.proofs.fill_row.Tie as tie
 
-deciding_set_requires : tie.Need-deciding-set-requires
-deciding_set_requires c κs = search rules
+deciding_set-deciding-requires : tie.Need-deciding_set-deciding-requires
+deciding_set-deciding-requires c κs = search rules
 
-put_offsets_requires : tie.Need-put-offsets-requires
-put_offsets_requires c κs = search rules
+put_offsets-requires : tie.Need-put_offsets-requires
+put_offsets-requires c κs = search rules
 
-same_length : tie.Need-same-length
-same_length c = search rules
+shape_of-row : tie.Need-shape_of-row
+shape_of-row c = search rules
 
 returns : tie.Need-returns
-returns c T clear = row_filled _ _ _ _ _ _ _ _ (c.before.before.before.before.deciding-set.ensures T) c.before.before.before.before.before.before.requires.1.fits clear c.before.before.put-offsets.ensures
+returns c T clear = row_filled _ _ _ _ _ _ _ _ (c.before.before.before.before.deciding_set-deciding.ensures T) c.before.before.before.before.before.before.requires.1.fits clear c.before.before.put_offsets.ensures
 
 pub fill_row_spec : {M : Type 1} → statement M
-fill_row_spec = tie.close (tie.spec deciding_set_requires put_offsets_requires same_length returns)
+fill_row_spec = tie.close (tie.spec deciding_set-deciding-requires put_offsets-requires shape_of-row returns)

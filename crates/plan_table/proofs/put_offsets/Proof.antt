@@ -8,69 +8,69 @@ use native.Mathlib.Omega.{arith}
 use Rattle.plan_table.proofs.put_offsets.Statement.{statement}
 use Rattle.plan_table.proofs.put_offsets.Tie as tie
 
-abbrev invariant-loop : tie.invariant-loop
-invariant-loop d number leasts map n v row₀ first left₀ row left = Putting n (offset_in (read_by number d) leasts v) map left row₀ row
+abbrev invariant-loop-left : tie.invariant-loop-left
+invariant-loop-left d number leasts map n v row₀ first left₀ row left = Putting n (offset_in (read_by number d) leasts v) map left row₀ row
 
-abbrev decreases-loop : tie.decreases-loop
-decreases-loop d number leasts map n v row₀ first left₀ row left = left
+abbrev decreases-loop-left : tie.decreases-loop-left
+decreases-loop-left d number leasts map n v row₀ first left₀ row left = left
 
-below_requires : tie.Need-below-requires invariant-loop decreases-loop
-below_requires c κs = search rules
+below-first-requires : tie.Need-below-first-requires invariant-loop-left decreases-loop-left
+below-first-requires c κs = search rules
 
-both_requires : tie.Need-both-requires invariant-loop decreases-loop
-both_requires c κs = search rules
+both-left-requires : tie.Need-both-left-requires invariant-loop-left decreases-loop-left
+both-left-requires c κs = search rules
 
-loop_holds : tie.Need-loop-init invariant-loop decreases-loop
-loop_holds c = none_put _ _ (omega arith) c.before.below.ensures c.both.ensures
+loop-left-init : tie.Need-loop-left-init invariant-loop-left decreases-loop-left
+loop-left-init c = none_put _ _ (omega arith) c.before.below-first.ensures c.both-left.ensures
 
-lowest_requires : tie.Need-lowest-requires invariant-loop decreases-loop
-lowest_requires c κs = omega arith
+lowest-a-requires : tie.Need-lowest-a-requires invariant-loop-left decreases-loop-left
+lowest-a-requires c κs = omega arith
 
-offset_at_requires : tie.Need-offset-at-requires invariant-loop decreases-loop
-offset_at_requires c κs = (c.before.before.before.before.before.before.requires.0, c.lowest.ensures.below)
+offset_at-x-requires : tie.Need-offset_at-x-requires invariant-loop-left decreases-loop-left
+offset_at-x-requires c κs = (c.before.before.before.before.before.before.requires.0, c.lowest-a.ensures.below-first)
 
-mul_row : tie.Need-overflow-mul-row invariant-loop decreases-loop
-mul_row c = search rules
+offset_bounds-row-a : tie.Need-offset_bounds-row-a invariant-loop-left decreases-loop-left
+offset_bounds-row-a c = search rules
 
-slice_write_row : tie.Need-slice-write-row invariant-loop decreases-loop
-slice_write_row c =
-    let P = c.before.before.before.loop.invariant in
-    omega (arith, P.low _ c.before.lowest.ensures.member, P.fits)
+bounds-row-a : tie.Need-bounds-row-a invariant-loop-left decreases-loop-left
+bounds-row-a c =
+    let P = c.before.before.before.loop-left.invariant in
+    omega (arith, P.low _ c.before.lowest-a.ensures.member, P.fits)
 
-without_lowest_requires : tie.Need-without-lowest-requires invariant-loop decreases-loop
-without_lowest_requires c κs = omega arith
+without_lowest-left-requires : tie.Need-without_lowest-left-requires invariant-loop-left decreases-loop-left
+without_lowest-left-requires c κs = omega arith
 
-loop_less : tie.Need-loop-smaller invariant-loop decreases-loop
-loop_less c =
+loop-left-smaller : tie.Need-loop-left-smaller invariant-loop-left decreases-loop-left
+loop-left-smaller c =
     let least = c.before.before in
-    removed_lt _ _ _ least.lowest.ensures.member (c.without-lowest.ensures _ least.lowest.ensures)
+    removed_lt _ _ _ least.lowest-a.ensures.member (c.without_lowest-left.ensures _ least.lowest-a.ensures)
 
-loop_again : tie.Need-loop-preserved invariant-loop decreases-loop
-loop_again c =
+loop-left-preserved : tie.Need-loop-left-preserved invariant-loop-left decreases-loop-left
+loop-left-preserved c =
     let least = c.before.before in
-    one_put _ least.lowest.ensures.member c.before.offset_at.ensures (c.without-lowest.ensures _ least.lowest.ensures) least.before.before.loop.invariant
+    one_put _ least.lowest-a.ensures.member c.before.offset_at-x.ensures (c.without_lowest-left.ensures _ least.lowest-a.ensures) least.before.before.loop-left.invariant
 
-same_length : tie.Need-same-length invariant-loop decreases-loop
-same_length c = search rules
+shape_of-row : tie.Need-shape_of-row invariant-loop-left decreases-loop-left
+shape_of-row c = search rules
 
-returns : tie.Need-returns invariant-loop decreases-loop
-returns c = all_put (omega arith) c.before.loop.invariant
+returns : tie.Need-returns invariant-loop-left decreases-loop-left
+returns c = all_put (omega arith) c.before.loop-left.invariant
 
 pub put_offsets_spec : {M : Type 1} → statement M
 put_offsets_spec =
     tie.close
     (tie.spec
-    invariant-loop
-    decreases-loop
-    below_requires
-    both_requires
-    loop_holds
-    lowest_requires
-    offset_at_requires
-    mul_row
-    slice_write_row
-    without_lowest_requires
-    loop_less
-    loop_again
-    same_length
+    invariant-loop-left
+    decreases-loop-left
+    below-first-requires
+    both-left-requires
+    loop-left-init
+    lowest-a-requires
+    offset_at-x-requires
+    offset_bounds-row-a
+    bounds-row-a
+    without_lowest-left-requires
+    loop-left-smaller
+    loop-left-preserved
+    shape_of-row
     returns)

@@ -9,68 +9,68 @@ use borrow.Author.Rules.{rules}
 use Rattle.plan_walks.proofs.add_source.Statement.{statement}
 use Rattle.plan_walks.proofs.add_source.Tie as tie
 
-abbrev invariant-loop : tie.invariant-loop
-invariant-loop rows₀ n all v₀ rows v = (v ≤ n) × (length rows₀ ≡ most_steps → Sourced n rows₀ v rows)
+abbrev invariant-loop-v : tie.invariant-loop-v
+invariant-loop-v rows₀ n all v₀ rows v = (v ≤ n) × (length rows₀ ≡ most_steps → Sourced n rows₀ v rows)
 
-abbrev decreases-loop : tie.decreases-loop
-decreases-loop rows₀ n all v₀ rows v = n - v
+abbrev decreases-loop-v : tie.decreases-loop-v
+decreases-loop-v rows₀ n all v₀ rows v = n - v
 
-below_requires : tie.Need-below-requires invariant-loop decreases-loop
-below_requires c κs = search rules
+below-all-requires : tie.Need-below-all-requires invariant-loop-v decreases-loop-v
+below-all-requires c κs = search rules
 
-loop_holds : tie.Need-loop-init invariant-loop decreases-loop
-loop_holds c = (omega arith, λ long. sourced_none long)
+loop-v-init : tie.Need-loop-v-init invariant-loop-v decreases-loop-v
+loop-v-init c = (omega arith, λ long. sourced_none long)
 
-mul_insert : tie.Need-overflow-mul-insert invariant-loop decreases-loop
-mul_insert c = search rules
+offset_bounds-rows-v : tie.Need-offset_bounds-rows-v invariant-loop-v decreases-loop-v
+offset_bounds-rows-v c = search rules
 
-element_copy_out_insert : tie.Need-element-copy-out-insert invariant-loop decreases-loop
-element_copy_out_insert c = search rules
+bounds-rows-v : tie.Need-bounds-rows-v invariant-loop-v decreases-loop-v
+bounds-rows-v c = search rules
 
-insert_requires : tie.Need-insert-requires invariant-loop decreases-loop
-insert_requires c κs = search rules
+insert-set-requires : tie.Need-insert-set-requires invariant-loop-v decreases-loop-v
+insert-set-requires c κs = search rules
 
-both_requires : tie.Need-both-requires invariant-loop decreases-loop
-both_requires c κs = search rules
+both-requires : tie.Need-both-requires invariant-loop-v decreases-loop-v
+both-requires c κs = search rules
 
-mul_rows : tie.Need-overflow-mul-rows invariant-loop decreases-loop
-mul_rows c = search rules
+offset_bounds-rows-v-in-loop-v : tie.Need-offset_bounds-rows-v-in-loop-v invariant-loop-v decreases-loop-v
+offset_bounds-rows-v-in-loop-v c = search rules
 
-element_write_rows : tie.Need-element-write-rows invariant-loop decreases-loop
-element_write_rows c = search rules
+bounds-rows-v-in-loop-v : tie.Need-bounds-rows-v-in-loop-v invariant-loop-v decreases-loop-v
+bounds-rows-v-in-loop-v c = search rules
 
-add_v : tie.Need-overflow-add-v invariant-loop decreases-loop
-add_v c = search rules
+overflow_add-v : tie.Need-overflow_add-v invariant-loop-v decreases-loop-v
+overflow_add-v c = search rules
 
-loop_less : tie.Need-loop-smaller invariant-loop decreases-loop
-loop_less c = search rules
+loop-v-smaller : tie.Need-loop-v-smaller invariant-loop-v decreases-loop-v
+loop-v-smaller c = search rules
 
-loop_again : tie.Need-loop-preserved invariant-loop decreases-loop
-loop_again c =
+loop-v-preserved : tie.Need-loop-v-preserved invariant-loop-v decreases-loop-v
+loop-v-preserved c =
     let s = c.before.before.before.before in
-    (omega arith, λ long. sourced_more _ _ _ _ _ _ c.before.insert.ensures s.before.below.ensures c.both.ensures (search rules) (s.loop.invariant.1 long))
+    (omega arith, λ long. sourced_more _ _ _ _ _ _ c.before.insert-set.ensures s.before.below-all.ensures c.both.ensures (search rules) (s.loop-v.invariant.1 long))
 
-returns : tie.Need-returns invariant-loop decreases-loop
+returns : tie.Need-returns invariant-loop-v decreases-loop-v
 returns c =
     let s = c.before in
-    let e : s.loop.v ≡ s.before.before.args.n = omega arith in
-    λ long v a b. (s.loop.invariant.1 long).made v a (omega (arith, e))
+    let e : s.loop-v.v ≡ s.before.before.args.n = omega arith in
+    λ long v a b. (s.loop-v.invariant.1 long).made v a (omega (arith, e))
 
 pub add_source_spec : {M : Type 1} → statement M
 add_source_spec =
     tie.close
     (tie.spec
-    invariant-loop
-    decreases-loop
-    below_requires
-    loop_holds
-    mul_insert
-    element_copy_out_insert
-    insert_requires
-    both_requires
-    mul_rows
-    element_write_rows
-    add_v
-    loop_less
-    loop_again
+    invariant-loop-v
+    decreases-loop-v
+    below-all-requires
+    loop-v-init
+    offset_bounds-rows-v
+    bounds-rows-v
+    insert-set-requires
+    both-requires
+    offset_bounds-rows-v-in-loop-v
+    bounds-rows-v-in-loop-v
+    overflow_add-v
+    loop-v-smaller
+    loop-v-preserved
     returns)

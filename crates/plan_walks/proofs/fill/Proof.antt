@@ -15,46 +15,46 @@ use Rattle.plan_walks.proofs.fill.Tie as tie
 abbrev start : tie.After-accepted → tie.Start
 start s = s.before.before.before
 
-abbrev looked : tie.After-add-source → tie.After-accepted
+abbrev looked : tie.After-add_source → tie.After-accepted
 looked s = s.before.before.before
 
-accepted_requires : tie.Need-accepted-requires
-accepted_requires c κs = search rules
+accepted-requires : tie.Need-accepted-requires
+accepted-requires c κs = search rules
 
-feasible_requires : tie.Need-feasible-requires
-feasible_requires c κs = let p = (start c.before).requires.0 in record { some = p.sheet.some; few = p.sheet.few; listed = p.adjacent }
+feasible-requires : tie.Need-feasible-requires
+feasible-requires c κs = let p = (start c.before).requires.0 in record { some = p.sheet.some; few = p.sheet.few; listed = p.adjacent }
 
-returns : tie.Need-returns
-returns c =
+returns-then-not-accepted : tie.Need-returns-then-not-accepted
+returns-then-not-accepted c =
     let s = c.before.before in
-    let no = sym s.accepted.ensures ∙ not-true _ c.before.if1.true in
+    let no = sym s.accepted.ensures ∙ not-true _ c.before.if-not-accepted.true in
     (λ rooted long. c.feasible.ensures (start s).requires.0.sheet.formed.shape rooted, λ h k p. absurd (both_ways k no))
 
-add_source_requires : tie.Need-add-source-requires
-add_source_requires c κs = (start c.before.before).requires.0.sheet.few
+add_source-requires : tie.Need-add_source-requires
+add_source-requires c κs = (start c.before.before).requires.0.sheet.few
 
-walks_if_possible_requires : tie.Need-walks-if-possible-requires
-walks_if_possible_requires c κs =
+walks_if_possible-requires : tie.Need-walks_if_possible-requires
+walks_if_possible-requires c κs =
     let asked = (start (looked c.before.before.before)).requires in
     let p = asked.0 in
     record { given = record { some = p.sheet.some; few = p.sheet.few; listed = p.adjacent }; inside = p.rows; bare = p.empty; blank = asked.1; ends = ends_within _ _ p.sheet.formed.shape p.rows }
 
-same_length : tie.Need-same-length
-same_length c = search rules
+shape_of-d : tie.Need-shape_of-d
+shape_of-d c = search rules
 
-returns_2 : tie.Need-returns-2
-returns_2 c =
+returns : tie.Need-returns
+returns-then-not-accepted c =
     let walked = c.before in
     let sourced = walked.before.before.before.before in
     let st = start (looked sourced) in
     let sheet = st.pre.0.sheet in
-    let told = walked.walks-if-possible.ensures in (
-      λ rooted long. told.told sheet.formed.shape rooted sheet.formed.gains sheet.formed.leasts (source_in st.args.sets.now sourced.add-source.new.0 (sourced.add-source.ensures long)),
+    let told = walked.walks_if_possible.ensures in (
+      λ rooted long. told.told sheet.formed.shape rooted sheet.formed.gains sheet.formed.leasts (source_in st.args.sets.now sourced.add_source.new.rows (sourced.add_source.ensures long)),
       λ possible k p. record {
         well = p.well;
         serial = p.serial;
         rows = record { few = sheet.few; inside = omega (arith, st.pre.0.rows, told.square.rows); square = square_own told.square };
-        holds = plannable_holds sourced.add-source.new.0 (read_by walked.walks-if-possible.new.1.0 walked.walks-if-possible.new.0) sheet.few p (told.cells possible) (sourced.add-source.ensures p.long);
+        holds = plannable_holds sourced.add_source.new.rows (read_by walked.walks_if_possible.new.number walked.walks_if_possible.new.d-1) sheet.few p (told.cells possible) (sourced.add_source.ensures p.long);
       },
     )
 
@@ -62,10 +62,10 @@ pub fill_spec : {M : Type 1} → statement M
 fill_spec =
     tie.close
     (tie.spec
-    accepted_requires
-    feasible_requires
-    returns
-    add_source_requires
-    walks_if_possible_requires
-    same_length
-    returns_2)
+    accepted-requires
+    feasible-requires
+    returns-then-not-accepted
+    add_source-requires
+    walks_if_possible-requires
+    shape_of-d
+    returns-then-not-accepted)

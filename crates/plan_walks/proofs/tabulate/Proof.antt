@@ -11,13 +11,13 @@ use Rattle.plan_walks.proofs.tabulate.Statement.{statement}
 use Rattle.plan_walks.proofs.tabulate.Tie as tie
 
 -- Places on the way: the start, from where the edges are analysed; that place, from where they are found sorted; and that, from where 10 is found out.
-abbrev start : tie.After-judge-assuming-feasible → tie.Start
+abbrev start : tie.After-judge_assuming_feasible-found → tie.Start
 start s = s.before.before.before.before.before.before
 
-abbrev analysed : tie.Else1 → tie.After-judge-assuming-feasible
+abbrev analysed : tie.Else-not-found → tie.After-judge_assuming_feasible-found
 analysed s = s.before.before
 
-abbrev sorted : tie.After-fill → tie.Else1
+abbrev sorted : tie.After-fill → tie.Else-not-found
 sorted s = s.before.before.before.before.before.before
 
 -- What is told of 10.
@@ -25,62 +25,62 @@ told : (s : tie.After-fill) → s.fill.result ≡ feasible (start (analysed (sor
 told s =
     let a = analysed (sorted s) in
     let sheet = (start a).pre.0.sheet in
-    let presumed = a.judge-assuming-feasible.ensures sheet.formed in
-    let passes = not-false _ (sorted s).if1.false in
+    let presumed = a.judge_assuming_feasible-found.ensures sheet.formed in
+    let passes = not-false _ (sorted s).if-not-found.false in
     s.fill.ensures.0 (sorted_rooted presumed sheet.some sheet.formed passes) (presumed.long passes)
 
-judge_assuming_feasible_requires : tie.Need-judge-assuming-feasible-requires
-judge_assuming_feasible_requires c κs =
+judge_assuming_feasible-found-requires : tie.Need-judge_assuming_feasible-found-requires
+judge_assuming_feasible-found-requires c κs =
     let p = c.before.before.before.before.before.requires in
-    (record { some = p.0.sheet.some; few = p.0.sheet.few; listed = p.0.adjacent }, record { long = search rules; rows = record { no_reach = p.1.rows; no_maps = p.1.maps } })
+    (record { some = p.0.sheet.some; few = p.0.sheet.few; listed = p.0.adjacent }, record { long = search rules; rows = record { no_reach = p.1.rows; no_maps = p.1.maps-1 } })
 
-returns : tie.Need-returns
-returns c =
+returns-then-not-found : tie.Need-returns-then-not-found
+returns-then-not-found c =
     let a = c.before.before in
     let sheet = (start a).requires.0.sheet in
-    let presumed = a.judge-assuming-feasible.ensures sheet.formed in
-    let unsorted = not-true _ c.if1.true in
+    let presumed = a.judge_assuming_feasible-found.ensures sheet.formed in
+    let unsorted = not-true _ c.if-not-found.true in
     record { listed = presumed.unsorted unsorted; held = λ h. absurd (both_ways h (unsorted_refused presumed unsorted)) }
 
-fill_requires : tie.Need-fill-requires
-fill_requires c κs = let p = (start (analysed c.before.before.before.before.before)).requires in (p.0, p.1.numbers)
+fill-requires : tie.Need-fill-requires
+fill-requires c κs = let p = (start (analysed c.before.before.before.before.before)).requires in (p.0, p.1.numbers)
 
-same_length : tie.Need-same-length
-same_length c = search rules
+shape_of-d-then-fill : tie.Need-shape_of-d-then-fill
+shape_of-d-then-fill c = search rules
 
-returns_2 : tie.Need-returns-2
-returns_2 c =
+returns-then-fill : tie.Need-returns-then-fill
+returns-then-not-found-then-fill c =
     let f = c.before.before in
     let a = analysed (sorted f) in
     let sheet = (start a).pre.0.sheet in
-    let presumed = a.judge-assuming-feasible.ensures sheet.formed in
-    let passes = not-false _ (sorted f).if1.false in
-    let possible = sym (told f) ∙ c.if2.true in
+    let presumed = a.judge_assuming_feasible-found.ensures sheet.formed in
+    let passes = not-false _ (sorted f).if-not-found.false in
+    let possible = sym (told f) ∙ c.if-fill.true in
     record {
       listed = feasible_listed presumed passes possible;
-      held = λ h. f.fill.ensures.1 c.if2.true h (feasible_plannable presumed passes sheet.some sheet.formed possible h);
+      held = λ h. f.fill.ensures.1 c.if-fill.true h (feasible_plannable presumed passes sheet.some sheet.formed possible h);
     }
 
-same_length_2 : tie.Need-same-length-2
-same_length_2 c = search rules
+shape_of-d : tie.Need-shape_of-d
+shape_of-d c = search rules
 
-returns_3 : tie.Need-returns-3
-returns_3 c =
+returns : tie.Need-returns
+returns-then-not-found c =
     let f = c.before.before.before in
     let a = analysed (sorted f) in
     let sheet = (start a).pre.0.sheet in
-    let presumed = a.judge-assuming-feasible.ensures sheet.formed in
-    let impossible = sym (told f) ∙ c.before.if2.false in
-    record { listed = infeasible_listed presumed (not-false _ (sorted f).if1.false) impossible refl; held = λ h. absurd (false≢true h) }
+    let presumed = a.judge_assuming_feasible-found.ensures sheet.formed in
+    let impossible = sym (told f) ∙ c.before.if-fill.false in
+    record { listed = infeasible_listed presumed (not-false _ (sorted f).if-not-found.false) impossible refl; held = λ h. absurd (false≢true h) }
 
 pub tabulate_spec : {M : Type 1} → statement M
 tabulate_spec =
     tie.close
     (tie.spec
-    judge_assuming_feasible_requires
-    returns
-    fill_requires
-    same_length
-    returns_2
-    same_length_2
-    returns_3)
+    judge_assuming_feasible-found-requires
+    returns-then-not-found
+    fill-requires
+    shape_of-d-then-fill
+    returns-then-not-found-then-fill
+    shape_of-d
+    returns-then-not-found)

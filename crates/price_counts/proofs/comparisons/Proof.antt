@@ -7,50 +7,50 @@ use borrow.Author.Rules.{rules}
 use Rattle.price_counts.proofs.comparisons.Statement.{statement}
 use Rattle.price_counts.proofs.comparisons.Tie as tie
 
-abbrev invariant-loop : tie.invariant-loop
-invariant-loop plan n v count₀ a₀ count a = (a ≤ n) × (count ≡ compared n plan v a) × (count ≤ a)
+abbrev invariant-loop-a : tie.invariant-loop-a
+invariant-loop-a plan n v count₀ a₀ count a = (a ≤ n) × (count ≡ compared n plan v a) × (count ≤ a)
 
-abbrev decreases-loop : tie.decreases-loop
-decreases-loop plan n v count₀ a₀ count a = n - a
+abbrev decreases-loop-a : tie.decreases-loop-a
+decreases-loop-a plan n v count₀ a₀ count a = n - a
 
-loop_holds : tie.Need-loop-init invariant-loop decreases-loop
-loop_holds c = (omega arith, compared_none _ _ _, omega arith)
+loop-a-init : tie.Need-loop-a-init invariant-loop-a decreases-loop-a
+loop-a-init c = (omega arith, compared_none _ _ _, omega arith)
 
-entry_requires : tie.Need-entry-requires invariant-loop decreases-loop
-entry_requires c κs = let s = c.before.before.before in record { planned = s.requires.planned; row = s.requires.step; column = search rules }
+entry-x-requires : tie.Need-entry-x-requires invariant-loop-a decreases-loop-a
+entry-x-requires c κs = let s = c.before.before.before in record { planned = s.requires.planned; row = s.requires.step; column = search rules }
 
-one_for_requires : tie.Need-one-for-requires invariant-loop decreases-loop
-one_for_requires c κs = search rules
+one_for-count-requires : tie.Need-one_for-count-requires invariant-loop-a decreases-loop-a
+one_for-count-requires c κs = search rules
 
-add_count : tie.Need-overflow-add-count invariant-loop decreases-loop
-add_count c = let e = c.before in omega (arith, one_small e.entry.result _ c.one-for.ensures, e.before.before.loop.invariant.2)
+overflow_add-count : tie.Need-overflow_add-count invariant-loop-a decreases-loop-a
+overflow_add-count c = let e = c.before in omega (arith, one_small e.entry-x.result _ c.one_for-count.ensures, e.before.before.loop-a.invariant.2)
 
-add_a : tie.Need-overflow-add-a invariant-loop decreases-loop
-add_a c = search rules
+overflow_add-a : tie.Need-overflow_add-a invariant-loop-a decreases-loop-a
+overflow_add-a c = search rules
 
-loop_less : tie.Need-loop-smaller invariant-loop decreases-loop
-loop_less c = search rules
+loop-a-smaller : tie.Need-loop-a-smaller invariant-loop-a decreases-loop-a
+loop-a-smaller c = search rules
 
-loop_again : tie.Need-loop-preserved invariant-loop decreases-loop
-loop_again c =
+loop-a-preserved : tie.Need-loop-a-preserved invariant-loop-a decreases-loop-a
+loop-a-preserved c =
     let e = c.before in
-    let l = e.before.before.loop in
-    (omega arith, compared_more _ _ _ l.a l.count e.entry.result c.one-for.result l.invariant.1 e.entry.ensures c.one-for.ensures, omega (arith, one_small e.entry.result _ c.one-for.ensures, l.invariant.2))
+    let l = e.before.before.loop-a in
+    (omega arith, compared_more _ _ _ l.a l.count e.entry-x.result c.one_for-count.result l.invariant.1 e.entry-x.ensures c.one_for-count.ensures, omega (arith, one_small e.entry-x.result _ c.one_for-count.ensures, l.invariant.2))
 
-returns : tie.Need-returns invariant-loop decreases-loop
-returns c = record { value = compared_all _ _ _ _ _ (omega arith) c.before.loop.invariant.1; small = omega arith }
+returns : tie.Need-returns invariant-loop-a decreases-loop-a
+returns c = record { value = compared_all _ _ _ _ _ (omega arith) c.before.loop-a.invariant.1; small = omega arith }
 
 pub comparisons_spec : {M : Type 1} → statement M
 comparisons_spec =
     tie.close
     (tie.spec
-    invariant-loop
-    decreases-loop
-    loop_holds
-    entry_requires
-    one_for_requires
-    add_count
-    add_a
-    loop_less
-    loop_again
+    invariant-loop-a
+    decreases-loop-a
+    loop-a-init
+    entry-x-requires
+    one_for-count-requires
+    overflow_add-count
+    overflow_add-a
+    loop-a-smaller
+    loop-a-preserved
     returns)

@@ -7,59 +7,59 @@ use borrow.Author.Rules.{rules}
 use Rattle.price_counts.proofs.fill_comparisons.Statement.{statement}
 use Rattle.price_counts.proofs.fill_comparisons.Tie as tie
 
-abbrev invariant-loop : tie.invariant-loop
-invariant-loop plan n list₀ total₀ v₀ list total v = Filling (comparisons_of n plan) n v list₀ list total
+abbrev invariant-loop-v : tie.invariant-loop-v
+invariant-loop-v plan n list₀ total₀ v₀ list total v = Filling (comparisons_of n plan) n v list₀ list total
 
-abbrev decreases-loop : tie.decreases-loop
-decreases-loop plan n list₀ total₀ v₀ list total v = n - v
+abbrev decreases-loop-v : tie.decreases-loop-v
+decreases-loop-v plan n list₀ total₀ v₀ list total v = n - v
 
 -- A place: the start, from the top of the loop.
-abbrev start : tie.At-loop invariant-loop decreases-loop → tie.Start invariant-loop decreases-loop
+abbrev start : tie.At-loop-v invariant-loop-v decreases-loop-v → tie.Start invariant-loop-v decreases-loop-v
 start s = s.before.before.before
 
-loop_holds : tie.Need-loop-init invariant-loop decreases-loop
-loop_holds c = filling_none
+loop-v-init : tie.Need-loop-v-init invariant-loop-v decreases-loop-v
+loop-v-init c = filling_none
 
-comparisons_requires : tie.Need-comparisons-requires invariant-loop decreases-loop
-comparisons_requires c κs = record { planned = (start c.before).pre.planned; step = search rules }
+comparisons-count-requires : tie.Need-comparisons-count-requires invariant-loop-v decreases-loop-v
+comparisons-count-requires c κs = record { planned = (start c.before).pre.planned; step = search rules }
 
-mul_list : tie.Need-overflow-mul-list invariant-loop decreases-loop
-mul_list c = let s = start c.before.before in omega (arith, s.pre.planned.few)
+offset_bounds-list-v : tie.Need-offset_bounds-list-v invariant-loop-v decreases-loop-v
+offset_bounds-list-v c = let s = start c.before.before in omega (arith, s.pre.planned.few)
 
-slice_write_list : tie.Need-slice-write-list invariant-loop decreases-loop
-slice_write_list c = let s = start c.before.before in omega (arith, s.pre.room, c.before.before.loop.invariant.long)
+bounds-list-v : tie.Need-bounds-list-v invariant-loop-v decreases-loop-v
+bounds-list-v c = let s = start c.before.before in omega (arith, s.pre.room, c.before.before.loop-v.invariant.long)
 
-add_total : tie.Need-overflow-add-total invariant-loop decreases-loop
-add_total c = let s = start c.before.before in omega (arith, s.pre.planned.few, c.comparisons.ensures.small, c.before.before.loop.invariant.small)
+overflow_add-total : tie.Need-overflow_add-total invariant-loop-v decreases-loop-v
+overflow_add-total c = let s = start c.before.before in omega (arith, s.pre.planned.few, c.comparisons-count.ensures.small, c.before.before.loop-v.invariant.small)
 
-add_v : tie.Need-overflow-add-v invariant-loop decreases-loop
-add_v c = let s = start c.before.before in omega (arith, s.pre.planned.few)
+overflow_add-v : tie.Need-overflow_add-v invariant-loop-v decreases-loop-v
+overflow_add-v c = let s = start c.before.before in omega (arith, s.pre.planned.few)
 
-loop_less : tie.Need-loop-smaller invariant-loop decreases-loop
-loop_less c = omega arith
+loop-v-smaller : tie.Need-loop-v-smaller invariant-loop-v decreases-loop-v
+loop-v-smaller c = omega arith
 
-loop_again : tie.Need-loop-preserved invariant-loop decreases-loop
-loop_again c = filling_more c.before.before.loop.invariant c.comparisons.ensures (omega arith) (start c.before.before).pre.room
+loop-v-preserved : tie.Need-loop-v-preserved invariant-loop-v decreases-loop-v
+loop-v-preserved c = filling_more c.before.before.loop-v.invariant c.comparisons-count.ensures (omega arith) (start c.before.before).pre.room
 
-same_length : tie.Need-same-length invariant-loop decreases-loop
-same_length c = search rules
+shape_of-list : tie.Need-shape_of-list invariant-loop-v decreases-loop-v
+shape_of-list c = search rules
 
-returns : tie.Need-returns invariant-loop decreases-loop
-returns c = filling_all c.before.loop.invariant (omega arith)
+returns : tie.Need-returns invariant-loop-v decreases-loop-v
+returns c = filling_all c.before.loop-v.invariant (omega arith)
 
 pub fill_comparisons_spec : {M : Type 1} → statement M
 fill_comparisons_spec =
     tie.close
     (tie.spec
-    invariant-loop
-    decreases-loop
-    loop_holds
-    comparisons_requires
-    mul_list
-    slice_write_list
-    add_total
-    add_v
-    loop_less
-    loop_again
-    same_length
+    invariant-loop-v
+    decreases-loop-v
+    loop-v-init
+    comparisons-count-requires
+    offset_bounds-list-v
+    bounds-list-v
+    overflow_add-total
+    overflow_add-v
+    loop-v-smaller
+    loop-v-preserved
+    shape_of-list
     returns)

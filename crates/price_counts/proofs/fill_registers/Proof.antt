@@ -8,59 +8,59 @@ use borrow.Author.Rules.{rules}
 use Rattle.price_counts.proofs.fill_registers.Statement.{statement}
 use Rattle.price_counts.proofs.fill_registers.Tie as tie
 
-abbrev invariant-loop : tie.invariant-loop
-invariant-loop entries plan n unbounded list₀ total₀ a₀ list total a = Filling (registers_of (test_bit unbounded) entries n plan) n a list₀ list total
+abbrev invariant-loop-a : tie.invariant-loop-a
+invariant-loop-a entries plan n unbounded list₀ total₀ a₀ list total a = Filling (registers_of (test_bit unbounded) entries n plan) n a list₀ list total
 
-abbrev decreases-loop : tie.decreases-loop
-decreases-loop entries plan n unbounded list₀ total₀ a₀ list total a = n - a
+abbrev decreases-loop-a : tie.decreases-loop-a
+decreases-loop-a entries plan n unbounded list₀ total₀ a₀ list total a = n - a
 
 -- A place: the start, from the top of the loop.
-abbrev start : tie.At-loop invariant-loop decreases-loop → tie.Start invariant-loop decreases-loop
+abbrev start : tie.At-loop-a invariant-loop-a decreases-loop-a → tie.Start invariant-loop-a decreases-loop-a
 start s = s.before.before.before.before
 
-loop_holds : tie.Need-loop-init invariant-loop decreases-loop
-loop_holds c = filling_none
+loop-a-init : tie.Need-loop-a-init invariant-loop-a decreases-loop-a
+loop-a-init c = filling_none
 
-registers_requires : tie.Need-registers-requires invariant-loop decreases-loop
-registers_requires c κs = record { planned = (start c.before).pre.planned; step = search rules }
+registers-count-requires : tie.Need-registers-count-requires invariant-loop-a decreases-loop-a
+registers-count-requires c κs = record { planned = (start c.before).pre.planned; step = search rules }
 
-mul_list : tie.Need-overflow-mul-list invariant-loop decreases-loop
-mul_list c = let s = start c.before.before in omega (arith, s.pre.planned.few)
+offset_bounds-list-a : tie.Need-offset_bounds-list-a invariant-loop-a decreases-loop-a
+offset_bounds-list-a c = let s = start c.before.before in omega (arith, s.pre.planned.few)
 
-slice_write_list : tie.Need-slice-write-list invariant-loop decreases-loop
-slice_write_list c = let s = start c.before.before in omega (arith, s.pre.room, c.before.before.loop.invariant.long)
+bounds-list-a : tie.Need-bounds-list-a invariant-loop-a decreases-loop-a
+bounds-list-a c = let s = start c.before.before in omega (arith, s.pre.room, c.before.before.loop-a.invariant.long)
 
-add_total : tie.Need-overflow-add-total invariant-loop decreases-loop
-add_total c = let s = start c.before.before in omega (arith, s.pre.planned.few, c.registers.ensures.small, c.before.before.loop.invariant.small)
+overflow_add-total : tie.Need-overflow_add-total invariant-loop-a decreases-loop-a
+overflow_add-total c = let s = start c.before.before in omega (arith, s.pre.planned.few, c.registers-count.ensures.small, c.before.before.loop-a.invariant.small)
 
-add_a : tie.Need-overflow-add-a invariant-loop decreases-loop
-add_a c = let s = start c.before.before in omega (arith, s.pre.planned.few)
+overflow_add-a : tie.Need-overflow_add-a invariant-loop-a decreases-loop-a
+overflow_add-a c = let s = start c.before.before in omega (arith, s.pre.planned.few)
 
-loop_less : tie.Need-loop-smaller invariant-loop decreases-loop
-loop_less c = omega arith
+loop-a-smaller : tie.Need-loop-a-smaller invariant-loop-a decreases-loop-a
+loop-a-smaller c = omega arith
 
-loop_again : tie.Need-loop-preserved invariant-loop decreases-loop
-loop_again c = filling_more c.before.before.loop.invariant c.registers.ensures (omega arith) (start c.before.before).pre.room
+loop-a-preserved : tie.Need-loop-a-preserved invariant-loop-a decreases-loop-a
+loop-a-preserved c = filling_more c.before.before.loop-a.invariant c.registers-count.ensures (omega arith) (start c.before.before).pre.room
 
-same_length : tie.Need-same-length invariant-loop decreases-loop
-same_length c = search rules
+shape_of-list : tie.Need-shape_of-list invariant-loop-a decreases-loop-a
+shape_of-list c = search rules
 
-returns : tie.Need-returns invariant-loop decreases-loop
-returns c = filling_all c.before.loop.invariant (omega arith)
+returns : tie.Need-returns invariant-loop-a decreases-loop-a
+returns c = filling_all c.before.loop-a.invariant (omega arith)
 
 pub fill_registers_spec : {M : Type 1} → statement M
 fill_registers_spec =
     tie.close
     (tie.spec
-    invariant-loop
-    decreases-loop
-    loop_holds
-    registers_requires
-    mul_list
-    slice_write_list
-    add_total
-    add_a
-    loop_less
-    loop_again
-    same_length
+    invariant-loop-a
+    decreases-loop-a
+    loop-a-init
+    registers-count-requires
+    offset_bounds-list-a
+    bounds-list-a
+    overflow_add-total
+    overflow_add-a
+    loop-a-smaller
+    loop-a-preserved
+    shape_of-list
     returns)

@@ -7,51 +7,51 @@ use borrow.Author.Rules.{rules}
 use Rattle.price_counts.proofs.largest_offset.Statement.{statement}
 use Rattle.price_counts.proofs.largest_offset.Tie as tie
 
-abbrev invariant-loop : tie.invariant-loop
-invariant-loop plan n a most₀ v₀ most v = (v ≤ n) × (most ≡ most_of n plan a v)
+abbrev invariant-loop-v : tie.invariant-loop-v
+invariant-loop-v plan n a most₀ v₀ most v = (v ≤ n) × (most ≡ most_of n plan a v)
 
-abbrev decreases-loop : tie.decreases-loop
-decreases-loop plan n a most₀ v₀ most v = n - v
+abbrev decreases-loop-v : tie.decreases-loop-v
+decreases-loop-v plan n a most₀ v₀ most v = n - v
 
-loop_holds : tie.Need-loop-init invariant-loop decreases-loop
-loop_holds c = (omega arith, most_none _ _ _)
+loop-v-init : tie.Need-loop-v-init invariant-loop-v decreases-loop-v
+loop-v-init c = (omega arith, most_none _ _ _)
 
-entry_requires : tie.Need-entry-requires invariant-loop decreases-loop
-entry_requires c κs = let s = c.before.before.before in record { planned = s.requires.planned; row = search rules; column = s.requires.step }
+entry-x-requires : tie.Need-entry-x-requires invariant-loop-v decreases-loop-v
+entry-x-requires c κs = let s = c.before.before.before in record { planned = s.requires.planned; row = search rules; column = s.requires.step }
 
-offset_of_requires : tie.Need-offset-of-requires invariant-loop decreases-loop
-offset_of_requires c κs = search rules
+offset_of-requires : tie.Need-offset_of-requires invariant-loop-v decreases-loop-v
+offset_of-requires c κs = search rules
 
-larger_requires : tie.Need-larger-requires invariant-loop decreases-loop
-larger_requires c κs = search rules
+larger-most-requires : tie.Need-larger-most-requires invariant-loop-v decreases-loop-v
+larger-most-requires c κs = search rules
 
-add_v : tie.Need-overflow-add-v invariant-loop decreases-loop
-add_v c = search rules
+overflow_add-v : tie.Need-overflow_add-v invariant-loop-v decreases-loop-v
+overflow_add-v c = search rules
 
-loop_less : tie.Need-loop-smaller invariant-loop decreases-loop
-loop_less c = search rules
+loop-v-smaller : tie.Need-loop-v-smaller invariant-loop-v decreases-loop-v
+loop-v-smaller c = search rules
 
-loop_again : tie.Need-loop-preserved invariant-loop decreases-loop
-loop_again c =
+loop-v-preserved : tie.Need-loop-v-preserved invariant-loop-v decreases-loop-v
+loop-v-preserved c =
     let o = c.before in
     let e = o.before in
-    let l = e.before.before.loop in
-    (omega arith, most_more _ _ _ l.v l.most e.entry.result o.offset-of.result _ l.invariant.1 e.entry.ensures o.offset-of.ensures c.larger.ensures)
+    let l = e.before.before.loop-v in
+    (omega arith, most_more _ _ _ l.v l.most e.entry-x.result o.offset_of.result _ l.invariant.1 e.entry-x.ensures o.offset_of.ensures c.larger-most.ensures)
 
-returns : tie.Need-returns invariant-loop decreases-loop
-returns c = most_all _ _ _ _ _ (omega arith) c.before.loop.invariant.1
+returns : tie.Need-returns invariant-loop-v decreases-loop-v
+returns c = most_all _ _ _ _ _ (omega arith) c.before.loop-v.invariant.1
 
 pub largest_offset_spec : {M : Type 1} → statement M
 largest_offset_spec =
     tie.close
     (tie.spec
-    invariant-loop
-    decreases-loop
-    loop_holds
-    entry_requires
-    offset_of_requires
-    larger_requires
-    add_v
-    loop_less
-    loop_again
+    invariant-loop-v
+    decreases-loop-v
+    loop-v-init
+    entry-x-requires
+    offset_of-requires
+    larger-most-requires
+    overflow_add-v
+    loop-v-smaller
+    loop-v-preserved
     returns)

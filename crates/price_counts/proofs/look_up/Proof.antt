@@ -6,20 +6,20 @@ use borrow.Author.Rules.{rules}
 use Rattle.price_counts.proofs.look_up.Statement.{statement}
 use Rattle.price_counts.proofs.look_up.Tie as tie
 
+returns-then-entries-at : tie.Need-returns-then-entries-at
+returns-then-entries-at c = record { value = sym (get_or-eq_default c.before.args.entries.now 0 c.if-entries-at.true); small = omega arith }
+
+offset_bounds-entries-at : tie.Need-offset_bounds-entries-at
+offset_bounds-entries-at c = search rules
+
+bounds-entries-at : tie.Need-bounds-entries-at
+bounds-entries-at c = search rules
+
+overflow_cast-result : tie.Need-overflow_cast-result
+overflow_cast-result c = omega (arith, c.shared_slice_known-1.given c.before.before.args.at)
+
 returns : tie.Need-returns
-returns c = record { value = sym (get_or-eq_default c.before.args.entries.now 0 c.if1.true); small = omega arith }
-
-mul_result : tie.Need-overflow-mul-result
-mul_result c = search rules
-
-shared_slice_read_result : tie.Need-shared-slice-read-result
-shared_slice_read_result c = search rules
-
-cast_result : tie.Need-overflow-cast-result
-cast_result c = omega (arith, c.shared-slice-known.given c.before.before.args.at)
-
-returns_2 : tie.Need-returns-2
-returns_2 c = record { value = refl; small = omega (arith, c.shared-slice-known.given c.before.before.args.at) }
+returns-then-entries-at c = record { value = refl; small = omega (arith, c.shared_slice_known-1.given c.before.before.args.at) }
 
 pub look_up_spec : {M : Type 1} → statement M
-look_up_spec = tie.close (tie.spec returns mul_result shared_slice_read_result cast_result returns_2)
+look_up_spec = tie.close (tie.spec returns-then-entries-at offset_bounds-entries-at bounds-entries-at overflow_cast-result returns-then-entries-at)

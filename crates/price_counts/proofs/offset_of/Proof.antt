@@ -3,11 +3,11 @@ use borrow.Author.Tests.{eq-eqb, ne_eqb}
 use Rattle.price_counts.proofs.offset_of.Statement.{statement}
 use Rattle.price_counts.proofs.offset_of.Tie as tie
 
-returns : tie.Need-returns
-returns c = simp (eq-eqb _ _ c.if1.true)
+returns-then-x-eq-UNDECIDED : tie.Need-returns-then-x-eq-UNDECIDED
+returns-then-x-eq-UNDECIDED c = simp (eq-eqb _ _ c.if-x-eq-UNDECIDED.true)
 
-returns_2 : tie.Need-returns-2
-returns_2 c = simp (ne_eqb _ _ c.if1.false)
+returns : tie.Need-returns
+returns-then-x-eq-UNDECIDED c = simp (ne_eqb _ _ c.if-x-eq-UNDECIDED.false)
 
 pub offset_of_spec : {M : Type 1} → statement M
-offset_of_spec = tie.close (tie.spec returns returns_2)
+offset_of_spec = tie.close (tie.spec returns-then-x-eq-UNDECIDED returns-then-x-eq-UNDECIDED)

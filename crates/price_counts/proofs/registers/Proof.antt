@@ -10,34 +10,34 @@ use Rattle.price_counts.proofs.registers.Statement.{statement}
 use Rattle.price_counts.proofs.registers.Tie as tie
 
 -- A place: the start, from where the step is known to be open.
-abbrev start : tie.Else1 → tie.Start
+abbrev start : tie.Else-not-has → tie.Start
 start s = s.before.before.before.before
 
-has_requires : tie.Need-has-requires
-has_requires c κs = search rules
+has-requires : tie.Need-has-requires
+has-requires c κs = search rules
+
+returns-then-not-has : tie.Need-returns-then-not-has
+returns-then-not-has c = record { value = registers_fixed _ _ _ _ _ (sym c.before.has.ensures ∙ not-true _ c.if-not-has.true); small = omega arith }
+
+largest_offset-most-requires : tie.Need-largest_offset-most-requires
+largest_offset-most-requires c κs = search rules
+
+index-requires : tie.Need-index-requires
+index-requires c κs = search rules
+
+look_up-requires : tie.Need-look_up-requires
+look_up-requires c κs = search rules
 
 returns : tie.Need-returns
-returns c = record { value = registers_fixed _ _ _ _ _ (sym c.before.has.ensures ∙ not-true _ c.if1.true); small = omega arith }
-
-largest_offset_requires : tie.Need-largest-offset-requires
-largest_offset_requires c κs = search rules
-
-index_requires : tie.Need-index-requires
-index_requires c κs = search rules
-
-look_up_requires : tie.Need-look-up-requires
-look_up_requires c κs = search rules
-
-returns_2 : tie.Need-returns-2
-returns_2 c =
+returns-then-not-has c =
     let i = c.before in
     let o = i.before in
     let s = o.before in
     record {
       value =
           c.look_up.ensures.value
-          ∙ ap (λ (k : ℕ). get_or (start s).args.entries.now k 0) (i.index.ensures ∙ o.largest_offset.ensures)
-          ∙ registers_open _ _ _ _ _ (sym s.before.has.ensures ∙ not-false _ s.if1.false);
+          ∙ ap (λ (k : ℕ). get_or (start s).args.entries.now k 0) (i.index.ensures ∙ o.largest_offset-most.ensures)
+          ∙ registers_open _ _ _ _ _ (sym s.before.has.ensures ∙ not-false _ s.if-not-has.false);
       small = c.look_up.ensures.small;
     }
 
@@ -45,9 +45,9 @@ pub registers_spec : {M : Type 1} → statement M
 registers_spec =
     tie.close
     (tie.spec
-    has_requires
-    returns
-    largest_offset_requires
-    index_requires
-    look_up_requires
-    returns_2)
+    has-requires
+    returns-then-not-has
+    largest_offset-most-requires
+    index-requires
+    look_up-requires
+    returns-then-not-has)

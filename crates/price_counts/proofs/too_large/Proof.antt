@@ -12,53 +12,53 @@ use borrow.Author.Rules.{rules}
 use Rattle.price_counts.proofs.too_large.Statement.{statement}
 use Rattle.price_counts.proofs.too_large.Tie as tie
 
-abbrev invariant-loop : tie.invariant-loop
-invariant-loop plan n unbounded a₀ a = (a ≤ n) × (any_below (is_large unbounded n plan) a ≡ false)
+abbrev invariant-loop-a : tie.invariant-loop-a
+invariant-loop-a plan n unbounded a₀ a = (a ≤ n) × (any_below (is_large unbounded n plan) a ≡ false)
 
-abbrev decreases-loop : tie.decreases-loop
-decreases-loop plan n unbounded a₀ a = n - a
+abbrev decreases-loop-a : tie.decreases-loop-a
+decreases-loop-a plan n unbounded a₀ a = n - a
 
 -- A place: the top of the loop, from where a step has been judged.
-abbrev top : tie.After-large invariant-loop decreases-loop → tie.At-loop invariant-loop decreases-loop
+abbrev top : tie.After-large invariant-loop-a decreases-loop-a → tie.At-loop-a invariant-loop-a decreases-loop-a
 top s = s.before.before
 
-loop_holds : tie.Need-loop-init invariant-loop decreases-loop
-loop_holds c = (omega arith, any_below_nothing _)
+loop-a-init : tie.Need-loop-a-init invariant-loop-a decreases-loop-a
+loop-a-init c = (omega arith, any_below_nothing _)
 
-large_requires : tie.Need-large-requires invariant-loop decreases-loop
-large_requires c κs = record { planned = c.before.before.before.requires; step = search rules }
+large-requires : tie.Need-large-requires invariant-loop-a decreases-loop-a
+large-requires c κs = record { planned = c.before.before.before.requires; step = search rules }
 
-returns : tie.Need-returns invariant-loop decreases-loop
-returns c =
+returns-then-large : tie.Need-returns-then-large invariant-loop-a decreases-loop-a
+returns-then-large c =
     let s = top c.before in
-    sym (any_below_by _ _ {k = s.loop.a} (omega arith) (sym c.before.large.ensures ∙ c.if1.true)) ∙ large_some _ _ _
+    sym (any_below_by _ _ {k = s.loop-a.a} (omega arith) (sym c.before.large.ensures ∙ c.if-large.true)) ∙ large_some _ _ _
 
-add_a : tie.Need-overflow-add-a invariant-loop decreases-loop
-add_a c = search rules
+overflow_add-a : tie.Need-overflow_add-a invariant-loop-a decreases-loop-a
+overflow_add-a c = search rules
 
-loop_less : tie.Need-loop-smaller invariant-loop decreases-loop
-loop_less c = search rules
+loop-a-smaller : tie.Need-loop-a-smaller invariant-loop-a decreases-loop-a
+loop-a-smaller c = search rules
 
-loop_again : tie.Need-loop-preserved invariant-loop decreases-loop
-loop_again c =
+loop-a-preserved : tie.Need-loop-a-preserved invariant-loop-a decreases-loop-a
+loop-a-preserved c =
     let s = top c.before in
-    (omega arith, any_below_more _ _ s.loop.inv.1 (sym c.before.large.ensures ∙ c.if1.false))
+    (omega arith, any_below_more _ _ s.loop-a.inv.1 (sym c.before.large.ensures ∙ c.if-large.false))
 
-returns_2 : tie.Need-returns-2 invariant-loop decreases-loop
-returns_2 c =
-    let e : c.before.loop.a ≡ c.before.before.before.args.n = omega arith in
-    sym (rw e at c.before.loop.invariant.1) ∙ large_some _ _ _
+returns : tie.Need-returns invariant-loop-a decreases-loop-a
+returns-then-large c =
+    let e : c.before.loop-a.a ≡ c.before.before.before.args.n = omega arith in
+    sym (rw e at c.before.loop-a.invariant.1) ∙ large_some _ _ _
 
 pub too_large_spec : {M : Type 1} → statement M
 too_large_spec =
     tie.close
     (tie.spec
-    invariant-loop
-    decreases-loop
-    loop_holds
-    large_requires
-    returns
-    add_a
-    loop_less
-    loop_again
-    returns_2)
+    invariant-loop-a
+    decreases-loop-a
+    loop-a-init
+    large-requires
+    returns-then-large
+    overflow_add-a
+    loop-a-smaller
+    loop-a-preserved
+    returns-then-large)

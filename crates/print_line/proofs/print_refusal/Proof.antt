@@ -10,16 +10,16 @@ use Rattle.print_line.proofs.print_refusal.Tie as tie
 slice_aggregate_put_heading : tie.Need-slice-aggregate-put-heading
 slice_aggregate_put_heading c = search rules
 
-put_heading_requires : tie.Need-put-heading-requires
-put_heading_requires c κs = omega (arith, heading_limit word_refused c.before.before.before.args.number)
+put_heading-requires : tie.Need-put_heading-requires
+put_heading-requires c κs = omega (arith, heading_limit word_refused c.before.before.before.args.number)
 
-same_length : tie.Need-same-length
-same_length c = search rules
+shape_of-out : tie.Need-shape_of-out
+shape_of-out c = search rules
 
 returns : tie.Need-returns
 unfolding refusal_text
-returns c = put_printed c.before.before.put-heading.ensures
+returns c = put_printed c.before.before.put_heading.ensures
 
 pub print_refusal_spec : {M : Type 1} → statement M
 print_refusal_spec =
-    tie.close (tie.spec slice_aggregate_put_heading put_heading_requires same_length returns)
+    tie.close (tie.spec slice_aggregate_put_heading put_heading-requires shape_of-out returns)

@@ -10,68 +10,68 @@ use Rattle.data_buffers.proofs.Writing.{put_as, put_none, texts_length, next_roo
 use Rattle.print_line.proofs.put_fields.Statement.{statement}
 use Rattle.print_line.proofs.put_fields.Tie as tie
 
-abbrev invariant-loop : tie.invariant-loop
-invariant-loop numbers out₀ at p₀ i₀ out p i = (i ≤ length numbers) × Put (texts (field_at numbers) i) at p out₀ out
+abbrev invariant-loop-i : tie.invariant-loop-i
+invariant-loop-i numbers out₀ at p₀ i₀ out p i = (i ≤ length numbers) × Put (texts (field_at numbers) i) at p out₀ out
 
-abbrev decreases-loop : tie.decreases-loop
-decreases-loop numbers out₀ at p₀ i₀ out p i = length numbers - i
+abbrev decreases-loop-i : tie.decreases-loop-i
+decreases-loop-i numbers out₀ at p₀ i₀ out p i = length numbers - i
 
-loop_holds : tie.Need-loop-init invariant-loop decreases-loop
-loop_holds c = (omega arith, unfold texts in put_none _ _)
+loop-i-init : tie.Need-loop-i-init invariant-loop-i decreases-loop-i
+loop-i-init c = (omega arith, unfold texts in put_none _ _)
 
-mul_put_field : tie.Need-overflow-mul-put-field invariant-loop decreases-loop
-mul_put_field c = search rules
+offset_bounds-numbers-i : tie.Need-offset_bounds-numbers-i invariant-loop-i decreases-loop-i
+offset_bounds-numbers-i c = search rules
 
-shared_slice_read_put_field : tie.Need-shared-slice-read-put-field invariant-loop decreases-loop
-shared_slice_read_put_field c = search rules
+bounds-numbers-i : tie.Need-bounds-numbers-i invariant-loop-i decreases-loop-i
+bounds-numbers-i c = search rules
 
-put_field_requires : tie.Need-put-field-requires invariant-loop decreases-loop
-put_field_requires c κs =
+put_field-p-requires : tie.Need-put_field-p-requires invariant-loop-i decreases-loop-i
+put_field-p-requires c κs =
     let a = c.before.before.before in
     let s = a.before.before.before in
     let numbers = s.args.numbers.now in
-    next_room (field_at numbers) (length numbers) a.loop.i a.loop.invariant.1 (omega arith) s.requires
+    next_room (field_at numbers) (length numbers) a.loop-i.i a.loop-i.invariant.1 (omega arith) s.requires
 
-add_i : tie.Need-overflow-add-i invariant-loop decreases-loop
-add_i c = search rules
+overflow_add-i : tie.Need-overflow_add-i invariant-loop-i decreases-loop-i
+overflow_add-i c = search rules
 
-loop_less : tie.Need-loop-smaller invariant-loop decreases-loop
-loop_less c = search rules
+loop-i-smaller : tie.Need-loop-i-smaller invariant-loop-i decreases-loop-i
+loop-i-smaller c = search rules
 
-loop_again : tie.Need-loop-preserved invariant-loop decreases-loop
-loop_again c =
+loop-i-preserved : tie.Need-loop-i-preserved invariant-loop-i decreases-loop-i
+loop-i-preserved c =
     let a = c.before.before.before.before.before.before in
     let s = a.before.before.before in
     let numbers = s.args.numbers.now in
-    (omega arith, next_text (field_at numbers) (length numbers) a.loop.i a.loop.invariant.1 (omega arith) s.requires c.before.before.put-field.ensures)
+    (omega arith, next_text (field_at numbers) (length numbers) a.loop-i.i a.loop-i.invariant.1 (omega arith) s.requires c.before.before.put_field-p.ensures)
 
-same_length : tie.Need-same-length invariant-loop decreases-loop
-same_length c =
+shape_of-out : tie.Need-shape_of-out invariant-loop-i decreases-loop-i
+shape_of-out c =
     let a = c.before in
     let s = a.before.before.before in
     let numbers = s.args.numbers.now in
-    texts_length (field_at numbers) (length numbers) a.loop.i a.loop.invariant.1 (omega arith) s.requires
+    texts_length (field_at numbers) (length numbers) a.loop-i.i a.loop-i.invariant.1 (omega arith) s.requires
 
-returns : tie.Need-returns invariant-loop decreases-loop
+returns : tie.Need-returns invariant-loop-i decreases-loop-i
 returns c =
     let a = c.before in
     let s = a.before.before.before in
     let numbers = s.args.numbers.now in
-    let e : a.loop.i ≡ length numbers = omega arith in
-    put_as (ap (texts (field_at numbers)) e) a.loop.invariant.1
+    let e : a.loop-i.i ≡ length numbers = omega arith in
+    put_as (ap (texts (field_at numbers)) e) a.loop-i.invariant.1
 
 pub put_fields_spec : {M : Type 1} → statement M
 put_fields_spec =
     tie.close
     (tie.spec
-    invariant-loop
-    decreases-loop
-    loop_holds
-    mul_put_field
-    shared_slice_read_put_field
-    put_field_requires
-    add_i
-    loop_less
-    loop_again
-    same_length
+    invariant-loop-i
+    decreases-loop-i
+    loop-i-init
+    offset_bounds-numbers-i
+    bounds-numbers-i
+    put_field-p-requires
+    overflow_add-i
+    loop-i-smaller
+    loop-i-preserved
+    shape_of-out
     returns)

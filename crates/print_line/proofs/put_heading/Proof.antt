@@ -8,22 +8,22 @@ use borrow.Author.Rules.{rules}
 use Rattle.print_line.proofs.put_heading.Statement.{statement}
 use Rattle.print_line.proofs.put_heading.Tie as tie
 
-slice_aggregate_put_line : tie.Need-slice-aggregate-put-line
-slice_aggregate_put_line c = search rules
+slice_bounds-put_line-end : tie.Need-slice_bounds-put_line-end
+slice_bounds-put_line-end c = search rules
 
-put_line_requires : tie.Need-put-line-requires
-put_line_requires c κs =
+put_line-requires : tie.Need-put_line-requires
+put_line-requires c κs =
     let s = c.before.before.before.before in
     omega (arith, ap length (heading_as_line s.args.word.now s.args.x))
 
-same_length : tie.Need-same-length
-same_length c = search rules
+shape_of-out : tie.Need-shape_of-out
+shape_of-out c = search rules
 
 returns : tie.Need-returns
 returns c =
     let s = c.before.before.before.before.before.before.before in
-    put_as (heading_as_line s.args.word.now s.args.x) c.before.before.put-line.ensures
+    put_as (heading_as_line s.args.word.now s.args.x) c.before.before.put_line.ensures
 
 pub put_heading_spec : {M : Type 1} → statement M
 put_heading_spec =
-    tie.close (tie.spec slice_aggregate_put_line put_line_requires same_length returns)
+    tie.close (tie.spec slice_bounds-put_line-end put_line-requires shape_of-out returns)

@@ -10,60 +10,60 @@ use Rattle.data_buffers.proofs.Writing.{put_none, byte_text, texts_word, texts_l
 use Rattle.print_line.proofs.put_word.Statement.{statement}
 use Rattle.print_line.proofs.put_word.Tie as tie
 
-abbrev invariant-loop : tie.invariant-loop
-invariant-loop word out₀ at p₀ i₀ out p i = (i ≤ length word) × Put (texts (byte_text word) i) at p out₀ out
+abbrev invariant-loop-i : tie.invariant-loop-i
+invariant-loop-i word out₀ at p₀ i₀ out p i = (i ≤ length word) × Put (texts (byte_text word) i) at p out₀ out
 
-abbrev decreases-loop : tie.decreases-loop
-decreases-loop word out₀ at p₀ i₀ out p i = length word - i
+abbrev decreases-loop-i : tie.decreases-loop-i
+decreases-loop-i word out₀ at p₀ i₀ out p i = length word - i
 
-loop_holds : tie.Need-loop-init invariant-loop decreases-loop
-loop_holds c = (omega arith, unfold texts in put_none _ _)
+loop-i-init : tie.Need-loop-i-init invariant-loop-i decreases-loop-i
+loop-i-init c = (omega arith, unfold texts in put_none _ _)
 
-shared_slice_read_put_byte : tie.Need-shared-slice-read-put-byte invariant-loop decreases-loop
-shared_slice_read_put_byte c = search rules
+bounds-word-i : tie.Need-bounds-word-i invariant-loop-i decreases-loop-i
+bounds-word-i c = search rules
 
-put_byte_requires : tie.Need-put-byte-requires invariant-loop decreases-loop
-put_byte_requires c κs =
+put_byte-p-requires : tie.Need-put_byte-p-requires invariant-loop-i decreases-loop-i
+put_byte-p-requires c κs =
     let a = c.before.before.before in
     let word = a.before.before.before.args.word.now in
-    omega (arith, next_room (byte_text word) (length word) a.loop.i a.loop.invariant.1 (omega arith) (omega (arith, ap length (texts_word word))))
+    omega (arith, next_room (byte_text word) (length word) a.loop-i.i a.loop-i.invariant.1 (omega arith) (omega (arith, ap length (texts_word word))))
 
-add_i : tie.Need-overflow-add-i invariant-loop decreases-loop
-add_i c = search rules
+overflow_add-i : tie.Need-overflow_add-i invariant-loop-i decreases-loop-i
+overflow_add-i c = search rules
 
-loop_less : tie.Need-loop-smaller invariant-loop decreases-loop
-loop_less c = search rules
+loop-i-smaller : tie.Need-loop-i-smaller invariant-loop-i decreases-loop-i
+loop-i-smaller c = search rules
 
-loop_again : tie.Need-loop-preserved invariant-loop decreases-loop
-loop_again c =
+loop-i-preserved : tie.Need-loop-i-preserved invariant-loop-i decreases-loop-i
+loop-i-preserved c =
     let a = c.before.before.before.before.before.before in
     let word = a.before.before.before.args.word.now in
-    (omega arith, next_text (byte_text word) (length word) a.loop.i a.loop.invariant.1 (omega arith) (omega (arith, ap length (texts_word word))) c.before.before.put_byte.ensures)
+    (omega arith, next_text (byte_text word) (length word) a.loop-i.i a.loop-i.invariant.1 (omega arith) (omega (arith, ap length (texts_word word))) c.before.before.put_byte-p.ensures)
 
-same_length : tie.Need-same-length invariant-loop decreases-loop
-same_length c =
+shape_of-out : tie.Need-shape_of-out invariant-loop-i decreases-loop-i
+shape_of-out c =
     let a = c.before in
     let word = a.before.before.before.args.word.now in
-    texts_length (byte_text word) (length word) a.loop.i a.loop.invariant.1 (omega arith) (omega (arith, ap length (texts_word word)))
+    texts_length (byte_text word) (length word) a.loop-i.i a.loop-i.invariant.1 (omega arith) (omega (arith, ap length (texts_word word)))
 
-returns : tie.Need-returns invariant-loop decreases-loop
+returns : tie.Need-returns invariant-loop-i decreases-loop-i
 returns c =
     let a = c.before in
     let word = a.before.before.before.args.word.now in
-    let e : a.loop.i ≡ length word = omega arith in
-    subst (λ (s : List ℕ). Put s a.before.before.before.args.at a.loop.p a.before.before.before.args.out.now a.loop.out) (ap (texts (byte_text word)) e ∙ texts_word word) a.loop.invariant.1
+    let e : a.loop-i.i ≡ length word = omega arith in
+    subst (λ (s : List ℕ). Put s a.before.before.before.args.at a.loop-i.p a.before.before.before.args.out-1.now a.loop-i.out-1) (ap (texts (byte_text word)) e ∙ texts_word word) a.loop-i.invariant.1
 
 pub put_word_spec : {M : Type 1} → statement M
 put_word_spec =
     tie.close
     (tie.spec
-    invariant-loop
-    decreases-loop
-    loop_holds
-    shared_slice_read_put_byte
-    put_byte_requires
-    add_i
-    loop_less
-    loop_again
-    same_length
+    invariant-loop-i
+    decreases-loop-i
+    loop-i-init
+    bounds-word-i
+    put_byte-p-requires
+    overflow_add-i
+    loop-i-smaller
+    loop-i-preserved
+    shape_of-out
     returns)

@@ -9,56 +9,56 @@ use Rattle.data_buffers.proofs.Writing.{put_as, put_none, texts_length, next_roo
 use Rattle.print_plan.proofs.put_starts_of.Statement.{statement}
 use Rattle.print_plan.proofs.put_starts_of.Tie as tie
 
-abbrev invariant-loop : tie.invariant-loop
-invariant-loop table n v out₀ at p₀ a₀ out p a = (a ≤ n) × Put (texts (start_cell n table v) a) at p out₀ out
+abbrev invariant-loop-a : tie.invariant-loop-a
+invariant-loop-a table n v out₀ at p₀ a₀ out p a = (a ≤ n) × Put (texts (start_cell n table v) a) at p out₀ out
 
-abbrev decreases-loop : tie.decreases-loop
-decreases-loop table n v out₀ at p₀ a₀ out p a = n - a
+abbrev decreases-loop-a : tie.decreases-loop-a
+decreases-loop-a table n v out₀ at p₀ a₀ out p a = n - a
 
-loop_holds : tie.Need-loop-init invariant-loop decreases-loop
-loop_holds c = (omega arith, unfold texts in put_none _ _)
+loop-a-init : tie.Need-loop-a-init invariant-loop-a decreases-loop-a
+loop-a-init c = (omega arith, unfold texts in put_none _ _)
 
-put_start_at_requires : tie.Need-put-start-at-requires invariant-loop decreases-loop
-put_start_at_requires c κs =
+put_start_at-p-requires : tie.Need-put_start_at-p-requires invariant-loop-a decreases-loop-a
+put_start_at-p-requires c κs =
     let a = c.before.before in
     let s = a.before.before.before in
-    record { few = omega arith; step = omega arith; decider = omega arith; long = omega arith; room = next_room (start_cell s.args.n s.args.table.now s.args.v) s.args.n a.loop.a a.loop.invariant.1 (omega arith) (omega arith) }
+    record { few = omega arith; step = omega arith; decider = omega arith; long = omega arith; room = next_room (start_cell s.args.n s.args.table.now s.args.v) s.args.n a.loop-a.a a.loop-a.invariant.1 (omega arith) (omega arith) }
 
-add_a : tie.Need-overflow-add-a invariant-loop decreases-loop
-add_a c = search rules
+overflow_add-a : tie.Need-overflow_add-a invariant-loop-a decreases-loop-a
+overflow_add-a c = search rules
 
-loop_less : tie.Need-loop-smaller invariant-loop decreases-loop
-loop_less c = search rules
+loop-a-smaller : tie.Need-loop-a-smaller invariant-loop-a decreases-loop-a
+loop-a-smaller c = search rules
 
-loop_again : tie.Need-loop-preserved invariant-loop decreases-loop
-loop_again c =
+loop-a-preserved : tie.Need-loop-a-preserved invariant-loop-a decreases-loop-a
+loop-a-preserved c =
     let a = c.before.before.before.before.before in
     let s = a.before.before.before in
-    (omega arith, next_text (start_cell s.args.n s.args.table.now s.args.v) s.args.n a.loop.a a.loop.invariant.1 (omega arith) (omega arith) c.before.before.put-start-at.ensures)
+    (omega arith, next_text (start_cell s.args.n s.args.table.now s.args.v) s.args.n a.loop-a.a a.loop-a.invariant.1 (omega arith) (omega arith) c.before.before.put_start_at-p.ensures)
 
-same_length : tie.Need-same-length invariant-loop decreases-loop
-same_length c =
+shape_of-out : tie.Need-shape_of-out invariant-loop-a decreases-loop-a
+shape_of-out c =
     let a = c.before in
     let s = a.before.before.before in
-    texts_length (start_cell s.args.n s.args.table.now s.args.v) s.args.n a.loop.a a.loop.invariant.1 (omega arith) (omega arith)
+    texts_length (start_cell s.args.n s.args.table.now s.args.v) s.args.n a.loop-a.a a.loop-a.invariant.1 (omega arith) (omega arith)
 
-returns : tie.Need-returns invariant-loop decreases-loop
+returns : tie.Need-returns invariant-loop-a decreases-loop-a
 returns c =
     let a = c.before in
     let s = a.before.before.before in
-    let e : a.loop.a ≡ s.args.n = omega arith in
-    put_as (ap (texts (start_cell s.args.n s.args.table.now s.args.v)) e) a.loop.invariant.1
+    let e : a.loop-a.a ≡ s.args.n = omega arith in
+    put_as (ap (texts (start_cell s.args.n s.args.table.now s.args.v)) e) a.loop-a.invariant.1
 
 pub put_starts_of_spec : {M : Type 1} → statement M
 put_starts_of_spec =
     tie.close
     (tie.spec
-    invariant-loop
-    decreases-loop
-    loop_holds
-    put_start_at_requires
-    add_a
-    loop_less
-    loop_again
-    same_length
+    invariant-loop-a
+    decreases-loop-a
+    loop-a-init
+    put_start_at-p-requires
+    overflow_add-a
+    loop-a-smaller
+    loop-a-preserved
+    shape_of-out
     returns)

@@ -8,59 +8,59 @@ use borrow.Author.Rules.{rules}
 use Rattle.print_plan.proofs.put_wait_at.Statement.{statement}
 use Rattle.print_plan.proofs.put_wait_at.Tie as tie
 
-mul_has : tie.Need-overflow-mul-has
-mul_has c = search rules
+offset_bounds-maps-i : tie.Need-offset_bounds-maps-i
+offset_bounds-maps-i c = search rules
 
-element_copy_out_has : tie.Need-element-copy-out-has
-element_copy_out_has c = search rules
+bounds-maps-i : tie.Need-bounds-maps-i
+bounds-maps-i c = search rules
 
-has_requires : tie.Need-has-requires
-has_requires c κs = search rules
+has-requires : tie.Need-has-requires
+has-requires c κs = search rules
 
-cast_t13 : tie.Need-overflow-cast-t13
-cast_t13 c = search rules
+overflow_cast-pair-then-has : tie.Need-overflow_cast-pair-then-has
+overflow_cast-pair-then-has c = search rules
 
-cast_t14 : tie.Need-overflow-cast-t14
+cast_t14 : tie.Need-cast-t14
 cast_t14 c = search rules
 
-slice_aggregate_put_line : tie.Need-slice-aggregate-put-line
-slice_aggregate_put_line c = search rules
+slice_bounds-put_line-end-then-has : tie.Need-slice_bounds-put_line-end-then-has
+slice_bounds-put_line-end-then-has c = search rules
 
 slice_aggregate_put_line_2 : tie.Need-slice-aggregate-put-line-2
 slice_aggregate_put_line_2 c = search rules
 
-put_line_requires : tie.Need-put-line-requires
-put_line_requires c κs =
+put_line-requires : tie.Need-put_line-requires
+put_line-requires c κs =
     let t = c.before.before.before in
     let s = t.before.before.before.before in
-    omega (arith, ap length (wait_stands s.args.maps.now s.args.a s.args.i (sym t.if1.true ∙ t.before.has.ensures)))
+    omega (arith, ap length (wait_stands s.args.maps.now s.args.a s.args.i (sym t.if-has.true ∙ t.before.has.ensures)))
 
-same_length : tie.Need-same-length
-same_length c = search rules
+shape_of-out-then-has : tie.Need-shape_of-out-then-has
+shape_of-out-then-has c = search rules
 
-returns : tie.Need-returns
-returns c =
+returns-then-has : tie.Need-returns-then-has
+returns-then-has c =
     let t = c.before.before.before.before.before.before in
     let s = t.before.before.before.before in
-    put_as (wait_stands s.args.maps.now s.args.a s.args.i (sym t.if1.true ∙ t.before.has.ensures)) c.before.before.put-line.ensures
+    put_as (wait_stands s.args.maps.now s.args.a s.args.i (sym t.if-has.true ∙ t.before.has.ensures)) c.before.before.put_line.ensures
 
-returns_2 : tie.Need-returns-2
-returns_2 c =
+returns : tie.Need-returns
+returns-then-has c =
     let s = c.before.before.before.before in
-    put_as (wait_absent s.args.maps.now s.args.a s.args.i (sym c.if1.false ∙ c.before.has.ensures)) (put_none _ _)
+    put_as (wait_absent s.args.maps.now s.args.a s.args.i (sym c.if-has.false ∙ c.before.has.ensures)) (put_none _ _)
 
 pub put_wait_at_spec : {M : Type 1} → statement M
 put_wait_at_spec =
     tie.close
     (tie.spec
-    mul_has
-    element_copy_out_has
-    has_requires
-    cast_t13
+    offset_bounds-maps-i
+    bounds-maps-i
+    has-requires
+    overflow_cast-pair-then-has
     cast_t14
-    slice_aggregate_put_line
+    slice_bounds-put_line-end-then-has
     slice_aggregate_put_line_2
-    put_line_requires
-    same_length
-    returns
-    returns_2)
+    put_line-requires
+    shape_of-out-then-has
+    returns-then-has
+    returns-then-has)

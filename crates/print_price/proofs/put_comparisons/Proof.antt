@@ -9,56 +9,56 @@ use Rattle.print_price.specs.Texts.{comparisons_line}
 use Rattle.print_price.proofs.put_comparisons.Statement.{statement}
 use Rattle.print_price.proofs.put_comparisons.Tie as tie
 
-abbrev invariant-loop : tie.invariant-loop
-invariant-loop n comparisons out₀ at p₀ v₀ out p v = (v ≤ n) × Put (texts (comparisons_line comparisons) v) at p out₀ out
+abbrev invariant-loop-v : tie.invariant-loop-v
+invariant-loop-v n comparisons out₀ at p₀ v₀ out p v = (v ≤ n) × Put (texts (comparisons_line comparisons) v) at p out₀ out
 
-abbrev decreases-loop : tie.decreases-loop
-decreases-loop n comparisons out₀ at p₀ v₀ out p v = n - v
+abbrev decreases-loop-v : tie.decreases-loop-v
+decreases-loop-v n comparisons out₀ at p₀ v₀ out p v = n - v
 
-loop_holds : tie.Need-loop-init invariant-loop decreases-loop
-loop_holds c = (omega arith, unfold texts in put_none _ _)
+loop-v-init : tie.Need-loop-v-init invariant-loop-v decreases-loop-v
+loop-v-init c = (omega arith, unfold texts in put_none _ _)
 
-put_comparisons_at_requires : tie.Need-put-comparisons-at-requires invariant-loop decreases-loop
-put_comparisons_at_requires c κs =
+put_comparisons_at-p-requires : tie.Need-put_comparisons_at-p-requires invariant-loop-v decreases-loop-v
+put_comparisons_at-p-requires c κs =
     let a = c.before.before in
     let s = a.before.before in
-    record { step = omega arith; room = next_room (comparisons_line s.args.comparisons.now) s.args.n a.loop.v a.loop.invariant.1 (omega arith) (omega arith) }
+    record { step = omega arith; room = next_room (comparisons_line s.args.comparisons.now) s.args.n a.loop-v.v a.loop-v.invariant.1 (omega arith) (omega arith) }
 
-add_v : tie.Need-overflow-add-v invariant-loop decreases-loop
-add_v c = search rules
+overflow_add-v : tie.Need-overflow_add-v invariant-loop-v decreases-loop-v
+overflow_add-v c = search rules
 
-loop_less : tie.Need-loop-smaller invariant-loop decreases-loop
-loop_less c = search rules
+loop-v-smaller : tie.Need-loop-v-smaller invariant-loop-v decreases-loop-v
+loop-v-smaller c = search rules
 
-loop_again : tie.Need-loop-preserved invariant-loop decreases-loop
-loop_again c =
+loop-v-preserved : tie.Need-loop-v-preserved invariant-loop-v decreases-loop-v
+loop-v-preserved c =
     let a = c.before.before.before.before.before in
     let s = a.before.before in
-    (omega arith, next_text (comparisons_line s.args.comparisons.now) s.args.n a.loop.v a.loop.invariant.1 (omega arith) (omega arith) c.before.before.put-comparisons-at.ensures)
+    (omega arith, next_text (comparisons_line s.args.comparisons.now) s.args.n a.loop-v.v a.loop-v.invariant.1 (omega arith) (omega arith) c.before.before.put_comparisons_at-p.ensures)
 
-same_length : tie.Need-same-length invariant-loop decreases-loop
-same_length c =
+shape_of-out : tie.Need-shape_of-out invariant-loop-v decreases-loop-v
+shape_of-out c =
     let a = c.before in
     let s = a.before.before in
-    texts_length (comparisons_line s.args.comparisons.now) s.args.n a.loop.v a.loop.invariant.1 (omega arith) (omega arith)
+    texts_length (comparisons_line s.args.comparisons.now) s.args.n a.loop-v.v a.loop-v.invariant.1 (omega arith) (omega arith)
 
-returns : tie.Need-returns invariant-loop decreases-loop
+returns : tie.Need-returns invariant-loop-v decreases-loop-v
 returns c =
     let a = c.before in
     let s = a.before.before in
-    let e : a.loop.v ≡ s.args.n = omega arith in
-    put_as (ap (texts (comparisons_line s.args.comparisons.now)) e) a.loop.invariant.1
+    let e : a.loop-v.v ≡ s.args.n = omega arith in
+    put_as (ap (texts (comparisons_line s.args.comparisons.now)) e) a.loop-v.invariant.1
 
 pub put_comparisons_spec : {M : Type 1} → statement M
 put_comparisons_spec =
     tie.close
     (tie.spec
-    invariant-loop
-    decreases-loop
-    loop_holds
-    put_comparisons_at_requires
-    add_v
-    loop_less
-    loop_again
-    same_length
+    invariant-loop-v
+    decreases-loop-v
+    loop-v-init
+    put_comparisons_at-p-requires
+    overflow_add-v
+    loop-v-smaller
+    loop-v-preserved
+    shape_of-out
     returns)

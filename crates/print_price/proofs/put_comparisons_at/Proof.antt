@@ -8,33 +8,33 @@ use borrow.Author.Rules.{rules}
 use Rattle.print_price.proofs.put_comparisons_at.Statement.{statement}
 use Rattle.print_price.proofs.put_comparisons_at.Tie as tie
 
-cast_t7 : tie.Need-overflow-cast-t7
+cast_t7 : tie.Need-cast-t7
 cast_t7 c = search rules
 
-mul_t8 : tie.Need-overflow-mul-t8
+mul_t8 : tie.Need-mul-t8
 mul_t8 c = search rules
 
 element_copy_out_t11 : tie.Need-element-copy-out-t11
 element_copy_out_t11 c = search rules
 
-slice_aggregate_put_line : tie.Need-slice-aggregate-put-line
-slice_aggregate_put_line c = search rules
+slice_bounds-put_line-end-2 : tie.Need-slice_bounds-put_line-end-2
+slice_bounds-put_line-end-2 c = search rules
 
 slice_aggregate_put_line_2 : tie.Need-slice-aggregate-put-line-2
 slice_aggregate_put_line_2 c = search rules
 
-put_line_requires : tie.Need-put-line-requires
-put_line_requires c κs =
+put_line-requires : tie.Need-put_line-requires
+put_line-requires c κs =
     let s = c.before.before.before.before.before in
     omega (arith, ap length (comparisons_as_line s.args.comparisons.now s.args.v))
 
-same_length : tie.Need-same-length
-same_length c = search rules
+shape_of-out : tie.Need-shape_of-out
+shape_of-out c = search rules
 
 returns : tie.Need-returns
 returns c =
     let s = c.before.before.before.before.before.before.before.before in
-    put_as (comparisons_as_line s.args.comparisons.now s.args.v) c.before.before.put-line.ensures
+    put_as (comparisons_as_line s.args.comparisons.now s.args.v) c.before.before.put_line.ensures
 
 pub put_comparisons_at_spec : {M : Type 1} → statement M
 put_comparisons_at_spec =
@@ -43,8 +43,8 @@ put_comparisons_at_spec =
     cast_t7
     mul_t8
     element_copy_out_t11
-    slice_aggregate_put_line
+    slice_bounds-put_line-end-2
     slice_aggregate_put_line_2
-    put_line_requires
-    same_length
+    put_line-requires
+    shape_of-out
     returns)

@@ -12,55 +12,55 @@ use Rattle.print_price.proofs.put_registers_at.Tie as tie
 abbrev start : tie.After-has → tie.Start
 start h = h.before.before
 
-has_requires : tie.Need-has-requires
-has_requires c κs = search rules
+has-requires : tie.Need-has-requires
+has-requires c κs = search rules
 
-cast_t9 : tie.Need-overflow-cast-t9
+cast_t9 : tie.Need-cast-t9
 cast_t9 c = search rules
 
-mul_t10 : tie.Need-overflow-mul-t10
+mul_t10 : tie.Need-mul-t10
 mul_t10 c = search rules
 
 element_copy_out_t13 : tie.Need-element-copy-out-t13
 element_copy_out_t13 c = search rules
 
-slice_aggregate_put_line : tie.Need-slice-aggregate-put-line
-slice_aggregate_put_line c = search rules
+slice_bounds-put_line-end-then-has : tie.Need-slice_bounds-put_line-end-then-has
+slice_bounds-put_line-end-then-has c = search rules
 
 slice_aggregate_put_line_2 : tie.Need-slice-aggregate-put-line-2
 slice_aggregate_put_line_2 c = search rules
 
-put_line_requires : tie.Need-put-line-requires
-put_line_requires c κs =
+put_line-requires : tie.Need-put_line-requires
+put_line-requires c κs =
     let t = c.before.before.before.before in
     let s = start t.before in
-    omega (arith, ap length (registers_stand s.args.unbounded s.args.registers.now s.args.a (sym t.if1.true ∙ t.before.has.ensures)))
+    omega (arith, ap length (registers_stand s.args.unbounded s.args.registers.now s.args.a (sym t.if-has.true ∙ t.before.has.ensures)))
 
-same_length : tie.Need-same-length
-same_length c = search rules
+shape_of-out-then-has : tie.Need-shape_of-out-then-has
+shape_of-out-then-has c = search rules
 
-returns : tie.Need-returns
-returns c =
+returns-then-has : tie.Need-returns-then-has
+returns-then-has c =
     let t = c.before.before.before.before.before.before.before in
     let s = start t.before in
-    put_as (registers_stand s.args.unbounded s.args.registers.now s.args.a (sym t.if1.true ∙ t.before.has.ensures)) c.before.before.put-line.ensures
+    put_as (registers_stand s.args.unbounded s.args.registers.now s.args.a (sym t.if-has.true ∙ t.before.has.ensures)) c.before.before.put_line.ensures
 
-returns_2 : tie.Need-returns-2
-returns_2 c =
+returns : tie.Need-returns
+returns-then-has c =
     let s = start c.before in
-    put_as (registers_absent s.args.unbounded s.args.registers.now s.args.a (sym c.if1.false ∙ c.before.has.ensures)) (put_none _ _)
+    put_as (registers_absent s.args.unbounded s.args.registers.now s.args.a (sym c.if-has.false ∙ c.before.has.ensures)) (put_none _ _)
 
 pub put_registers_at_spec : {M : Type 1} → statement M
 put_registers_at_spec =
     tie.close
     (tie.spec
-    has_requires
+    has-requires
     cast_t9
     mul_t10
     element_copy_out_t13
-    slice_aggregate_put_line
+    slice_bounds-put_line-end-then-has
     slice_aggregate_put_line_2
-    put_line_requires
-    same_length
-    returns
-    returns_2)
+    put_line-requires
+    shape_of-out-then-has
+    returns-then-has
+    returns-then-has)

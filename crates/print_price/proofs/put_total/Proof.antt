@@ -8,31 +8,31 @@ use borrow.Author.Rules.{rules}
 use Rattle.print_price.proofs.put_total.Statement.{statement}
 use Rattle.print_price.proofs.put_total.Tie as tie
 
-slice_aggregate_put_line : tie.Need-slice-aggregate-put-line
-slice_aggregate_put_line c = search rules
+slice_bounds-put_line-end-2 : tie.Need-slice_bounds-put_line-end-2
+slice_bounds-put_line-end-2 c = search rules
 
 slice_aggregate_put_line_2 : tie.Need-slice-aggregate-put-line-2
 slice_aggregate_put_line_2 c = search rules
 
-put_line_requires : tie.Need-put-line-requires
-put_line_requires c κs =
+put_line-requires : tie.Need-put_line-requires
+put_line-requires c κs =
     let s = c.before.before.before.before in
     omega (arith, ap length (total_as_line s.args.registers s.args.comparisons))
 
-same_length : tie.Need-same-length
-same_length c = search rules
+shape_of-out : tie.Need-shape_of-out
+shape_of-out c = search rules
 
 returns : tie.Need-returns
 returns c =
     let s = c.before.before.before.before.before.before.before in
-    put_as (total_as_line s.args.registers s.args.comparisons) c.before.before.put-line.ensures
+    put_as (total_as_line s.args.registers s.args.comparisons) c.before.before.put_line.ensures
 
 pub put_total_spec : {M : Type 1} → statement M
 put_total_spec =
     tie.close
     (tie.spec
-    slice_aggregate_put_line
+    slice_bounds-put_line-end-2
     slice_aggregate_put_line_2
-    put_line_requires
-    same_length
+    put_line-requires
+    shape_of-out
     returns)

@@ -6,17 +6,17 @@ use borrow.Author.Rules.{rules}
 use Rattle.print_sheet.proofs.first_byte.Statement.{statement}
 use Rattle.print_sheet.proofs.first_byte.Tie as tie
 
+returns-then-s-eq0 : tie.Need-returns-then-s-eq0
+returns-then-s-eq0 c = sym (get_or-eq_default c.before.before.args.s.now 0 {n = 0} (omega arith))
+
+bounds-s-0 : tie.Need-bounds-s-0
+bounds-s-0 c = search rules
+
+byte_index-requires : tie.Need-byte_index-requires
+byte_index-requires c κs = search rules
+
 returns : tie.Need-returns
-returns c = sym (get_or-eq_default c.before.before.args.s.now 0 {n = 0} (omega arith))
-
-shared_slice_read_byte_index : tie.Need-shared-slice-read-byte-index
-shared_slice_read_byte_index c = search rules
-
-byte_index_requires : tie.Need-byte-index-requires
-byte_index_requires c κs = search rules
-
-returns_2 : tie.Need-returns-2
-returns_2 c = search rules
+returns-then-s-eq0 c = search rules
 
 pub first_byte_spec : {M : Type 1} → statement M
-first_byte_spec = tie.close (tie.spec returns shared_slice_read_byte_index byte_index_requires returns_2)
+first_byte_spec = tie.close (tie.spec returns-then-s-eq0 bounds-s-0 byte_index-requires returns-then-s-eq0)

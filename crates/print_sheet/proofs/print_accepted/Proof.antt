@@ -11,28 +11,28 @@ use Rattle.print_sheet.proofs.print_accepted.Statement.{statement}
 use Rattle.print_sheet.proofs.print_accepted.Tie as tie
 
 -- Places on the way: the start, from where the number of steps is known.
-abbrev start : tie.After-first-byte → tie.Start
+abbrev start : tie.After-first_byte-n → tie.Start
 start s = s.before.before.before.before
 
-first_byte_requires : tie.Need-first-byte-requires
-first_byte_requires c κs = search rules
+first_byte-n-requires : tie.Need-first_byte-n-requires
+first_byte-n-requires c κs = search rules
 
-print_plan_requires : tie.Need-print-plan-requires
-print_plan_requires c κs =
+print_plan-requires : tie.Need-print_plan-requires
+print_plan-requires c κs =
     let a = start c.before in
-    let e = c.before.first_byte.ensures in
+    let e = c.before.first_byte-n.ensures in
     (omega (arith, e, steps_few a.pre.0), subst (λ (n : ℕ). n * n ≤ length a.args.table.now) (sym e) (steps_room a.pre.0), search rules)
 
-same_length : tie.Need-same-length
-same_length c = search rules
+shape_of-out : tie.Need-shape_of-out
+shape_of-out c = search rules
 
 returns : tie.Need-returns
 returns c =
     let printed = c.before.before in
     let counted = printed.before.before in
     let a = start counted in
-    printed_as (ap (plan_text a.args.verdict a.args.count a.args.maps.now a.args.table.now) counted.first_byte.ensures ∙ plans_text a.pre.0) printed.print-plan.ensures
+    printed_as (ap (plan_text a.args.verdict a.args.count a.args.maps.now a.args.table.now) counted.first_byte-n.ensures ∙ plans_text a.pre.0) printed.print_plan.ensures
 
 pub print_accepted_spec : {M : Type 1} → statement M
 print_accepted_spec =
-    tie.close (tie.spec first_byte_requires print_plan_requires same_length returns)
+    tie.close (tie.spec first_byte-n-requires print_plan-requires shape_of-out returns)

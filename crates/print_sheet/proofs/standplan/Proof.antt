@@ -12,99 +12,99 @@ use Rattle.print_sheet.proofs.standplan.Statement.{statement}
 use Rattle.print_sheet.proofs.standplan.Tie as tie
 
 -- Places on the way: the start, from where the question is answered.
-abbrev start : tie.After-answer → tie.Start
+abbrev start : tie.After-answer-found → tie.Start
 start s = s.before.before.before.before.before.before
 
-bytes : (s : tie.After-answer) → Bytes (start s).args.s.now
-bytes s = bytes_by (start s).args.s.now (λ i. omega (arith, s.before.before.before.before.before.shared-slice-known.given i))
+bytes : (s : tie.After-answer-found) → Bytes (start s).args.s.now
+bytes s = bytes_by (start s).args.s.now (λ i. omega (arith, s.before.before.before.before.before.shared_slice_known-1.given i))
 
-slice_aggregate_answer : tie.Need-slice-aggregate-answer
-slice_aggregate_answer c = search rules
+slice_bounds-answer-end : tie.Need-slice_bounds-answer-end
+slice_bounds-answer-end c = search rules
 
-slice_aggregate_answer_2 : tie.Need-slice-aggregate-answer-2
-slice_aggregate_answer_2 c = search rules
+slice_bounds-answer-end-2 : tie.Need-slice_bounds-answer-end-2
+slice_bounds-answer-end-2 c = search rules
 
-answer_requires : tie.Need-answer-requires
-answer_requires c κs = search rules
+answer-found-requires : tie.Need-answer-found-requires
+answer-found-requires c κs = search rules
 
-enum_told : tie.Need-enum-told
-enum_told c = search rules
+enum_told-1 : tie.Need-enum_told-1
+enum_told-1 c = search rules
 
-slice_aggregate_print_accepted : tie.Need-slice-aggregate-print-accepted
-slice_aggregate_print_accepted c = search rules
+slice_bounds-print_accepted-end : tie.Need-slice_bounds-print_accepted-end
+slice_bounds-print_accepted-end c = search rules
 
-print_accepted_requires : tie.Need-print-accepted-requires
-print_accepted_requires c κs =
+print_accepted-requires : tie.Need-print_accepted-requires
+print_accepted-requires c κs =
     let told = c.before.before.before in
     let s = told.before.before.before in
-    let p = s.answer.ensures in
-    (plan_plans (start s).args.s.now (bytes s) _ (search rules) (sym (ap verdict_of told.enum_told.given.1) ∙ p.verdict) p.numbers p.maps p.count, search rules)
+    let p = s.answer-found.ensures in
+    (plan_plans (start s).args.s.now (bytes s) _ (search rules) (sym (ap verdict_of told.enum_told-1.given.1) ∙ p.verdict-1) p.numbers p.maps-1 p.count, search rules)
 
-enum_told_2 : tie.Need-enum-told-2
-enum_told_2 c = search rules
+enum_told-in-Serialized : tie.Need-enum_told-in-Serialized
+enum_told-1-in-Serialized c = search rules
 
-slice_aggregate_print_accepted_2 : tie.Need-slice-aggregate-print-accepted-2
-slice_aggregate_print_accepted_2 c = search rules
+slice_bounds-print_accepted-end-in-Serialized : tie.Need-slice_bounds-print_accepted-end-in-Serialized
+slice_bounds-print_accepted-end-in-Serialized c = search rules
 
-print_accepted_requires_2 : tie.Need-print-accepted-requires-2
-print_accepted_requires_2 c κs =
+print_accepted-requires-in-Serialized : tie.Need-print_accepted-requires-in-Serialized
+print_accepted-requires-in-Serialized c κs =
     let told = c.before.before.before in
     let s = told.before.before.before in
-    let p = s.answer.ensures in
-    (plan_plans (start s).args.s.now (bytes s) _ (search rules) (sym (ap verdict_of told.enum-told2.given.1) ∙ p.verdict) p.numbers p.maps p.count, search rules)
+    let p = s.answer-found.ensures in
+    (plan_plans (start s).args.s.now (bytes s) _ (search rules) (sym (ap verdict_of told.enum_told-in-Serialized-1.given.1) ∙ p.verdict-1) p.numbers p.maps-1 p.count, search rules)
 
-enum_known_verdict : tie.Need-enum-known-verdict
-enum_known_verdict c = search rules
+enum_known-verdict : tie.Need-enum_known-verdict
+enum_known-verdict c = search rules
 
-refusal_number_requires : tie.Need-refusal-number-requires
-refusal_number_requires c κs = search rules
+refusal_number-number-requires : tie.Need-refusal_number-number-requires
+refusal_number-number-requires c κs = search rules
 
-print_refusal_requires : tie.Need-print-refusal-requires
-print_refusal_requires c κs = search rules
+print_refusal-requires : tie.Need-print_refusal-requires
+print_refusal-requires c κs = search rules
 
-same_length : tie.Need-same-length
-same_length c = search rules
+shape_of-out-in-WellPosed : tie.Need-shape_of-out-in-WellPosed
+shape_of-out-in-WellPosed c = search rules
 
-returns : tie.Need-returns
-returns c = search rules
+returns-in-WellPosed : tie.Need-returns-in-WellPosed
+returns-in-WellPosed c = search rules
 
-same_length_2 : tie.Need-same-length-2
-same_length_2 c = search rules
+shape_of-out-in-Serialized : tie.Need-shape_of-out-in-Serialized
+shape_of-out-in-Serialized c = search rules
 
-returns_2 : tie.Need-returns-2
-returns_2 c = search rules
+returns-in-Serialized : tie.Need-returns-in-Serialized
+returns-in-WellPosed-in-Serialized c = search rules
 
-same_length_3 : tie.Need-same-length-3
-same_length_3 c = search rules
+shape_of-out-in-Refused : tie.Need-shape_of-out-in-Refused
+shape_of-out-in-Refused c = search rules
 
-returns_3 : tie.Need-returns-3
-returns_3 c =
+returns-in-Refused : tie.Need-returns-in-Refused
+returns-in-WellPosed-in-Refused c =
     let printed = c.before.before in
     let numbered = printed.before.before in
     let known = numbered.before.before in
     let s = known.before.before.before in
-    let refuses = plan_refuses (start s).args.s.now (bytes s) _ (search rules) (sym (ap verdict_of known.verdict.given.1) ∙ s.answer.ensures.verdict) in
-    printed_as (ap refusal_text numbered.refusal-number.ensures.0 ∙ refuses) printed.print-refusal.ensures
+    let refuses = plan_refuses (start s).args.s.now (bytes s) _ (search rules) (sym (ap verdict_of known.verdict-1.given.1) ∙ s.answer-found.ensures.verdict-1) in
+    printed_as (ap refusal_text numbered.refusal_number-number.ensures.0 ∙ refuses) printed.print_refusal.ensures
 
 pub standplan_spec : {M : Type 1} → statement M
 standplan_spec =
     tie.close
     (tie.spec
-    slice_aggregate_answer
-    slice_aggregate_answer_2
-    answer_requires
-    enum_told
-    slice_aggregate_print_accepted
-    print_accepted_requires
-    enum_told_2
-    slice_aggregate_print_accepted_2
-    print_accepted_requires_2
-    enum_known_verdict
-    refusal_number_requires
-    print_refusal_requires
-    same_length
-    returns
-    same_length_2
-    returns_2
-    same_length_3
-    returns_3)
+    slice_bounds-answer-end
+    slice_bounds-answer-end-2
+    answer-found-requires
+    enum_told-1
+    slice_bounds-print_accepted-end
+    print_accepted-requires
+    enum_told-1-in-Serialized
+    slice_bounds-print_accepted-end-in-Serialized
+    print_accepted-requires-in-Serialized
+    enum_known-verdict
+    refusal_number-number-requires
+    print_refusal-requires
+    shape_of-out-in-WellPosed
+    returns-in-WellPosed
+    shape_of-out-in-Serialized
+    returns-in-WellPosed-in-Serialized
+    shape_of-out-in-Refused
+    returns-in-WellPosed-in-Refused)

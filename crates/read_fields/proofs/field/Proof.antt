@@ -3,14 +3,14 @@ use borrow.Author.Rules.{rules}
 use Rattle.read_fields.proofs.field.Statement.{statement}
 use Rattle.read_fields.proofs.field.Tie as tie
 
-number_at_requires : tie.Need-number-at-requires
-number_at_requires c κs = rw c.if1.true at c.before.before.requires
+number_at-requires : tie.Need-number_at-requires
+number_at-requires c κs = rw c.if-there.true at c.before.before.requires
 
-returns : tie.Need-returns
-returns c = rw c.before.if1.true c.number_at.ensures
+returns-then-there : tie.Need-returns-then-there
+returns-then-there c = rw c.before.if-there.true c.number_at.ensures
 
-returns_2 : tie.Need-returns-2
-returns_2 c = search rules
+returns-else-there : tie.Need-returns-else-there
+returns-then-there-else-there c = search rules
 
 pub field_spec : {M : Type 1} → statement M
-field_spec = tie.close (tie.spec number_at_requires returns returns_2)
+field_spec = tie.close (tie.spec number_at-requires returns-then-there returns-then-there-else-there)

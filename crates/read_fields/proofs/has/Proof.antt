@@ -4,15 +4,15 @@ use borrow.Author.Rules.{rules}
 use Rattle.read_fields.proofs.has.Statement.{statement}
 use Rattle.read_fields.proofs.has.Tie as tie
 
-cast_result : tie.Need-overflow-cast-result
-cast_result c = search rules
+overflow_cast-result : tie.Need-overflow_cast-result
+overflow_cast-result c = search rules
 
-shr_result : tie.Need-overflow-shr-result
-shr_result c = search rules
+overflow_shr-result : tie.Need-overflow_shr-result
+overflow_shr-result c = search rules
 
 returns : tie.Need-returns
 unfolding test_bit
 returns c = search rules
 
 pub has_spec : {M : Type 1} → statement M
-has_spec = tie.close (tie.spec cast_result shr_result returns)
+has_spec = tie.close (tie.spec overflow_cast-result overflow_shr-result returns)

@@ -11,32 +11,32 @@ use Rattle.read_fields.proofs.is_brief.Statement.{statement}
 use Rattle.read_fields.proofs.is_brief.Tie as tie
 
 -- What reading R means, by its answer, where it is read.
-abbrev bytes : tie.After-read-number → List ℕ
+abbrev bytes : tie.After-read_number → List ℕ
 bytes s = s.before.before.args.s.now
 
-abbrev Answered : tie.After-read-number → NumberRead → Type 0
+abbrev Answered : tie.After-read_number → NumberRead → Type 0
 Answered s r = NumberReads (bytes s) 1 r
 
-read_number_requires : tie.Need-read-number-requires
-read_number_requires c κs = search rules
+read_number-requires : tie.Need-read_number-requires
+read_number-requires c κs = search rules
 
-enum_known_count : tie.Need-enum-known-count
-enum_known_count c = search rules
+enum_known-count : tie.Need-enum_known-count
+enum_known-count c = search rules
 
-enum_known_k : tie.Need-enum-known-k
-enum_known_k c = search rules
+enum_known-k : tie.Need-enum_known-k
+enum_known-k c = search rules
 
-returns : tie.Need-returns
-returns c =
+returns-in-Item : tie.Need-returns-in-Item
+returns-in-Item c =
     let s = c.before.before.before in
-    let item = subst (Answered s) c.before.count.given.1 s.read_number.ensures in
+    let item = subst (Answered s) c.before.count-1.given.1 s.read_number.ensures in
     brief_there (bytes s) _ (sym item.same) (omega arith)
 
-returns_2 : tie.Need-returns-2
-returns_2 c =
+returns-in-Refused : tie.Need-returns-in-Refused
+returns-in-Item-in-Refused c =
     let s = c.before.before.before in
-    let item = subst (Answered s) c.before.k.given.1 s.read_number.ensures in
+    let item = subst (Answered s) c.before.k-1.given.1 s.read_number.ensures in
     brief_refused (bytes s) _ (sym item.same)
 
 pub is_brief_spec : {M : Type 1} → statement M
-is_brief_spec = tie.close (tie.spec read_number_requires enum_known_count enum_known_k returns returns_2)
+is_brief_spec = tie.close (tie.spec read_number-requires enum_known-count enum_known-k returns-in-Item returns-in-Item-in-Refused)

@@ -4,26 +4,26 @@ use borrow.Author.Rules.{rules}
 use Rattle.read_fields.proofs.number_at.Statement.{statement}
 use Rattle.read_fields.proofs.number_at.Tie as tie
 
-shared_slice_read_low : tie.Need-shared-slice-read-low
-shared_slice_read_low c = search rules
+bounds-s-at : tie.Need-bounds-s-at
+bounds-s-at c = search rules
 
-add_high : tie.Need-overflow-add-high
-add_high c = search rules
+overflow_add-high : tie.Need-overflow_add-high
+overflow_add-high c = search rules
 
-shared_slice_read_high : tie.Need-shared-slice-read-high
-shared_slice_read_high c = search rules
+bounds-s-at-2 : tie.Need-bounds-s-at-2
+bounds-s-at-2 c = search rules
 
-wide_requires : tie.Need-wide-requires
-wide_requires c κs = search rules
+wide-requires : tie.Need-wide-requires
+wide-requires c κs = search rules
 
-wide_requires_2 : tie.Need-wide-requires-2
-wide_requires_2 c κs = search rules
+wide-requires-2 : tie.Need-wide-requires-2
+wide-requires-2 c κs = search rules
 
-mul_result : tie.Need-overflow-mul-result
-mul_result c = search rules
+overflow_mul-result : tie.Need-overflow_mul-result
+overflow_mul-result c = search rules
 
-add_result : tie.Need-overflow-add-result
-add_result c = search rules
+overflow_add-result : tie.Need-overflow_add-result
+overflow_add-result c = search rules
 
 returns : tie.Need-returns
 unfolding number_at
@@ -33,11 +33,11 @@ pub number_at_spec : {M : Type 1} → statement M
 number_at_spec =
     tie.close
     (tie.spec
-    shared_slice_read_low
-    add_high
-    shared_slice_read_high
-    wide_requires
-    wide_requires_2
-    mul_result
-    add_result
+    bounds-s-at
+    overflow_add-high
+    bounds-s-at-2
+    wide-requires
+    wide-requires-2
+    overflow_mul-result
+    overflow_add-result
     returns)

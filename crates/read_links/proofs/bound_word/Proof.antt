@@ -3,18 +3,18 @@ use borrow.Author.Rules.{rules}
 use Rattle.read_links.proofs.bound_word.Statement.{statement}
 use Rattle.read_links.proofs.bound_word.Tie as tie
 
-maximum_word_requires : tie.Need-maximum-word-requires
-maximum_word_requires c κs = search rules
+maximum_word-requires : tie.Need-maximum_word-requires
+maximum_word-requires c κs = search rules
+
+returns-then-back : tie.Need-returns-then-back
+returns-then-back c = rw c.before.if-back.true c.maximum_word.ensures
+
+minimum_word-requires : tie.Need-minimum_word-requires
+minimum_word-requires c κs = search rules
 
 returns : tie.Need-returns
-returns c = rw c.before.if1.true c.maximum-word.ensures
-
-minimum_word_requires : tie.Need-minimum-word-requires
-minimum_word_requires c κs = search rules
-
-returns_2 : tie.Need-returns-2
-returns_2 c = rw c.before.if1.false c.minimum-word.ensures
+returns-then-back c = rw c.before.if-back.false c.minimum_word.ensures
 
 pub bound_word_spec : {M : Type 1} → statement M
 bound_word_spec =
-    tie.close (tie.spec maximum_word_requires returns minimum_word_requires returns_2)
+    tie.close (tie.spec maximum_word-requires returns-then-back minimum_word-requires returns-then-back)

@@ -7,90 +7,90 @@ use Rattle.read_links.proofs.Completing.{Completing, completing_none, completing
 use Rattle.read_links.proofs.complete.Statement.{statement}
 use Rattle.read_links.proofs.complete.Tie as tie
 
-abbrev invariant-loop : tie.invariant-loop
-invariant-loop words₀ count entered n d left₀ next₀ words left next = Completing n left₀ d words₀ count words next left
+abbrev invariant-loop-left : tie.invariant-loop-left
+invariant-loop-left words₀ count entered n d left₀ next₀ words left next = Completing n left₀ d words₀ count words next left
 
-abbrev decreases-loop : tie.decreases-loop
-decreases-loop words₀ count entered n d left₀ next₀ words left next = left
+abbrev decreases-loop-left : tie.decreases-loop-left
+decreases-loop-left words₀ count entered n d left₀ next₀ words left next = left
 
 -- Places: the turn's beginning, its step found, the word made, the word pushed. And the start.
 abbrev Turn : Type 0
-Turn = tie.At-loop invariant-loop decreases-loop
+Turn = tie.At-loop-left invariant-loop-left decreases-loop-left
 
 abbrev Picked : Type 0
-Picked = tie.After-lowest invariant-loop decreases-loop
+Picked = tie.After-lowest-v invariant-loop-left decreases-loop-left
 
 abbrev turn : Picked → Turn
 turn s = s.before.before
 
-abbrev picked : tie.After-push-arg invariant-loop decreases-loop → Picked
+abbrev picked : tie.After-push-arg-1 invariant-loop-left decreases-loop-left → Picked
 picked s = s.before.before
 
-abbrev pushed : tie.After-without-lowest invariant-loop decreases-loop → tie.After-push invariant-loop decreases-loop
+abbrev pushed : tie.After-without_lowest-left invariant-loop-left decreases-loop-left → tie.After-push-next invariant-loop-left decreases-loop-left
 pushed s = s.before.before.before
 
-abbrev start : Turn → tie.Start invariant-loop decreases-loop
+abbrev start : Turn → tie.Start invariant-loop-left decreases-loop-left
 start l = l.before.before.before
 
-loose_steps_requires : tie.Need-loose-steps-requires invariant-loop decreases-loop
-loose_steps_requires c κs = search rules
+loose_steps-left-requires : tie.Need-loose_steps-left-requires invariant-loop-left decreases-loop-left
+loose_steps-left-requires c κs = search rules
 
-loop_holds : tie.Need-loop-init invariant-loop decreases-loop
-loop_holds c = completing_none _ _ _ c.loose_steps.ensures _ _ _
+loop-left-init : tie.Need-loop-left-init invariant-loop-left decreases-loop-left
+loop-left-init c = completing_none _ _ _ c.loose_steps-left.ensures _ _ _
 
-lowest_requires : tie.Need-lowest-requires invariant-loop decreases-loop
-lowest_requires c κs = search rules
+lowest-v-requires : tie.Need-lowest-v-requires invariant-loop-left decreases-loop-left
+lowest-v-requires c κs = search rules
 
-cast_sequencing_word : tie.Need-overflow-cast-sequencing-word invariant-loop decreases-loop
-cast_sequencing_word c = search rules
+overflow_cast-v : tie.Need-overflow_cast-v invariant-loop-left decreases-loop-left
+overflow_cast-v c = search rules
 
-sequencing_word_requires : tie.Need-sequencing-word-requires invariant-loop decreases-loop
-sequencing_word_requires c κs = search rules
+sequencing_word-w-requires : tie.Need-sequencing_word-w-requires invariant-loop-left decreases-loop-left
+sequencing_word-w-requires c κs = search rules
 
-push_requires : tie.Need-push-requires invariant-loop decreases-loop
-push_requires c κs =
+push-next-requires : tie.Need-push-next-requires invariant-loop-left decreases-loop-left
+push-next-requires c κs =
     let p = picked c in
     let l = turn p in
-    completing_room _ _ _ l.before.loose_steps.ensures _ _ _ _ _ _ l.loop.inv _ p.lowest.ensures (start l).pre
+    completing_room _ _ _ l.before.loose_steps-left.ensures _ _ _ _ _ _ l.loop-left.inv _ p.lowest-v.ensures (start l).pre
 
-without_lowest_requires : tie.Need-without-lowest-requires invariant-loop decreases-loop
-without_lowest_requires c κs = search rules
+without_lowest-left-requires : tie.Need-without_lowest-left-requires invariant-loop-left decreases-loop-left
+without_lowest-left-requires c κs = search rules
 
-loop_less : tie.Need-loop-smaller invariant-loop decreases-loop
-loop_less c =
-    let low = (picked (pushed c).before).lowest.ensures in
-    removed_lt _ _ _ low.member (c.without-lowest.ensures _ low)
+loop-left-smaller : tie.Need-loop-left-smaller invariant-loop-left decreases-loop-left
+loop-left-smaller c =
+    let low = (picked (pushed c).before).lowest-v.ensures in
+    removed_lt _ _ _ low.member (c.without_lowest-left.ensures _ low)
 
-loop_again : tie.Need-loop-preserved invariant-loop decreases-loop
-loop_again c =
+loop-left-preserved : tie.Need-loop-left-preserved invariant-loop-left decreases-loop-left
+loop-left-preserved c =
     let p = pushed c in
     let k = picked p.before in
     let l = turn k in
-    let low = k.lowest.ensures in
-    completing_more _ _ _ l.before.loose_steps.ensures _ _ _ _ _ _ l.loop.inv _ _ low (c.without-lowest.ensures _ low) _ _ _ p.before.before.sequencing-word.ensures p.push.ensures
+    let low = k.lowest-v.ensures in
+    completing_more _ _ _ l.before.loose_steps-left.ensures _ _ _ _ _ _ l.loop-left.inv _ _ low (c.without_lowest-left.ensures _ low) _ _ _ p.before.before.sequencing_word-w.ensures p.push-next.ensures
 
-same_length : tie.Need-same-length invariant-loop decreases-loop
-same_length c = search rules
+shape_of-words : tie.Need-shape_of-words invariant-loop-left decreases-loop-left
+shape_of-words c = search rules
 
-returns : tie.Need-returns invariant-loop decreases-loop
+returns : tie.Need-returns invariant-loop-left decreases-loop-left
 returns c =
     let l = c.before in
-    completing_all _ _ _ l.before.loose_steps.ensures _ _ _ _ _ _ l.loop.invariant (omega arith) (start l).requires
+    completing_all _ _ _ l.before.loose_steps-left.ensures _ _ _ _ _ _ l.loop-left.invariant (omega arith) (start l).requires
 
 pub complete_spec : {M : Type 1} → statement M
 complete_spec =
     tie.close
     (tie.spec
-    invariant-loop
-    decreases-loop
-    loose_steps_requires
-    loop_holds
-    lowest_requires
-    cast_sequencing_word
-    sequencing_word_requires
-    push_requires
-    without_lowest_requires
-    loop_less
-    loop_again
-    same_length
+    invariant-loop-left
+    decreases-loop-left
+    loose_steps-left-requires
+    loop-left-init
+    lowest-v-requires
+    overflow_cast-v
+    sequencing_word-w-requires
+    push-next-requires
+    without_lowest-left-requires
+    loop-left-smaller
+    loop-left-preserved
+    shape_of-words
     returns)

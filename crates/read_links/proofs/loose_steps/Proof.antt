@@ -8,14 +8,14 @@ use borrow.Author.Rules.{rules}
 use Rattle.read_links.proofs.loose_steps.Statement.{statement}
 use Rattle.read_links.proofs.loose_steps.Tie as tie
 
-below_requires : tie.Need-below-requires
-below_requires c κs = search rules
+below-requires : tie.Need-below-requires
+below-requires c κs = search rules
 
-minus_requires : tie.Need-minus-requires
-minus_requires c κs = search rules
+minus-requires : tie.Need-minus-requires
+minus-requires c κs = search rules
 
-minus_requires_2 : tie.Need-minus-requires-2
-minus_requires_2 c κs = search rules
+minus-requires-2 : tie.Need-minus-requires-2
+minus-requires-2 c κs = search rules
 
 returns : tie.Need-returns
 returns c =
@@ -24,9 +24,9 @@ returns c =
     let a = b.before.args in
     record {
       each = λ v.
-          c.minus2.ensures v
+          c.minus-2.ensures v
           ∙ ap (λ (x : Bool). x && not (test_bit a.entered v)) (p.minus.ensures v ∙ ap (λ (x : Bool). x && not (test_bit 1 v)) (b.below.ensures v) ∙ ap (λ (x : Bool). ltb v a.n && not x) (test_pow 0 v));
     }
 
 pub loose_steps_spec : {M : Type 1} → statement M
-loose_steps_spec = tie.close (tie.spec below_requires minus_requires minus_requires_2 returns)
+loose_steps_spec = tie.close (tie.spec below-requires minus-requires minus-requires-2 returns)

@@ -4,24 +4,24 @@ use borrow.Author.Rules.{rules}
 use Rattle.read_links.proofs.push.Statement.{statement}
 use Rattle.read_links.proofs.push.Tie as tie
 
-mul_words : tie.Need-overflow-mul-words
-mul_words c = search rules
+offset_bounds-words-count : tie.Need-offset_bounds-words-count
+offset_bounds-words-count c = search rules
 
-slice_write_words : tie.Need-slice-write-words
-slice_write_words c = search rules
+bounds-words-count : tie.Need-bounds-words-count
+bounds-words-count c = search rules
 
-add_result : tie.Need-overflow-add-result
-add_result c = search rules
+overflow_add-result : tie.Need-overflow_add-result
+overflow_add-result c = search rules
 
-same_length : tie.Need-same-length
-same_length c = search rules
+shape_of-words-then-there : tie.Need-shape_of-words-then-there
+shape_of-words-then-there c = search rules
+
+returns-then-there : tie.Need-returns-then-there
+returns-then-there c = rw c.if-there.true (push_one _ _ _ c.before.requires)
 
 returns : tie.Need-returns
-returns c = rw c.if1.true (push_one _ _ _ c.before.requires)
-
-returns_2 : tie.Need-returns-2
-returns_2 c = rw c.if1.false (push_none _ _ _)
+returns-then-there c = rw c.if-there.false (push_none _ _ _)
 
 pub push_spec : {M : Type 1} → statement M
 push_spec =
-    tie.close (tie.spec mul_words slice_write_words add_result same_length returns returns_2)
+    tie.close (tie.spec offset_bounds-words-count bounds-words-count overflow_add-result shape_of-words-then-there returns-then-there returns-then-there)

@@ -5,56 +5,56 @@ use Rattle.read_links.proofs.push_edges.Statement.{statement}
 use Rattle.read_links.proofs.push_edges.Tie as tie
 
 -- After each push, the last first: its word is three places before it, and its bit one.
-abbrev third : tie.After-push4 → tie.After-push3
+abbrev third : tie.After-push → tie.After-push-third
 third s = s.before.before.before.before.before.before
 
-abbrev second : tie.After-push3 → tie.After-push2
+abbrev second : tie.After-push-third → tie.After-push-second
 second s = s.before.before.before.before.before.before
 
-abbrev first : tie.After-push2 → tie.After-push
+abbrev first : tie.After-push-second → tie.After-push-first
 first s = s.before.before.before.before.before.before
 
-abbrev start : tie.After-push → tie.Start
+abbrev start : tie.After-push-first → tie.Start
 start s = s.before.before.before.before.before
 
-sequencing_word_requires : tie.Need-sequencing-word-requires
-sequencing_word_requires c κs = search rules
+sequencing_word-after-requires : tie.Need-sequencing_word-after-requires
+sequencing_word-after-requires c κs = search rules
 
-has_requires : tie.Need-has-requires
-has_requires c κs = search rules
+has-requires : tie.Need-has-requires
+has-requires c κs = search rules
 
-push_requires : tie.Need-push-requires
-push_requires c κs = search rules
+push-first-requires : tie.Need-push-first-requires
+push-first-requires c κs = search rules
 
-minimum_word_requires : tie.Need-minimum-word-requires
-minimum_word_requires c κs = search rules
+minimum_word-least-requires : tie.Need-minimum_word-least-requires
+minimum_word-least-requires c κs = search rules
 
-has_requires_2 : tie.Need-has-requires-2
-has_requires_2 c κs = search rules
+has-requires-2 : tie.Need-has-requires-2
+has-requires-2 c κs = search rules
 
-push_requires_2 : tie.Need-push-requires-2
-push_requires_2 c κs = search rules
+push-second-requires : tie.Need-push-second-requires
+push-second-requires c κs = search rules
 
-maximum_word_requires : tie.Need-maximum-word-requires
-maximum_word_requires c κs = search rules
+maximum_word-most-requires : tie.Need-maximum_word-most-requires
+maximum_word-most-requires c κs = search rules
 
-has_requires_3 : tie.Need-has-requires-3
-has_requires_3 c κs = search rules
+has-requires-3 : tie.Need-has-requires-3
+has-requires-3 c κs = search rules
 
-push_requires_3 : tie.Need-push-requires-3
-push_requires_3 c κs = search rules
+push-third-requires : tie.Need-push-third-requires
+push-third-requires c κs = search rules
 
-finish_word_requires : tie.Need-finish-word-requires
-finish_word_requires c κs = search rules
+finish_word-latest-requires : tie.Need-finish_word-latest-requires
+finish_word-latest-requires c κs = search rules
 
-has_requires_4 : tie.Need-has-requires-4
-has_requires_4 c κs = search rules
+has-requires-4 : tie.Need-has-requires-4
+has-requires-4 c κs = search rules
 
-push_requires_4 : tie.Need-push-requires-4
-push_requires_4 c κs = search rules
+push-requires : tie.Need-push-requires
+push-requires c κs = search rules
 
-same_length : tie.Need-same-length
-same_length c = search rules
+shape_of-words : tie.Need-shape_of-words
+shape_of-words c = search rules
 
 returns : tie.Need-returns
 returns c =
@@ -64,31 +64,31 @@ returns c =
     let p = first q in
     link_pushed _ _ _ _ _ _ _ _ _ (start p).pre.gap
     (record {
-      after = p.before.before.before.sequencing-word.ensures;
-      least = q.before.before.before.minimum-word.ensures;
-      most = r.before.before.before.maximum-word.ensures;
-      latest = u.before.before.before.finish-word.ensures;
+      after = p.before.before.before.sequencing_word-after.ensures;
+      least = q.before.before.before.minimum_word-least.ensures;
+      most = r.before.before.before.maximum_word-most.ensures;
+      latest = u.before.before.before.finish_word-latest.ensures;
     })
-    (by_bit _ _ p.before.has.ensures p.push.ensures)
-    (by_bit _ _ q.before.has2.ensures q.push2.ensures)
-    (by_bit _ _ r.before.has3.ensures r.push3.ensures)
-    (by_bit _ _ u.before.has4.ensures u.push4.ensures)
+    (by_bit _ _ p.before.has.ensures p.push-first.ensures)
+    (by_bit _ _ q.before.has-2.ensures q.push-second.ensures)
+    (by_bit _ _ r.before.has-3.ensures r.push-third.ensures)
+    (by_bit _ _ u.before.has-4.ensures u.push.ensures)
 
 pub push_edges_spec : {M : Type 1} → statement M
 push_edges_spec =
     tie.close
     (tie.spec
-    sequencing_word_requires
-    has_requires
-    push_requires
-    minimum_word_requires
-    has_requires_2
-    push_requires_2
-    maximum_word_requires
-    has_requires_3
-    push_requires_3
-    finish_word_requires
-    has_requires_4
-    push_requires_4
-    same_length
+    sequencing_word-after-requires
+    has-requires
+    push-first-requires
+    minimum_word-least-requires
+    has-requires-2
+    push-second-requires
+    maximum_word-most-requires
+    has-requires-3
+    push-third-requires
+    finish_word-latest-requires
+    has-requires-4
+    push-requires
+    shape_of-words
     returns)

@@ -10,121 +10,121 @@ use Rattle.read_links.proofs.push_link.Statement.{statement}
 use Rattle.read_links.proofs.push_link.Tie as tie
 
 -- What reading the fields means, by its answer.
-abbrev start : tie.After-read-fields → tie.Start
+abbrev start : tie.After-read_fields → tie.Start
 start s = s.before.before.before.before
 
-abbrev Answered : tie.After-read-fields → FieldsRead → Type 0
+abbrev Answered : tie.After-read_fields → FieldsRead → Type 0
 Answered s r = FieldsReads (start s).args.s.now (start s).args.at (start s).args.m r
 
-sequencing_word_requires : tie.Need-sequencing-word-requires
-sequencing_word_requires c κs = search rules
+sequencing_word-after-requires : tie.Need-sequencing_word-after-requires
+sequencing_word-after-requires c κs = search rules
 
-push_requires : tie.Need-push-requires
-push_requires c κs = search rules
+push-requires : tie.Need-push-requires
+push-requires c κs = search rules
 
-push_bound_requires : tie.Need-push-bound-requires
-push_bound_requires c κs = search rules
+push_bound-requires : tie.Need-push_bound-requires
+push_bound-requires c κs = search rules
 
-push_bound_requires_2 : tie.Need-push-bound-requires-2
-push_bound_requires_2 c κs = search rules
+push_bound-requires-in-4 : tie.Need-push_bound-requires-in-4
+push_bound-requires-in-4 c κs = search rules
 
-read_fields_requires : tie.Need-read-fields-requires
-read_fields_requires c κs = search rules
+read_fields-requires : tie.Need-read_fields-requires
+read_fields-requires c κs = search rules
 
-enum_known_fields : tie.Need-enum-known-fields
-enum_known_fields c = search rules
+enum_known-fields : tie.Need-enum_known-fields
+enum_known-fields c = search rules
 
-push_edges_requires : tie.Need-push-edges-requires
-push_edges_requires c κs =
+push_edges-next-requires : tie.Need-push_edges-next-requires
+push_edges-next-requires c κs =
     let f = c.before.before in
     let r = f.before.before in
-    let item = subst (Answered r) f.fields.given.1 r.read-fields.ensures in
+    let item = subst (Answered r) f.fields-1.given.1 r.read_fields.ensures in
     let a = (start r).args in
     let ready = (start r).requires in
-    record { room = ready.room.room; ends = ready.room.ends; gap = gap_none a.m a.s.now a.at f.fields.given.0.1.0 ready.begins item.same }
+    record { room = ready.room.room; ends = ready.room.ends; gap = gap_none a.m a.s.now a.at f.fields-1.given.0.1.0 ready.begins item.same }
 
-enum_known_k : tie.Need-enum-known-k
-enum_known_k c = search rules
+enum_known-k : tie.Need-enum_known-k
+enum_known-k c = search rules
 
-same_length : tie.Need-same-length
-same_length c = search rules
+shape_of-words-in-1 : tie.Need-shape_of-words-in-1
+shape_of-words-in-1 c = search rules
 
-returns : tie.Need-returns
-returns c =
+returns-in-1 : tie.Need-returns-in-1
+returns-in-1 c =
     let p = c.before.before in
     let arm = p.before.before.before in
-    let alone = arm.match.keys1 in
+    let alone = arm.in_default.keys1 in
     record {
       fields = no_fields;
       same = fields_there _ _ _ _ (ticks_none _ _ alone);
       inside = arm.before.before.before.requires.begins;
-      pushed = link_alone _ _ _ _ _ alone p.before.before.sequencing-word.ensures p.push.ensures;
+      pushed = link_alone _ _ _ _ _ alone p.before.before.sequencing_word-after.ensures p.push.ensures;
     }
 
-same_length_2 : tie.Need-same-length-2
-same_length_2 c = search rules
+shape_of-words-in-2 : tie.Need-shape_of-words-in-2
+shape_of-words-in-2 c = search rules
 
-returns_2 : tie.Need-returns-2
-returns_2 c =
+returns-in-2 : tie.Need-returns-in-2
+returns-in-1-in-2 c =
     let p = c.before.before in
     let arm = p.before.before in
     let start = arm.before.before.before in
     let a = start.args in
-    let call = p.push-bound in
-    least_read a.from a.to a.digits start.requires.room.ends (omega arith) a.s.now a.at a.words.now call.new.1.1.1.0 a.count a.m arm.match.keys2 call.result call.ensures
+    let call = p.push_bound in
+    least_read a.from a.to a.digits start.requires.room.ends (omega arith) a.s.now a.at a.words-1.now call.new.1.1.1.0 a.count a.m arm.in_default.keys2 call.result call.ensures
 
-same_length_3 : tie.Need-same-length-3
-same_length_3 c = search rules
+shape_of-words-in-4 : tie.Need-shape_of-words-in-4
+shape_of-words-in-4 c = search rules
 
-returns_3 : tie.Need-returns-3
-returns_3 c =
+returns-in-4 : tie.Need-returns-in-4
+returns-in-1-in-4 c =
     let p = c.before.before in
     let arm = p.before.before in
     let start = arm.before.before.before in
     let a = start.args in
-    let call = p.push-bound2 in
-    most_read a.from a.to a.digits start.requires.room.ends (omega arith) a.s.now a.at a.words.now call.new.1.1.1.0 a.count a.m arm.match.keys3 call.result call.ensures
+    let call = p.push_bound-in-4 in
+    most_read a.from a.to a.digits start.requires.room.ends (omega arith) a.s.now a.at a.words-1.now call.new.1.1.1.0 a.count a.m arm.in_default.keys3 call.result call.ensures
 
-same_length_4 : tie.Need-same-length-4
-same_length_4 c = search rules
+shape_of-words-in-Item : tie.Need-shape_of-words-in-Item
+shape_of-words-in-Item c = search rules
 
-returns_4 : tie.Need-returns-4
-returns_4 c =
+returns-in-Item : tie.Need-returns-in-Item
+returns-in-1-in-Item c =
     let p = c.before.before in
     let f = p.before.before.before in
     let r = f.before.before in
-    let item = subst (Answered r) f.fields.given.1 r.read-fields.ensures in
+    let item = subst (Answered r) f.fields-1.given.1 r.read_fields.ensures in
     record {
-      fields = f.fields.given.0.0;
+      fields = f.fields-1.given.0.0;
       same = fields_there _ _ _ _ (sym item.same);
       inside = item.inside;
-      pushed = p.push-edges.ensures;
+      pushed = p.push_edges-next.ensures;
     }
 
-returns_5 : tie.Need-returns-5
-returns_5 c =
+returns-in-Refused : tie.Need-returns-in-Refused
+returns-in-1-in-Refused c =
     let k = c.before in
     let r = k.before.before in
-    fields_refused _ _ _ _ (sym (subst (Answered r) k.k.given.1 r.read-fields.ensures).same)
+    fields_refused _ _ _ _ (sym (subst (Answered r) k.k-1.given.1 r.read_fields.ensures).same)
 
 pub push_link_spec : {M : Type 1} → statement M
 push_link_spec =
     tie.close
     (tie.spec
-    sequencing_word_requires
-    push_requires
-    push_bound_requires
-    push_bound_requires_2
-    read_fields_requires
-    enum_known_fields
-    push_edges_requires
-    enum_known_k
-    same_length
-    returns
-    same_length_2
-    returns_2
-    same_length_3
-    returns_3
-    same_length_4
-    returns_4
-    returns_5)
+    sequencing_word-after-requires
+    push-requires
+    push_bound-requires
+    push_bound-requires-in-4
+    read_fields-requires
+    enum_known-fields
+    push_edges-next-requires
+    enum_known-k
+    shape_of-words-in-1
+    returns-in-1
+    shape_of-words-in-2
+    returns-in-1-in-2
+    shape_of-words-in-4
+    returns-in-1-in-4
+    shape_of-words-in-Item
+    returns-in-1-in-Item
+    returns-in-1-in-Refused)

@@ -7,17 +7,17 @@ use borrow.Author.Rules.{rules}
 use Rattle.read_links.proofs.with_entered.Statement.{statement}
 use Rattle.read_links.proofs.with_entered.Tie as tie
 
-byte_index_requires : tie.Need-byte-index-requires
-byte_index_requires c κs = search rules
+byte_index-requires : tie.Need-byte_index-requires
+byte_index-requires c κs = search rules
 
-insert_if_requires : tie.Need-insert-if-requires
-insert_if_requires c κs = search rules
+insert_if-requires : tie.Need-insert_if-requires
+insert_if-requires c κs = search rules
 
 returns : tie.Need-returns
 returns c =
     let b = c.before in
     let a = b.before.args in
-    record { each = λ i t v. c.insert-if.ensures v ∙ ap (λ (x : Bool). test_bit a.entered v || x) (enters_by a.m i a.to _ t v b.byte-index.ensures.0) }
+    record { each = λ i t v. c.insert_if.ensures v ∙ ap (λ (x : Bool). test_bit a.entered v || x) (enters_by a.m i a.to _ t v b.byte_index.ensures.0) }
 
 pub with_entered_spec : {M : Type 1} → statement M
-with_entered_spec = tie.close (tie.spec byte_index_requires insert_if_requires returns)
+with_entered_spec = tie.close (tie.spec byte_index-requires insert_if-requires returns)

@@ -5,41 +5,41 @@ use Rattle.data_edges.proofs.Digits.{unpack_word}
 use Rattle.read_links.proofs.word.Statement.{statement}
 use Rattle.read_links.proofs.word.Tie as tie
 
-mul_result : tie.Need-overflow-mul-result
-mul_result c = search rules
+overflow_mul-result : tie.Need-overflow_mul-result
+overflow_mul-result c = search rules
 
-add_result : tie.Need-overflow-add-result
-add_result c = search rules
+overflow_add-result : tie.Need-overflow_add-result
+overflow_add-result c = search rules
 
-mul_result_2 : tie.Need-overflow-mul-result-2
-mul_result_2 c = search rules
+overflow_mul-result-2 : tie.Need-overflow_mul-result-2
+overflow_mul-result-2 c = search rules
 
-add_result_2 : tie.Need-overflow-add-result-2
-add_result_2 c = search rules
+overflow_add-result-2 : tie.Need-overflow_add-result-2
+overflow_add-result-2 c = search rules
 
-mul_result_3 : tie.Need-overflow-mul-result-3
-mul_result_3 c = search rules
+overflow_mul-result-3 : tie.Need-overflow_mul-result-3
+overflow_mul-result-3 c = search rules
 
-add_result_3 : tie.Need-overflow-add-result-3
-add_result_3 c = search rules
+overflow_add-result-3 : tie.Need-overflow_add-result-3
+overflow_add-result-3 c = search rules
 
-mul_result_4 : tie.Need-overflow-mul-result-4
-mul_result_4 c = search rules
+overflow_mul-result-4 : tie.Need-overflow_mul-result-4
+overflow_mul-result-4 c = search rules
 
-add_result_4 : tie.Need-overflow-add-result-4
-add_result_4 c = search rules
+overflow_add-result-4 : tie.Need-overflow_add-result-4
+overflow_add-result-4 c = search rules
 
-mul_result_5 : tie.Need-overflow-mul-result-5
-mul_result_5 c = search rules
+overflow_mul-result-5 : tie.Need-overflow_mul-result-5
+overflow_mul-result-5 c = search rules
 
-add_result_5 : tie.Need-overflow-add-result-5
-add_result_5 c = search rules
+overflow_add-result-5 : tie.Need-overflow_add-result-5
+overflow_add-result-5 c = search rules
 
-mul_result_6 : tie.Need-overflow-mul-result-6
-mul_result_6 c = search rules
+overflow_mul-result-6 : tie.Need-overflow_mul-result-6
+overflow_mul-result-6 c = search rules
 
-add_result_6 : tie.Need-overflow-add-result-6
-add_result_6 c = search rules
+overflow_add-result-6 : tie.Need-overflow_add-result-6
+overflow_add-result-6 c = search rules
 
 returns : tie.Need-returns
 returns c = unpack_word _ c.requires refl
@@ -48,16 +48,16 @@ pub word_spec : {M : Type 1} → statement M
 word_spec =
     tie.close
     (tie.spec
-    mul_result
-    add_result
-    mul_result_2
-    add_result_2
-    mul_result_3
-    add_result_3
-    mul_result_4
-    add_result_4
-    mul_result_5
-    add_result_5
-    mul_result_6
-    add_result_6
+    overflow_mul-result
+    overflow_add-result
+    overflow_mul-result-2
+    overflow_add-result-2
+    overflow_mul-result-3
+    overflow_add-result-3
+    overflow_mul-result-4
+    overflow_add-result-4
+    overflow_mul-result-5
+    overflow_add-result-5
+    overflow_mul-result-6
+    overflow_add-result-6
     returns)

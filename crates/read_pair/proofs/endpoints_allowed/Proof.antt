@@ -6,30 +6,30 @@ use Rattle.definitions.specs.Bytes.{endpoints}
 use Rattle.read_pair.proofs.endpoints_allowed.Statement.{statement}
 use Rattle.read_pair.proofs.endpoints_allowed.Tie as tie
 
-byte_index_requires : tie.Need-byte-index-requires
-byte_index_requires c κs = search rules
+byte_index-from-requires : tie.Need-byte_index-from-requires
+byte_index-from-requires c κs = search rules
 
-byte_index_requires_2 : tie.Need-byte-index-requires-2
-byte_index_requires_2 c κs = search rules
+byte_index-to-requires : tie.Need-byte_index-to-requires
+byte_index-to-requires c κs = search rules
 
-returns : tie.Need-returns
+returns-then-n-from : tie.Need-returns-then-n-from
 unfolding endpoints
-returns c =
+returns-then-n-from c =
     let a = c.before.before.before in
     rw (le-ltb a.args.i a.args.n (omega arith))
 
-returns_2 : tie.Need-returns-2
+returns-then-n-to : tie.Need-returns-then-n-to
 unfolding endpoints
-returns_2 c =
+returns-then-n-from-then-n-to c =
     let a = c.before.before.before.before in
     rw (lt-ltb a.args.i a.args.n (omega arith), le-ltb a.args.j a.args.n (omega arith))
 
-returns_3 : tie.Need-returns-3
+returns : tie.Need-returns
 unfolding endpoints
-returns_3 c =
+returns-then-n-from c =
     let a = c.before.before.before.before in
-    rw (lt-ltb a.args.i a.args.n (omega arith), lt-ltb a.args.j a.args.n (omega arith), c.before.before.before.byte-index.ensures.0, c.before.before.byte-index2.ensures.0)
+    rw (lt-ltb a.args.i a.args.n (omega arith), lt-ltb a.args.j a.args.n (omega arith), c.before.before.before.byte_index-from.ensures.0, c.before.before.byte_index-to.ensures.0)
 
 pub endpoints_allowed_spec : {M : Type 1} → statement M
 endpoints_allowed_spec =
-    tie.close (tie.spec byte_index_requires byte_index_requires_2 returns returns_2 returns_3)
+    tie.close (tie.spec byte_index-from-requires byte_index-to-requires returns-then-n-from returns-then-n-from-then-n-to returns-then-n-from)

@@ -7,17 +7,17 @@ use borrow.Author.Rules.{rules}
 use Rattle.read_pair.proofs.map_allowed.Statement.{statement}
 use Rattle.read_pair.proofs.map_allowed.Tie as tie
 
-upper_map_allowed_requires : tie.Need-upper-map-allowed-requires
-upper_map_allowed_requires c κs = search rules
+upper_map_allowed-requires : tie.Need-upper_map_allowed-requires
+upper_map_allowed-requires c κs = search rules
 
-returns : tie.Need-returns
-returns c = sym (map_low _ c.before.if1.false c.if2.true)
+returns-in-1-to-7 : tie.Need-returns-in-1-to-7
+returns-in-1-to-7 c = sym (map_low _ c.before.in_default.false c.if-m-lt8.true)
 
-returns_2 : tie.Need-returns-2
-returns_2 c =
+returns-in_default : tie.Need-returns-in_default
+returns-in-1-to-7-in_default c =
     let m = c.before.before.args.m in
-    let outside : (m < 1) ⊎ (8 ≤ m) = elim c.before.if1.branch [ inl k ↦ inl k.taken | inr k ↦ inr k.1.left ] in
-    c.upper-map-allowed.ensures ∙ map_outside m outside
+    let outside : (m < 1) ⊎ (8 ≤ m) = elim c.before.in_default.branch [ inl k ↦ inl k.taken | inr k ↦ inr k.1.left ] in
+    c.upper_map_allowed.ensures ∙ map_outside m outside
 
 pub map_allowed_spec : {M : Type 1} → statement M
-map_allowed_spec = tie.close (tie.spec upper_map_allowed_requires returns returns_2)
+map_allowed_spec = tie.close (tie.spec upper_map_allowed-requires returns-in-1-to-7 returns-in-1-to-7-in_default)

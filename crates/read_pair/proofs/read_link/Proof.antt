@@ -15,60 +15,60 @@ use Rattle.read_pair.proofs.read_link.Statement.{statement}
 use Rattle.read_pair.proofs.read_link.Tie as tie
 
 -- Places: the start, the map judged. And the map.
-abbrev start : tie.After-map-allowed → tie.Start
+abbrev start : tie.After-map_allowed → tie.Start
 start s = s.before.before.before.before
 
-abbrev bytes : tie.After-map-allowed → List ℕ
+abbrev bytes : tie.After-map_allowed → List ℕ
 bytes s = (start s).args.s.now
 
-abbrev map_byte : tie.After-map-allowed → ℕ
+abbrev map_byte : tie.After-map_allowed → ℕ
 map_byte s = get_or (bytes s) (start s).args.at 0
 
-map_there : (s : tie.After-map-allowed) → (start s).args.at < length (bytes s)
+map_there : (s : tie.After-map_allowed) → (start s).args.at < length (bytes s)
 map_there s = omega arith
 
-returns : tie.Need-returns
-returns c previous ranked = record { same = sym (link_none _ _ _ _ c.if1.true); inside = tt }
+returns-then-s-at : tie.Need-returns-then-s-at
+returns-then-s-at c previous ranked = record { same = sym (link_none _ _ _ _ c.if-s-at.true); inside = tt }
 
-shared_slice_read_m : tie.Need-shared-slice-read-m
-shared_slice_read_m c = search rules
+bounds-s-at : tie.Need-bounds-s-at
+bounds-s-at c = search rules
 
-map_allowed_requires : tie.Need-map-allowed-requires
-map_allowed_requires c κs = search rules
+map_allowed-requires : tie.Need-map_allowed-requires
+map_allowed-requires c κs = search rules
 
-map_fault_requires : tie.Need-map-fault-requires
-map_fault_requires c κs = search rules
+map_fault-requires : tie.Need-map_fault-requires
+map_fault-requires c κs = search rules
 
-returns_2 : tie.Need-returns-2
-returns_2 c previous ranked =
+returns-then-not-map_allowed : tie.Need-returns-then-not-map_allowed
+returns-then-s-at-then-not-map_allowed c previous ranked =
     let s = c.before.before in
-    let bad : allowed (map_byte s) ≡ false = sym s.map-allowed.ensures ∙ not-true _ c.before.if2.true in
-    record { same = ap refused c.map-fault.ensures ∙ sym (link_refused _ _ (bytes s) _ (map_there s) bad); inside = tt }
+    let bad : allowed (map_byte s) ≡ false = sym s.map_allowed.ensures ∙ not-true _ c.before.if-not-map_allowed.true in
+    record { same = ap refused c.map_fault.ensures ∙ sym (link_refused _ _ (bytes s) _ (map_there s) bad); inside = tt }
 
-add_read_pair : tie.Need-overflow-add-read-pair
-add_read_pair c = search rules
+overflow_add-at : tie.Need-overflow_add-at
+overflow_add-at c = search rules
 
-read_pair_requires : tie.Need-read-pair-requires
-read_pair_requires c κs = search rules
+read_pair-requires : tie.Need-read_pair-requires
+read_pair-requires c κs = search rules
 
-returns_3 : tie.Need-returns-3
-returns_3 c previous ranked =
+returns : tie.Need-returns
+returns-then-s-at c previous ranked =
     let s = c.before.before in
     let a = (start s).args in
-    let good : allowed (map_byte s) ≡ true = sym s.map-allowed.ensures ∙ not-false _ c.before.if2.false in
+    let good : allowed (map_byte s) ≡ true = sym s.map_allowed.ensures ∙ not-false _ c.before.if-not-map_allowed.false in
     let three : a.at + 1 + 2 ≡ a.at + 3 = omega arith in
-    let found : PairReads (bytes s) (a.at + 3) a.n (link_pair a.n previous (map_byte s) (drop (a.at + 1) (bytes s))) c.read-pair.result = rw three at (c.read-pair.ensures previous ranked) in
+    let found : PairReads (bytes s) (a.at + 3) a.n (link_pair a.n previous (map_byte s) (drop (a.at + 1) (bytes s))) c.read_pair.result = rw three at (c.read_pair.ensures previous ranked) in
     record { same = found.same ∙ sym (link_there _ _ (bytes s) _ (map_there s) good); inside = found.inside }
 
 pub read_link_spec : {M : Type 1} → statement M
 read_link_spec =
     tie.close
     (tie.spec
-    returns
-    shared_slice_read_m
-    map_allowed_requires
-    map_fault_requires
-    returns_2
-    add_read_pair
-    read_pair_requires
-    returns_3)
+    returns-then-s-at
+    bounds-s-at
+    map_allowed-requires
+    map_fault-requires
+    returns-then-s-at-then-not-map_allowed
+    overflow_add-at
+    read_pair-requires
+    returns-then-s-at)

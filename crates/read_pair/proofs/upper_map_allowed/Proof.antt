@@ -4,11 +4,11 @@ use Rattle.read_pair.proofs.Parts.{map_upper, map_not_upper}
 use Rattle.read_pair.proofs.upper_map_allowed.Statement.{statement}
 use Rattle.read_pair.proofs.upper_map_allowed.Tie as tie
 
-returns : tie.Need-returns
-returns c = sym (map_upper _ c.match.keys1)
+returns-in-9 : tie.Need-returns-in-9
+returns-in-9 c = sym (map_upper _ c.in_default.keys1)
 
-returns_2 : tie.Need-returns-2
-returns_2 c = sym (map_not_upper _ c.match.rest.1)
+returns-in_default : tie.Need-returns-in_default
+returns-in-9-in_default c = sym (map_not_upper _ c.in_default.rest.1)
 
 pub upper_map_allowed_spec : {M : Type 1} → statement M
-upper_map_allowed_spec = tie.close (tie.spec returns returns_2)
+upper_map_allowed_spec = tie.close (tie.spec returns-in-9 returns-in-9-in_default)

@@ -17,27 +17,27 @@ use Rattle.read_records.proofs.Edging.{Edged, edged_none, edged_more, edged_refu
 use Rattle.read_records.proofs.read_links.Statement.{statement}
 use Rattle.read_records.proofs.read_links.Tie as tie
 
-abbrev invariant-loop : tie.invariant-loop
-invariant-loop part n r digits words₀ last₀ next₀ count₀ entered₀ i₀ words last next count entered i =
+abbrev invariant-loop-i : tie.invariant-loop-i
+invariant-loop-i part n r digits words₀ last₀ next₀ count₀ entered₀ i₀ words last next count entered i =
     (length words ≡ length words₀) × Edged digits n r part i last (drop next part) words count entered
 
-abbrev decreases-loop : tie.decreases-loop
-decreases-loop part n r digits words₀ last₀ next₀ count₀ entered₀ i₀ words last next count entered i = r - i
+abbrev decreases-loop-i : tie.decreases-loop-i
+decreases-loop-i part n r digits words₀ last₀ next₀ count₀ entered₀ i₀ words last next count entered i = r - i
 
 -- Places: the turn's beginning, its map and pair read, the pair known, its fields read and its edges pushed.
 abbrev Turn : Type 0
-Turn = tie.At-loop invariant-loop decreases-loop
+Turn = tie.At-loop-i invariant-loop-i decreases-loop-i
 
 abbrev Read : Type 0
-Read = tie.After-read-link invariant-loop decreases-loop
+Read = tie.After-read_link invariant-loop-i decreases-loop-i
 
 abbrev Paired : Type 0
-Paired = tie.After-m invariant-loop decreases-loop
+Paired = tie.In-Pair-2 invariant-loop-i decreases-loop-i
 
 abbrev Linked : Type 0
-Linked = tie.After-push-link invariant-loop decreases-loop
+Linked = tie.After-push_link invariant-loop-i decreases-loop-i
 
-abbrev start : Turn → tie.Start invariant-loop decreases-loop
+abbrev start : Turn → tie.Start invariant-loop-i decreases-loop-i
 start l = l.before.before.before
 
 abbrev turn : Read → Turn
@@ -49,11 +49,11 @@ read s = s.before.before
 abbrev paired : Linked → Paired
 paired s = s.before.before.before.before.before
 
-abbrev linked : tie.After-slice-known2 invariant-loop decreases-loop → Linked
+abbrev linked : tie.After-slice_known-in-Pair-1 invariant-loop-i decreases-loop-i → Linked
 linked s = s.before.before
 
 -- And, past the loop, its end, from where the added links are pushed.
-abbrev ended : tie.After-complete-arg2 invariant-loop decreases-loop → Turn
+abbrev ended : tie.After-complete-arg-2-1 invariant-loop-i decreases-loop-i → Turn
 ended s = s.before.before.before.before
 
 -- What reading the map and the pair means, by its answer; and the pair that was read.
@@ -61,173 +61,173 @@ abbrev PairAnswered : Read → PairRead → Type 0
 PairAnswered s r =
     let l = turn s in
     let a = (start l).args in
-    PairReads a.part.now (l.loop.next + 3) a.n (link a.n l.loop.inv.1.previous (drop l.loop.next a.part.now)) r
+    PairReads a.part.now (l.loop-i.next + 3) a.n (link a.n l.loop-i.inv.1.previous (drop l.loop-i.next a.part.now)) r
 
-pair_answered : (s : Read) → PairAnswered s s.read-link.result
-pair_answered s = let so = (turn s).loop.inv.1 in s.read-link.ensures so.previous so.ranked
+pair_answered : (s : Read) → PairAnswered s s.read_link.result
+pair_answered s = let so = (turn s).loop-i.inv.1 in s.read_link.ensures so.previous so.ranked
 
-pair_found : (s : Paired) → PairAnswered (read s) (Pair s.m.given.0.0 s.m.given.0.1.0 s.m.given.0.1.1.0)
-pair_found s = subst (PairAnswered (read s)) s.m.given.1 (pair_answered (read s))
+pair_found : (s : Paired) → PairAnswered (read s) (Pair s.m-1.given.0.0 s.m-1.given.0.1.0 s.m-1.given.0.1.1.0)
+pair_found s = subst (PairAnswered (read s)) s.m-1.given.1 (pair_answered (read s))
 
 -- What reading the fields and pushing the edges means, by its answer.
 abbrev LinkAnswered : Linked → LinkRead → Type 0
 LinkAnswered s r =
-    let p = (paired s).m.given.0 in
+    let p = (paired s).m-1.given.0 in
     let l = turn (read (paired s)) in
     let a = (start l).args in
-    LinkReads p.0 p.1.0 p.1.1.0 (get_or a.digits.now s.before.before.before.byte-index.result 0) a.part.now (l.loop.next + 3) l.loop.words s.push-link.last.1.1.1.0 l.loop.count r
+    LinkReads p.0 p.1.0 p.1.1.0 (get_or a.digits.now s.before.before.before.byte_index-source.result 0) a.part.now (l.loop-i.next + 3) l.loop-i.words-1 s.push_link.last.1.1.1.0 l.loop-i.count r
 
-loop_holds : tie.Need-loop-init invariant-loop decreases-loop
-loop_holds c = (refl, edged_none _ _ _ _ _)
+loop-i-init : tie.Need-loop-i-init invariant-loop-i decreases-loop-i
+loop-i-init c = (refl, edged_none _ _ _ _ _)
 
-read_link_requires : tie.Need-read-link-requires invariant-loop decreases-loop
-read_link_requires c κs = search rules
+read_link-requires : tie.Need-read_link-requires invariant-loop-i decreases-loop-i
+read_link-requires c κs = search rules
 
-enum_known_m : tie.Need-enum-known-m invariant-loop decreases-loop
-enum_known_m c = search rules
+enum_known-m : tie.Need-enum_known-m invariant-loop-i decreases-loop-i
+enum_known-m c = search rules
 
-byte_index_requires : tie.Need-byte-index-requires invariant-loop decreases-loop
-byte_index_requires c κs = search rules
+byte_index-source-requires : tie.Need-byte_index-source-requires invariant-loop-i decreases-loop-i
+byte_index-source-requires c κs = search rules
 
-mul_d : tie.Need-overflow-mul-d invariant-loop decreases-loop
-mul_d c =
+offset_bounds-digits-source : tie.Need-offset_bounds-digits-source invariant-loop-i decreases-loop-i
+offset_bounds-digits-source c =
     let p = c.before.before in
-    omega (arith, c.byte-index.ensures.0, (pair_found p).inside.from, (start (turn (read p))).pre.steps)
+    omega (arith, c.byte_index-source.ensures.0, (pair_found p).inside.from, (start (turn (read p))).pre.steps)
 
-element_copy_out_d : tie.Need-element-copy-out-d invariant-loop decreases-loop
-element_copy_out_d c =
+bounds-digits-source : tie.Need-bounds-digits-source invariant-loop-i decreases-loop-i
+bounds-digits-source c =
     let p = c.before.before in
-    omega (arith, c.byte-index.ensures.0, (pair_found p).inside.from, (start (turn (read p))).pre.steps)
+    omega (arith, c.byte_index-source.ensures.0, (pair_found p).inside.from, (start (turn (read p))).pre.steps)
 
-add_push_link : tie.Need-overflow-add-push-link invariant-loop decreases-loop
-add_push_link c = omega (arith, (pair_found c.before.before.before).inside.begins)
+overflow_add-next : tie.Need-overflow_add-next invariant-loop-i decreases-loop-i
+overflow_add-next c = omega (arith, (pair_found c.before.before.before).inside.begins)
 
-push_link_requires : tie.Need-push-link-requires invariant-loop decreases-loop
-push_link_requires c κs =
+push_link-requires : tie.Need-push_link-requires invariant-loop-i decreases-loop-i
+push_link-requires c κs =
     let p = c.before.before.before.before in
     let W = (pair_found p).inside in
     let l = turn (read p) in
-    let so = l.loop.inv in
+    let so = l.loop-i.inv in
     let pre = (start l).pre in
     record {
       begins = W.begins;
       room = record { room = omega (arith, so.0, so.1.few, pre.room); ends = (omega (arith, W.from, pre.steps), omega (arith, W.to, pre.steps)) };
     }
 
-enum_known_after : tie.Need-enum-known-after invariant-loop decreases-loop
-enum_known_after c = search rules
+enum_known-after : tie.Need-enum_known-after invariant-loop-i decreases-loop-i
+enum_known-after c = search rules
 
-rank_requires : tie.Need-rank-requires invariant-loop decreases-loop
-rank_requires c κs = search rules
+rank-last-requires : tie.Need-rank-last-requires invariant-loop-i decreases-loop-i
+rank-last-requires c κs = search rules
 
-with_entered_requires : tie.Need-with-entered-requires invariant-loop decreases-loop
-with_entered_requires c κs =
+with_entered-entered-requires : tie.Need-with_entered-entered-requires invariant-loop-i decreases-loop-i
+with_entered-entered-requires c κs =
     let p = paired (linked c.before.before.before.before) in
     omega (arith, (pair_found p).inside.to, (start (turn (read p))).pre.steps)
 
-add_i : tie.Need-overflow-add-i invariant-loop decreases-loop
-add_i c = search rules
+overflow_add-i : tie.Need-overflow_add-i invariant-loop-i decreases-loop-i
+overflow_add-i c = search rules
 
-loop_less : tie.Need-loop-smaller invariant-loop decreases-loop
-loop_less c = search rules
+loop-i-smaller : tie.Need-loop-i-smaller invariant-loop-i decreases-loop-i
+loop-i-smaller c = search rules
 
-loop_again : tie.Need-loop-preserved invariant-loop decreases-loop
-loop_again c =
+loop-i-preserved : tie.Need-loop-i-preserved invariant-loop-i decreases-loop-i
+loop-i-preserved c =
     let taken = c.before.before.before in
     let s = linked taken.before.before in
     let p = paired s in
-    let l = (turn (read p)).loop in
+    let l = (turn (read p)).loop-i in
     let F = pair_found p in
-    let T = subst (LinkAnswered s) taken.after.given.1 s.push-link.ensures in
-    let source = s.before.before.before.byte-index.ensures.0 in
-    (T.pushed.long ∙ l.inv.0, edged_more _ _ _ _ l.i _ _ _ _ _ l.inv.1 _ _ _ _ _ F.same _ _ _ T (omega arith) source F.inside.from _ c.before.rank.ensures _ c.with-entered.ensures)
+    let T = subst (LinkAnswered s) taken.after-1.given.1 s.push_link.ensures in
+    let source = s.before.before.before.byte_index-source.ensures.0 in
+    (T.pushed.long ∙ l.inv.0, edged_more _ _ _ _ l.i _ _ _ _ _ l.inv.1 _ _ _ _ _ F.same _ _ _ T (omega arith) source F.inside.from _ c.before.rank-last.ensures _ c.with_entered-entered.ensures)
 
-enum_known_k : tie.Need-enum-known-k invariant-loop decreases-loop
-enum_known_k c = search rules
+enum_known-k : tie.Need-enum_known-k invariant-loop-i decreases-loop-i
+enum_known-k c = search rules
 
-same_length : tie.Need-same-length invariant-loop decreases-loop
-same_length c = search rules
+shape_of-words-in-Refused-push_link : tie.Need-shape_of-words-in-Refused-push_link invariant-loop-i decreases-loop-i
+shape_of-words-in-Refused-push_link c = search rules
 
 -- The fields are cut off.
-returns : tie.Need-returns invariant-loop decreases-loop
-returns c =
+returns-in-Refused-push_link : tie.Need-returns-in-Refused-push_link invariant-loop-i decreases-loop-i
+returns-in-Refused-push_link c =
     let s = linked c.before.before.before in
     let p = paired s in
-    let l = (turn (read p)).loop in
-    let cut = subst (LinkAnswered s) c.before.k.given.1 s.push-link.ensures in
+    let l = (turn (read p)).loop-i in
+    let cut = subst (LinkAnswered s) c.before.k-1.given.1 s.push_link.ensures in
     answers_refused _ _ _ _ _ _ (links_refused _ _ _ (edged_refused _ _ _ _ l.i _ _ _ _ _ l.inv.1 (omega arith) _ (sym (pair_found p).same ∙ cut)))
 
-enum_known_k_2 : tie.Need-enum-known-k-2 invariant-loop decreases-loop
-enum_known_k_2 c = search rules
+enum_known-k-in-Refused-read_link : tie.Need-enum_known-k-in-Refused-read_link invariant-loop-i decreases-loop-i
+enum_known-k-in-Refused-read_link c = search rules
 
-same_length_2 : tie.Need-same-length-2 invariant-loop decreases-loop
-same_length_2 c = search rules
+shape_of-words-in-Refused : tie.Need-shape_of-words-in-Refused invariant-loop-i decreases-loop-i
+shape_of-words-in-Refused c = search rules
 
 -- The map or the pair is refused.
-returns_2 : tie.Need-returns-2 invariant-loop decreases-loop
-returns_2 c =
+returns-in-Refused : tie.Need-returns-in-Refused invariant-loop-i decreases-loop-i
+returns-in-Refused-push_link-in-Refused c =
     let s = c.before.before.before in
-    let l = (turn s).loop in
-    let item = subst (PairAnswered s) c.before.k2.given.1 (pair_answered s) in
+    let l = (turn s).loop-i in
+    let item = subst (PairAnswered s) c.before.k-in-Refused-read_link-1.given.1 (pair_answered s) in
     answers_refused _ _ _ _ _ _ (links_refused _ _ _ (edged_refused _ _ _ _ l.i _ _ _ _ _ l.inv.1 (omega arith) _ (sym item.same)))
 
-same_length_3 : tie.Need-same-length-3 invariant-loop decreases-loop
-same_length_3 c = search rules
+shape_of-words-then-next-part : tie.Need-shape_of-words-then-next-part invariant-loop-i decreases-loop-i
+shape_of-words-then-next-part c = search rules
 
 -- Bytes follow the last record.
-returns_3 : tie.Need-returns-3 invariant-loop decreases-loop
-returns_3 c =
-    let l = c.before.before.loop in
-    answers_refused _ _ _ _ _ _ (links_trailing _ _ _ l.next (edged_all _ _ _ _ l.i _ _ _ _ _ l.invariant.1 (omega arith)) c.if1.true)
+returns-then-next-part : tie.Need-returns-then-next-part invariant-loop-i decreases-loop-i
+returns-in-Refused-push_link-then-next-part c =
+    let l = c.before.before.loop-i in
+    answers_refused _ _ _ _ _ _ (links_trailing _ _ _ l.next (edged_all _ _ _ _ l.i _ _ _ _ _ l.invariant.1 (omega arith)) c.if-next-part.true)
 
-element_copy_out_complete : tie.Need-element-copy-out-complete invariant-loop decreases-loop
-element_copy_out_complete c = search rules
+bounds-digits-0 : tie.Need-bounds-digits-0 invariant-loop-i decreases-loop-i
+bounds-digits-0 c = search rules
 
-complete_requires : tie.Need-complete-requires invariant-loop decreases-loop
-complete_requires c κs =
+complete-all-requires : tie.Need-complete-all-requires invariant-loop-i decreases-loop-i
+complete-all-requires c κs =
     let l = ended c in
-    let so = l.loop.inv in
+    let so = l.loop-i.inv in
     let pre = (start l).pre in
     record { steps = pre.steps; room = omega (arith, so.0, so.1.few, so.1.within, pre.room) }
 
-same_length_4 : tie.Need-same-length-4 invariant-loop decreases-loop
-same_length_4 c = search rules
+shape_of-words : tie.Need-shape_of-words invariant-loop-i decreases-loop-i
+shape_of-words c = search rules
 
-returns_4 : tie.Need-returns-4 invariant-loop decreases-loop
-returns_4 c =
+returns : tie.Need-returns invariant-loop-i decreases-loop-i
+returns-in-Refused-push_link c =
     let s = c.before.before in
-    let l = (ended s.before).loop in
-    answers_whole _ _ _ _ l.i _ _ _ _ _ l.inv.1 _ _ s.complete.ensures (omega arith) (links_whole _ _ _ l.next (edged_all _ _ _ _ l.i _ _ _ _ _ l.inv.1 (omega arith)) s.before.before.before.if1.false)
+    let l = (ended s.before).loop-i in
+    answers_whole _ _ _ _ l.i _ _ _ _ _ l.inv.1 _ _ s.complete-all.ensures (omega arith) (links_whole _ _ _ l.next (edged_all _ _ _ _ l.i _ _ _ _ _ l.inv.1 (omega arith)) s.before.before.before.if-next-part.false)
 
 pub read_links_spec : {M : Type 1} → statement M
 read_links_spec =
     tie.close
     (tie.spec
-    invariant-loop
-    decreases-loop
-    loop_holds
-    read_link_requires
-    enum_known_m
-    byte_index_requires
-    mul_d
-    element_copy_out_d
-    add_push_link
-    push_link_requires
-    enum_known_after
-    rank_requires
-    with_entered_requires
-    add_i
-    loop_less
-    loop_again
-    enum_known_k
-    same_length
-    returns
-    enum_known_k_2
-    same_length_2
-    returns_2
-    same_length_3
-    returns_3
-    element_copy_out_complete
-    complete_requires
-    same_length_4
-    returns_4)
+    invariant-loop-i
+    decreases-loop-i
+    loop-i-init
+    read_link-requires
+    enum_known-m
+    byte_index-source-requires
+    offset_bounds-digits-source
+    bounds-digits-source
+    overflow_add-next
+    push_link-requires
+    enum_known-after
+    rank-last-requires
+    with_entered-entered-requires
+    overflow_add-i
+    loop-i-smaller
+    loop-i-preserved
+    enum_known-k
+    shape_of-words-in-Refused-push_link
+    returns-in-Refused-push_link
+    enum_known-k-in-Refused-read_link
+    shape_of-words-in-Refused
+    returns-in-Refused-push_link-in-Refused
+    shape_of-words-then-next-part
+    returns-in-Refused-push_link-then-next-part
+    bounds-digits-0
+    complete-all-requires
+    shape_of-words
+    returns-in-Refused-push_link)

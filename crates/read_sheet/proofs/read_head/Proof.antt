@@ -14,62 +14,62 @@ use Rattle.read_sheet.proofs.read_head.Statement.{statement}
 use Rattle.read_sheet.proofs.read_head.Tie as tie
 
 -- Places: the start, from where N is read. And N.
-abbrev start : tie.After-byte-index → tie.Start
+abbrev start : tie.After-byte_index-n → tie.Start
 start s = s.before.before.before.before
 
-abbrev bytes : tie.After-byte-index → List ℕ
+abbrev bytes : tie.After-byte_index-n → List ℕ
 bytes s = (start s).args.s.now
 
-count_there : (s : tie.After-byte-index) → s.byte-index.result ≡ get_or (bytes s) 0 0
-count_there s = s.byte-index.ensures.0
+count_there : (s : tie.After-byte_index-n) → s.byte_index-n.result ≡ get_or (bytes s) 0 0
+count_there s = s.byte_index-n.ensures.0
 
-some_there : (s : tie.After-byte-index) → 0 < length (bytes s)
+some_there : (s : tie.After-byte_index-n) → 0 < length (bytes s)
 some_there s = omega arith
 
-refused_head_requires : tie.Need-refused-head-requires
-refused_head_requires c κs = search rules
+refused_head-requires : tie.Need-refused_head-requires
+refused_head-requires c κs = search rules
 
-returns : tie.Need-returns
-returns c = rw (sheet_none c.before.before.before.args.s.now c.before.if1.true) (c.refused-head.ensures _)
+returns-then-s-eq0 : tie.Need-returns-then-s-eq0
+returns-then-s-eq0 c = rw (sheet_none c.before.before.before.args.s.now c.before.if-s-eq0.true) (c.refused_head.ensures _)
 
-shared_slice_read_byte_index : tie.Need-shared-slice-read-byte-index
-shared_slice_read_byte_index c = search rules
+bounds-s-0 : tie.Need-bounds-s-0
+bounds-s-0 c = search rules
 
-byte_index_requires : tie.Need-byte-index-requires
-byte_index_requires c κs = search rules
+byte_index-n-requires : tie.Need-byte_index-n-requires
+byte_index-n-requires c κs = search rules
 
-read_counted_requires : tie.Need-read-counted-requires
-read_counted_requires c κs = search rules
+read_counted-requires : tie.Need-read_counted-requires
+read_counted-requires c κs = search rules
 
-refused_head_requires_2 : tie.Need-refused-head-requires-2
-refused_head_requires_2 c κs = search rules
+refused_head-requires-in_default : tie.Need-refused_head-requires-in_default
+refused_head-requires-in_default c κs = search rules
 
 -- N is within its limits.
-returns_2 : tie.Need-returns-2
-returns_2 c =
+returns-in-1-to-64 : tie.Need-returns-in-1-to-64
+returns-then-s-eq0-in-1-to-64 c =
     let s = c.before.before.before in
     let e = count_there s in
-    let low : 1 ≤ get_or (bytes s) 0 0 = rw e at c.before.before.if2.false in
-    let high : get_or (bytes s) 0 0 ≤ most_steps = omega (arith, c.before.if3.true) in
-    rw (sheet_there (bytes s) (some_there s) low high) (rw e at c.read-counted.ensures)
+    let low : 1 ≤ get_or (bytes s) 0 0 = rw e at c.before.before.in_default.false in
+    let high : get_or (bytes s) 0 0 ≤ most_steps = omega (arith, c.before.if-n-lt65.true) in
+    rw (sheet_there (bytes s) (some_there s) low high) (rw e at c.read_counted.ensures)
 
 -- N is 0, or above its limit.
-returns_3 : tie.Need-returns-3
-returns_3 c =
+returns-in_default : tie.Need-returns-in_default
+returns-then-s-eq0-in_default c =
     let s = c.before.before in
     let e = count_there s in
-    let bad : Bytes.read (bytes s) ≡ refused 2 = ⊎_elim (λ zero. sheet_zero (bytes s) (some_there s) (rw e at zero.taken)) (λ above. sheet_above (bytes s) (some_there s) (rw e at above.1.left)) c.before.if2.branch in
-    rw bad (c.refused-head2.ensures _)
+    let bad : Bytes.read (bytes s) ≡ refused 2 = ⊎_elim (λ zero. sheet_zero (bytes s) (some_there s) (rw e at zero.taken)) (λ above. sheet_above (bytes s) (some_there s) (rw e at above.1.left)) c.before.in_default.branch in
+    rw bad (c.refused_head-in_default.ensures _)
 
 pub read_head_spec : {M : Type 1} → statement M
 read_head_spec =
     tie.close
     (tie.spec
-    refused_head_requires
-    returns
-    shared_slice_read_byte_index
-    byte_index_requires
-    read_counted_requires
-    refused_head_requires_2
-    returns_2
-    returns_3)
+    refused_head-requires
+    returns-then-s-eq0
+    bounds-s-0
+    byte_index-n-requires
+    read_counted-requires
+    refused_head-requires-in_default
+    returns-then-s-eq0-in-1-to-64
+    returns-then-s-eq0-in_default)

@@ -11,38 +11,38 @@ use Rattle.read_steps.proofs.fixed_step.Statement.{statement}
 use Rattle.read_steps.proofs.fixed_step.Tie as tie
 
 -- What reading the number means, by its answer, where it is read.
-abbrev Answered : tie.After-read-number → NumberRead → Type 0
+abbrev Answered : tie.After-read_number → NumberRead → Type 0
 Answered s r = let a = s.before.before.args in NumberReads a.s.now a.at r
 
-read_number_requires : tie.Need-read-number-requires
-read_number_requires c κs = search rules
+read_number-requires : tie.Need-read_number-requires
+read_number-requires c κs = search rules
 
-enum_known_ticks : tie.Need-enum-known-ticks
-enum_known_ticks c = search rules
+enum_known-ticks : tie.Need-enum_known-ticks
+enum_known-ticks c = search rules
 
-timed_requires : tie.Need-timed-requires
-timed_requires c κs = search rules
+timed-requires : tie.Need-timed-requires
+timed-requires c κs = search rules
 
-added_by_requires : tie.Need-added-by-requires
-added_by_requires c κs = search rules
+added_by-requires : tie.Need-added_by-requires
+added_by-requires c κs = search rules
 
-enum_known_k : tie.Need-enum-known-k
-enum_known_k c = search rules
+enum_known-k : tie.Need-enum_known-k
+enum_known-k c = search rules
 
-returns : tie.Need-returns
-returns c leasts =
+returns-in-Item : tie.Need-returns-in-Item
+returns-in-Item c leasts =
     let known = c.before.before in
     let s = known.before.before.before in
-    let item = subst (Answered s) known.before.ticks.given.1 s.read_number.ensures in
-    taken_fixed fixed _ _ _ leasts _ _ item.inside _ (fixed_there _ (sym item.same)) (c.added-by.ensures ∙ ap (added _) c.before.timed.ensures)
+    let item = subst (Answered s) known.before.ticks-1.given.1 s.read_number.ensures in
+    taken_fixed fixed _ _ _ leasts _ _ item.inside _ (fixed_there _ (sym item.same)) (c.added_by.ensures ∙ ap (added _) c.before.timed.ensures)
 
-returns_2 : tie.Need-returns-2
-returns_2 c leasts =
+returns-in-Refused : tie.Need-returns-in-Refused
+returns-in-Item-in-Refused c leasts =
     let s = c.before.before.before in
-    let item = subst (Answered s) c.before.k.given.1 s.read_number.ensures in
+    let item = subst (Answered s) c.before.k-1.given.1 s.read_number.ensures in
     fixed_refused _ (sym item.same)
 
 pub fixed_step_spec : {M : Type 1} → statement M
 fixed_step_spec =
     tie.close
-    (tie.spec read_number_requires enum_known_ticks timed_requires added_by_requires enum_known_k returns returns_2)
+    (tie.spec read_number-requires enum_known-ticks timed-requires added_by-requires enum_known-k returns-in-Item returns-in-Item-in-Refused)

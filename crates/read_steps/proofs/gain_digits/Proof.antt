@@ -3,14 +3,14 @@ use borrow.Author.Rules.{rules}
 use Rattle.read_steps.proofs.gain_digits.Statement.{statement}
 use Rattle.read_steps.proofs.gain_digits.Tie as tie
 
-cast_result : tie.Need-overflow-cast-result
-cast_result c = search rules
+overflow_cast-result-2 : tie.Need-overflow_cast-result-2
+overflow_cast-result-2 c = search rules
 
-mul_result : tie.Need-overflow-mul-result
-mul_result c = search rules
+overflow_mul-result : tie.Need-overflow_mul-result
+overflow_mul-result c = search rules
 
 returns : tie.Need-returns
 returns c = search rules
 
 pub gain_digits_spec : {M : Type 1} → statement M
-gain_digits_spec = tie.close (tie.spec cast_result mul_result returns)
+gain_digits_spec = tie.close (tie.spec overflow_cast-result-2 overflow_mul-result returns)

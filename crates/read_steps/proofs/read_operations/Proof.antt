@@ -15,94 +15,94 @@ use Rattle.read_steps.proofs.Stepping.{Stepping, stepping_none, stepping_more, s
 use Rattle.read_steps.proofs.read_operations.Statement.{statement}
 use Rattle.read_steps.proofs.read_operations.Tie as tie
 
-abbrev invariant-loop : tie.invariant-loop
-invariant-loop s at n digits₀ leasts₀ unbounded₀ next₀ i₀ digits leasts unbounded next i = (next ≤ length s) × (length digits ≡ most_steps) × (length leasts ≡ most_steps) × Stepping n (drop at s) i (drop next s) digits leasts unbounded
+abbrev invariant-loop-i : tie.invariant-loop-i
+invariant-loop-i s at n digits₀ leasts₀ unbounded₀ next₀ i₀ digits leasts unbounded next i = (next ≤ length s) × (length digits ≡ most_steps) × (length leasts ≡ most_steps) × Stepping n (drop at s) i (drop next s) digits leasts unbounded
 
-abbrev decreases-loop : tie.decreases-loop
-decreases-loop s at n digits₀ leasts₀ unbounded₀ next₀ i₀ digits leasts unbounded next i = n - i
+abbrev decreases-loop-i : tie.decreases-loop-i
+decreases-loop-i s at n digits₀ leasts₀ unbounded₀ next₀ i₀ digits leasts unbounded next i = n - i
 
 -- Places: the turn's beginning and its record read. And what reading it means, by its answer.
 abbrev Turn : Type 0
-Turn = tie.At-loop invariant-loop decreases-loop
+Turn = tie.At-loop-i invariant-loop-i decreases-loop-i
 
 abbrev Read : Type 0
-Read = tie.After-read-step invariant-loop decreases-loop
+Read = tie.After-read_step invariant-loop-i decreases-loop-i
 
-abbrev start : Turn → tie.Start invariant-loop decreases-loop
+abbrev start : Turn → tie.Start invariant-loop-i decreases-loop-i
 start l = l.before.before
 
 abbrev turn : Read → Turn
 turn s = s.before.before.before
 
 abbrev Answered : Read → StepRead → Type 0
-Answered s r = let l = turn s in StepReads (operation (eqb l.loop.i 0)) (start l).args.s.now l.loop.next l.loop.i l.loop.leasts s.Read-step.last.1.1.1.0 r
+Answered s r = let l = turn s in StepReads (operation (eqb l.loop-i.i 0)) (start l).args.s.now l.loop-i.next l.loop-i.i l.loop-i.leasts s.Read-step.last.1.1.1.0 r
 
-loop_holds : tie.Need-loop-init invariant-loop decreases-loop
-loop_holds c = (c.before.requires.begins, c.before.requires.long, blank_long c.before.requires.blank, stepping_none _ _ _ _ c.before.requires.blank)
+loop-i-init : tie.Need-loop-i-init invariant-loop-i decreases-loop-i
+loop-i-init c = (c.before.requires.begins, c.before.requires.long, blank_long c.before.requires.blank, stepping_none _ _ _ _ c.before.requires.blank)
 
-read_step_requires : tie.Need-read-step-requires invariant-loop decreases-loop
-read_step_requires c κs = search rules
+read_step-requires : tie.Need-read_step-requires invariant-loop-i decreases-loop-i
+read_step-requires c κs = search rules
 
-enum_known_d : tie.Need-enum-known-d invariant-loop decreases-loop
-enum_known_d c = search rules
+enum_known-d : tie.Need-enum_known-d invariant-loop-i decreases-loop-i
+enum_known-d c = search rules
 
-mul_digits : tie.Need-overflow-mul-digits invariant-loop decreases-loop
-mul_digits c = search rules
+offset_bounds-digits-i : tie.Need-offset_bounds-digits-i invariant-loop-i decreases-loop-i
+offset_bounds-digits-i c = search rules
 
-element_write_digits : tie.Need-element-write-digits invariant-loop decreases-loop
-element_write_digits c = search rules
+bounds-digits-i : tie.Need-bounds-digits-i invariant-loop-i decreases-loop-i
+bounds-digits-i c = search rules
 
-insert_if_requires : tie.Need-insert-if-requires invariant-loop decreases-loop
-insert_if_requires c κs = search rules
+insert_if-unbounded-requires : tie.Need-insert_if-unbounded-requires invariant-loop-i decreases-loop-i
+insert_if-unbounded-requires c κs = search rules
 
-add_i : tie.Need-overflow-add-i invariant-loop decreases-loop
-add_i c = search rules
+overflow_add-i : tie.Need-overflow_add-i invariant-loop-i decreases-loop-i
+overflow_add-i c = search rules
 
-loop_less : tie.Need-loop-smaller invariant-loop decreases-loop
-loop_less c = search rules
+loop-i-smaller : tie.Need-loop-i-smaller invariant-loop-i decreases-loop-i
+loop-i-smaller c = search rules
 
-loop_again : tie.Need-loop-preserved invariant-loop decreases-loop
-loop_again c =
+loop-i-preserved : tie.Need-loop-i-preserved invariant-loop-i decreases-loop-i
+loop-i-preserved c =
     let taken = c.before.before in
     let s = taken.before.before in
-    let l = (turn s).loop in
-    let step = subst (Answered s) taken.d.given.1 s.Read-step.ensures in (
+    let l = (turn s).loop-i in
+    let step = subst (Answered s) taken.d-1.given.1 s.Read-step.ensures in (
       step.inside,
       length-set l.digits l.i _ ∙ l.inv.1,
       leasts_long l.i _ l.leasts _ step.put ∙ l.inv.2,
-      stepping_more _ _ l.i _ l.digits l.leasts l.unbounded l.inv.3 _ _ _ _ _ step.same step.adds (omega arith) (omega (arith, l.inv.1)) (omega (arith, l.inv.2)) step.put c.insert-if.ensures,
+      stepping_more _ _ l.i _ l.digits l.leasts l.unbounded l.inv.3 _ _ _ _ _ step.same step.adds (omega arith) (omega (arith, l.inv.1)) (omega (arith, l.inv.2)) step.put c.insert_if-unbounded.ensures,
     )
 
-enum_known_k : tie.Need-enum-known-k invariant-loop decreases-loop
-enum_known_k c = search rules
+enum_known-k : tie.Need-enum_known-k invariant-loop-i decreases-loop-i
+enum_known-k c = search rules
 
-returns : tie.Need-returns invariant-loop decreases-loop
-returns c =
+returns-in-Refused : tie.Need-returns-in-Refused invariant-loop-i decreases-loop-i
+returns-in-Refused c =
     let s = c.before.before.before in
-    let l = (turn s).loop in
-    let refusal = subst (Answered s) c.before.k.given.1 s.Read-step.ensures in
+    let l = (turn s).loop-i in
+    let refusal = subst (Answered s) c.before.k-1.given.1 s.Read-step.ensures in
     stepping_refused _ _ l.i _ l.digits l.leasts l.unbounded l.inv.3 (omega arith) _ refusal
 
-returns_2 : tie.Need-returns-2 invariant-loop decreases-loop
-returns_2 c =
-    let l = c.before.loop in
-    stepping_all _ _ _ l.i l.next l.digits l.leasts l.unbounded l.invariant.3 c.loop-test.false l.invariant.0
+returns : tie.Need-returns invariant-loop-i decreases-loop-i
+returns-in-Refused c =
+    let l = c.before.loop-i in
+    stepping_all _ _ _ l.i l.next l.digits l.leasts l.unbounded l.invariant.3 c.loop-i-test.false l.invariant.0
 
 pub read_operations_spec : {M : Type 1} → statement M
 read_operations_spec =
     tie.close
     (tie.spec
-    invariant-loop
-    decreases-loop
-    loop_holds
-    read_step_requires
-    enum_known_d
-    mul_digits
-    element_write_digits
-    insert_if_requires
-    add_i
-    loop_less
-    loop_again
-    enum_known_k
-    returns
-    returns_2)
+    invariant-loop-i
+    decreases-loop-i
+    loop-i-init
+    read_step-requires
+    enum_known-d
+    offset_bounds-digits-i
+    bounds-digits-i
+    insert_if-unbounded-requires
+    overflow_add-i
+    loop-i-smaller
+    loop-i-preserved
+    enum_known-k
+    returns-in-Refused
+    returns-in-Refused)

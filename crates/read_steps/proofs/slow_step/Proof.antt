@@ -11,56 +11,56 @@ use Rattle.read_steps.proofs.slow_step.Statement.{statement}
 use Rattle.read_steps.proofs.slow_step.Tie as tie
 
 -- What reading the number means, by its answer, where it is read.
-abbrev start : tie.After-read-number → tie.Start
+abbrev start : tie.After-read_number → tie.Start
 start s = s.before.before
 
-abbrev Answered : tie.After-read-number → NumberRead → Type 0
+abbrev Answered : tie.After-read_number → NumberRead → Type 0
 Answered s r = let a = (start s).args in NumberReads a.s.now a.at r
 
-read_number_requires : tie.Need-read-number-requires
-read_number_requires c κs = search rules
+read_number-requires : tie.Need-read_number-requires
+read_number-requires c κs = search rules
 
-enum_known_ticks : tie.Need-enum-known-ticks
-enum_known_ticks c = search rules
+enum_known-ticks : tie.Need-enum_known-ticks
+enum_known-ticks c = search rules
 
-mul_leasts : tie.Need-overflow-mul-leasts
-mul_leasts c = search rules
+offset_bounds-leasts-i : tie.Need-offset_bounds-leasts-i
+offset_bounds-leasts-i c = search rules
 
-element_write_leasts : tie.Need-element-write-leasts
-element_write_leasts c = search rules
+bounds-leasts-i : tie.Need-bounds-leasts-i
+bounds-leasts-i c = search rules
 
-lasting_requires : tie.Need-lasting-requires
-lasting_requires c κs = search rules
+lasting-requires : tie.Need-lasting-requires
+lasting-requires c κs = search rules
 
-added_by_requires : tie.Need-added-by-requires
-added_by_requires c κs = search rules
+added_by-requires : tie.Need-added_by-requires
+added_by-requires c κs = search rules
 
-enum_known_k : tie.Need-enum-known-k
-enum_known_k c = search rules
+enum_known-k : tie.Need-enum_known-k
+enum_known-k c = search rules
 
-returns : tie.Need-returns
-returns c =
+returns-in-Item : tie.Need-returns-in-Item
+returns-in-Item c =
     let known = c.before.before in
     let s = known.before.before.before in
-    let item = subst (Answered s) known.before.ticks.given.1 s.read_number.ensures in
-    taken_slow slow _ _ _ _ _ _ item.inside _ (start s).requires.other (slow_there _ (sym item.same)) (c.added-by.ensures ∙ ap (added _) c.before.lasting.ensures)
+    let item = subst (Answered s) known.before.ticks-1.given.1 s.read_number.ensures in
+    taken_slow slow _ _ _ _ _ _ item.inside _ (start s).requires.other (slow_there _ (sym item.same)) (c.added_by.ensures ∙ ap (added _) c.before.lasting.ensures)
 
-returns_2 : tie.Need-returns-2
-returns_2 c =
+returns-in-Refused : tie.Need-returns-in-Refused
+returns-in-Item-in-Refused c =
     let s = c.before.before.before in
-    let item = subst (Answered s) c.before.k.given.1 s.read_number.ensures in
+    let item = subst (Answered s) c.before.k-1.given.1 s.read_number.ensures in
     slow_refused _ (sym item.same)
 
 pub slow_step_spec : {M : Type 1} → statement M
 slow_step_spec =
     tie.close
     (tie.spec
-    read_number_requires
-    enum_known_ticks
-    mul_leasts
-    element_write_leasts
-    lasting_requires
-    added_by_requires
-    enum_known_k
-    returns
-    returns_2)
+    read_number-requires
+    enum_known-ticks
+    offset_bounds-leasts-i
+    bounds-leasts-i
+    lasting-requires
+    added_by-requires
+    enum_known-k
+    returns-in-Item
+    returns-in-Item-in-Refused)

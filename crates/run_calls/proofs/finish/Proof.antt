@@ -13,95 +13,95 @@ use Rattle.run_calls.proofs.finish.Statement.{statement}
 use Rattle.run_calls.proofs.finish.Tie as tie
 
 -- What is known once a test has failed: past the first a run is on, past the second the table is long enough, past the third the step can finish, past the fourth it is not too early.
-abbrev start : tie.Else1 → tie.Start
+abbrev start : tie.Else-is_idle → tie.Start
 start p = p.before.before.before
 
-abbrev state : tie.Else1 → State
+abbrev state : tie.Else-is_idle → State
 state p = (start p).args.st
 
-running : (p : tie.Else1) → not_running (state p) ≡ false
-running p = sym (running_is (state p) _ p.before.is-idle.ensures) ∙ p.if1.false
+running : (p : tie.Else-is_idle) → not_running (state p) ≡ false
+running p = sym (running_is (state p) _ p.before.is_idle.ensures) ∙ p.if-is_idle.false
 
-few : (p : tie.Else1) → (state p).n ≤ most_steps
+few : (p : tie.Else-is_idle) → (state p).n ≤ most_steps
 few p = running_count (state p) (running p)
 
-abbrev first : tie.Else2 → tie.Else1
+abbrev first : tie.Else-is_short → tie.Else-is_idle
 first p = p.before.before
 
-long : (p : tie.Else2) → too_short (start (first p)).args.table.now ((state (first p)).n * (state (first p)).n) ≡ false
-long p = sym p.before.is-short.ensures ∙ p.if2.false
+long : (p : tie.Else-is_short) → too_short (start (first p)).args.table.now ((state (first p)).n * (state (first p)).n) ≡ false
+long p = sym p.before.is_short.ensures ∙ p.if-is_short.false
 
-abbrev second : tie.Else3 → tie.Else2
+abbrev second : tie.Else-not_finishable → tie.Else-is_short
 second p = p.before.before
 
-finishable : (p : tie.Else3) → cannot_finish (state (first (second p))) (start (first (second p))).args.s ≡ false
-finishable p = sym (cannot_is (state (first (second p))) _ _ p.before.not-finishable.ensures) ∙ p.if3.false
+finishable : (p : tie.Else-not_finishable) → cannot_finish (state (first (second p))) (start (first (second p))).args.s ≡ false
+finishable p = sym (cannot_is (state (first (second p))) _ _ p.before.not_finishable.ensures) ∙ p.if-not_finishable.false
 
 -- The step exists.
-inside : (p : tie.Else3) → (start (first (second p))).args.s < most_steps
+inside : (p : tie.Else-not_finishable) → (start (first (second p))).args.s < most_steps
 inside p = omega (arith, few (first (second p)), finishable_below (state (first (second p))) _ (finishable p))
 
-abbrev third : tie.Else4 → tie.Else3
+abbrev third : tie.Else-is_early → tie.Else-not_finishable
 third p = p.before.before
 
-late : (p : tie.Else4) → let q = first (second (third p)) in too_early (state q) (start q).args.s ≡ false
-late p = sym p.before.is-early.ensures ∙ p.if4.false
+late : (p : tie.Else-is_early) → let q = first (second (third p)) in too_early (state q) (start q).args.s ≡ false
+late p = sym p.before.is_early.ensures ∙ p.if-is_early.false
 
-is_idle_requires : tie.Need-is-idle-requires
-is_idle_requires c κs = search rules
+is_idle-requires : tie.Need-is_idle-requires
+is_idle-requires c κs = search rules
 
-refusal_requires : tie.Need-refusal-requires
-refusal_requires c κs = search rules
+refusal-requires : tie.Need-refusal-requires
+refusal-requires c κs = search rules
 
-returns : tie.Need-returns
-returns c = returns_as c.refusal.ensures (finish_idle _ _ _ (sym (running_is _ _ c.before.before.is-idle.ensures) ∙ c.before.if1.true))
+returns-then-is_idle : tie.Need-returns-then-is_idle
+returns-then-is_idle c = returns_as c.refusal.ensures (finish_idle _ _ _ (sym (running_is _ _ c.before.before.is_idle.ensures) ∙ c.before.if-is_idle.true))
 
-is_short_requires : tie.Need-is-short-requires
-is_short_requires c κs = few c
+is_short-requires : tie.Need-is_short-requires
+is_short-requires c κs = few c
 
-refusal_requires_2 : tie.Need-refusal-requires-2
-refusal_requires_2 c κs = search rules
+refusal-requires-then-is_short : tie.Need-refusal-requires-then-is_short
+refusal-requires-then-is_short c κs = search rules
 
-returns_2 : tie.Need-returns-2
-returns_2 c =
+returns-then-is_short : tie.Need-returns-then-is_short
+returns-then-is_idle-then-is_short c =
     let test = c.before.before in
-    returns_as c.refusal2.ensures (finish_short _ _ _ (running test.before) (sym test.is-short.ensures ∙ c.before.if2.true))
+    returns_as c.refusal-then-is_short.ensures (finish_short _ _ _ (running test.before) (sym test.is_short.ensures ∙ c.before.if-is_short.true))
 
-not_finishable_requires : tie.Need-not-finishable-requires
-not_finishable_requires c κs = few (first c)
+not_finishable-requires : tie.Need-not_finishable-requires
+not_finishable-requires c κs = few (first c)
 
-refusal_requires_3 : tie.Need-refusal-requires-3
-refusal_requires_3 c κs = search rules
+refusal-requires-then-not_finishable : tie.Need-refusal-requires-then-not_finishable
+refusal-requires-then-not_finishable c κs = search rules
 
-returns_3 : tie.Need-returns-3
-returns_3 c =
-    let test = c.before.before in
-    let p = test.before in
-    returns_as c.refusal3.ensures (finish_cannot _ _ _ (running (first p)) (long p) (sym (cannot_is _ _ _ test.not-finishable.ensures) ∙ c.before.if3.true))
-
-is_early_requires : tie.Need-is-early-requires
-is_early_requires c κs = inside c
-
-refusal_requires_4 : tie.Need-refusal-requires-4
-refusal_requires_4 c κs = search rules
-
-returns_4 : tie.Need-returns-4
-returns_4 c =
+returns-then-not_finishable : tie.Need-returns-then-not_finishable
+returns-then-is_idle-then-not_finishable c =
     let test = c.before.before in
     let p = test.before in
-    returns_as c.refusal4.ensures (finish_early _ _ _ (running (first (second p))) (long (second p)) (finishable p) (sym test.is-early.ensures ∙ c.before.if4.true))
+    returns_as c.refusal-then-not_finishable.ensures (finish_cannot _ _ _ (running (first p)) (long p) (sym (cannot_is _ _ _ test.not_finishable.ensures) ∙ c.before.if-not_finishable.true))
 
-ended_requires : tie.Need-ended-requires
-ended_requires c κs = inside (third c)
+is_early-requires : tie.Need-is_early-requires
+is_early-requires c κs = inside c
 
-sweep_requires : tie.Need-sweep-requires
+refusal-requires-then-is_early : tie.Need-refusal-requires-then-is_early
+refusal-requires-then-is_early c κs = search rules
+
+returns-then-is_early : tie.Need-returns-then-is_early
+returns-then-is_idle-then-is_early c =
+    let test = c.before.before in
+    let p = test.before in
+    returns_as c.refusal-then-is_early.ensures (finish_early _ _ _ (running (first (second p))) (long (second p)) (finishable p) (sym test.is_early.ensures ∙ c.before.if-is_early.true))
+
+ended-requires : tie.Need-ended-requires
+ended-requires c κs = inside (third c)
+
+sweep-requires : tie.Need-sweep-requires
 unfolding ended
-sweep_requires c κs =
+sweep-requires c κs =
     let p = second (third c.before) in
     room _ c.ended.ensures (few (first p)) (long_enough _ _ (long p))
 
-returns_5 : tie.Need-returns-5
-returns_5 c =
+returns : tie.Need-returns
+returns-then-is_idle c =
     let fourth = c.before.before in
     let p = second (third fourth) in
     swept_given c.sweep.ensures c.before.ended.ensures (finish_given _ _ _ (running (first p)) (long p) (finishable (third fourth)) (late fourth))
@@ -110,18 +110,18 @@ pub finish_spec : {M : Type 1} → statement M
 finish_spec =
     tie.close
     (tie.spec
-    is_idle_requires
-    refusal_requires
-    returns
-    is_short_requires
-    refusal_requires_2
-    returns_2
-    not_finishable_requires
-    refusal_requires_3
-    returns_3
-    is_early_requires
-    refusal_requires_4
-    returns_4
-    ended_requires
-    sweep_requires
-    returns_5)
+    is_idle-requires
+    refusal-requires
+    returns-then-is_idle
+    is_short-requires
+    refusal-requires-then-is_short
+    returns-then-is_idle-then-is_short
+    not_finishable-requires
+    refusal-requires-then-not_finishable
+    returns-then-is_idle-then-not_finishable
+    is_early-requires
+    refusal-requires-then-is_early
+    returns-then-is_idle-then-is_early
+    ended-requires
+    sweep-requires
+    returns-then-is_idle)

@@ -6,11 +6,11 @@ use borrow.Author.Rules.{rules}
 use Rattle.run_calls.proofs.fresh.Statement.{statement}
 use Rattle.run_calls.proofs.fresh.Tie as tie
 
-kept_leasts_requires : tie.Need-kept-leasts-requires
-kept_leasts_requires c κs = search rules
+kept_leasts-least-requires : tie.Need-kept_leasts-least-requires
+kept_leasts-least-requires c κs = search rules
 
 returns : tie.Need-returns
-returns c = fresh_with _ _ _ c.kept_leasts.ensures
+returns c = fresh_with _ _ _ c.kept_leasts-least.ensures
 
 pub fresh_spec : {M : Type 1} → statement M
-fresh_spec = tie.close (tie.spec kept_leasts_requires returns)
+fresh_spec = tie.close (tie.spec kept_leasts-least-requires returns)

@@ -4,20 +4,20 @@ use borrow.Author.Rules.{rules}
 use Rattle.run_calls.proofs.is_early.Statement.{statement}
 use Rattle.run_calls.proofs.is_early.Tie as tie
 
-mul_below_least : tie.Need-overflow-mul-below-least
-mul_below_least c = search rules
+offset_bounds-st-s : tie.Need-offset_bounds-st-s
+offset_bounds-st-s c = search rules
 
-element_copy_out_below_least : tie.Need-element-copy-out-below-least
-element_copy_out_below_least c = search rules
+bounds-st-s : tie.Need-bounds-st-s
+bounds-st-s c = search rules
 
-mul_below_least_2 : tie.Need-overflow-mul-below-least-2
-mul_below_least_2 c = search rules
+offset_bounds-st-s-2 : tie.Need-offset_bounds-st-s-2
+offset_bounds-st-s-2 c = search rules
 
-element_copy_out_below_least_2 : tie.Need-element-copy-out-below-least-2
-element_copy_out_below_least_2 c = search rules
+bounds-st-s-2 : tie.Need-bounds-st-s-2
+bounds-st-s-2 c = search rules
 
-below_least_requires : tie.Need-below-least-requires
-below_least_requires c κs = search rules
+below_least-requires : tie.Need-below_least-requires
+below_least-requires c κs = search rules
 
 returns : tie.Need-returns
 unfolding too_early
@@ -27,9 +27,9 @@ pub is_early_spec : {M : Type 1} → statement M
 is_early_spec =
     tie.close
     (tie.spec
-    mul_below_least
-    element_copy_out_below_least
-    mul_below_least_2
-    element_copy_out_below_least_2
-    below_least_requires
+    offset_bounds-st-s
+    bounds-st-s
+    offset_bounds-st-s-2
+    bounds-st-s-2
+    below_least-requires
     returns)

@@ -7,17 +7,17 @@ use borrow.Author.Rules.{rules}
 use Rattle.run_calls.proofs.is_idle.Statement.{statement}
 use Rattle.run_calls.proofs.is_idle.Tie as tie
 
-has_requires : tie.Need-has-requires
-has_requires c κs = search rules
+has-requires : tie.Need-has-requires
+has-requires c κs = search rules
+
+returns-then-not-has : tie.Need-returns-then-not-has
+returns-then-not-has c = sym (or_left _ (ap not (sym c.before.has.ensures) ∙ c.if-not-has.true))
+
+wrong_count-requires : tie.Need-wrong_count-requires
+wrong_count-requires c κs = search rules
 
 returns : tie.Need-returns
-returns c = sym (or_left _ (ap not (sym c.before.has.ensures) ∙ c.if1.true))
-
-wrong_count_requires : tie.Need-wrong-count-requires
-wrong_count_requires c κs = search rules
-
-returns_2 : tie.Need-returns-2
-returns_2 c = c.wrong-count.ensures ∙ sym (or_past _ (ap not (sym c.before.before.has.ensures) ∙ c.before.if1.false))
+returns-then-not-has c = c.wrong_count.ensures ∙ sym (or_past _ (ap not (sym c.before.before.has.ensures) ∙ c.before.if-not-has.false))
 
 pub is_idle_spec : {M : Type 1} → statement M
-is_idle_spec = tie.close (tie.spec has_requires returns wrong_count_requires returns_2)
+is_idle_spec = tie.close (tie.spec has-requires returns-then-not-has wrong_count-requires returns-then-not-has)

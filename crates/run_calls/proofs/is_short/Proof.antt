@@ -6,12 +6,12 @@ use native.Mathlib.Omega.{arith}
 use Rattle.run_calls.proofs.is_short.Statement.{statement}
 use Rattle.run_calls.proofs.is_short.Tie as tie
 
-mul_size : tie.Need-overflow-mul-size
-mul_size c = omega (arith, square_small _ c.requires)
+overflow_mul-size : tie.Need-overflow_mul-size
+overflow_mul-size c = omega (arith, square_small _ c.requires)
 
 returns : tie.Need-returns
 unfolding too_short
 returns c = search rules
 
 pub is_short_spec : {M : Type 1} → statement M
-is_short_spec = tie.close (tie.spec mul_size returns)
+is_short_spec = tie.close (tie.spec overflow_mul-size returns)

@@ -5,54 +5,54 @@ use borrow.Author.Rules.{rules}
 use Rattle.run_calls.proofs.kept_leasts.Statement.{statement}
 use Rattle.run_calls.proofs.kept_leasts.Tie as tie
 
-abbrev invariant-loop : tie.invariant-loop
-invariant-loop n leasts least₀ i₀ least i = KeptBelow n leasts least i
+abbrev invariant-loop-i : tie.invariant-loop-i
+invariant-loop-i n leasts least₀ i₀ least i = KeptBelow n leasts least i
 
-abbrev decreases-loop : tie.decreases-loop
-decreases-loop n leasts least₀ i₀ least i = n - i
+abbrev decreases-loop-i : tie.decreases-loop-i
+decreases-loop-i n leasts least₀ i₀ least i = n - i
 
-loop_holds : tie.Need-loop-init invariant-loop decreases-loop
-loop_holds c = kept_none
+loop-i-init : tie.Need-loop-i-init invariant-loop-i decreases-loop-i
+loop-i-init c = kept_none
 
-mul_least : tie.Need-overflow-mul-least invariant-loop decreases-loop
-mul_least c = search rules
+offset_bounds-leasts-i : tie.Need-offset_bounds-leasts-i invariant-loop-i decreases-loop-i
+offset_bounds-leasts-i c = search rules
 
-shared_slice_read_least : tie.Need-shared-slice-read-least invariant-loop decreases-loop
-shared_slice_read_least c = search rules
+bounds-leasts-i : tie.Need-bounds-leasts-i invariant-loop-i decreases-loop-i
+bounds-leasts-i c = search rules
 
-mul_least_2 : tie.Need-overflow-mul-least-2 invariant-loop decreases-loop
-mul_least_2 c = search rules
+offset_bounds-least-i : tie.Need-offset_bounds-least-i invariant-loop-i decreases-loop-i
+offset_bounds-least-i c = search rules
 
-array_write_least : tie.Need-array-write-least invariant-loop decreases-loop
-array_write_least c = search rules
+bounds-least-i : tie.Need-bounds-least-i invariant-loop-i decreases-loop-i
+bounds-least-i c = search rules
 
-add_i : tie.Need-overflow-add-i invariant-loop decreases-loop
-add_i c = search rules
+overflow_add-i : tie.Need-overflow_add-i invariant-loop-i decreases-loop-i
+overflow_add-i c = search rules
 
-loop_less : tie.Need-loop-smaller invariant-loop decreases-loop
-loop_less c = search rules
+loop-i-smaller : tie.Need-loop-i-smaller invariant-loop-i decreases-loop-i
+loop-i-smaller c = search rules
 
-loop_again : tie.Need-loop-preserved invariant-loop decreases-loop
-loop_again c =
+loop-i-preserved : tie.Need-loop-i-preserved invariant-loop-i decreases-loop-i
+loop-i-preserved c =
     let turn = c.before in
     let l = turn.before in
-    kept_next l.before.requires l.loop.invariant turn.loop-test.true
+    kept_next l.before.requires l.loop-i.invariant turn.loop-i-test.true
 
-returns : tie.Need-returns invariant-loop decreases-loop
-returns c = kept_all c.before.loop.invariant c.loop-test.false
+returns : tie.Need-returns invariant-loop-i decreases-loop-i
+returns c = kept_all c.before.loop-i.invariant c.loop-i-test.false
 
 pub kept_leasts_spec : {M : Type 1} → statement M
 kept_leasts_spec =
     tie.close
     (tie.spec
-    invariant-loop
-    decreases-loop
-    loop_holds
-    mul_least
-    shared_slice_read_least
-    mul_least_2
-    array_write_least
-    add_i
-    loop_less
-    loop_again
+    invariant-loop-i
+    decreases-loop-i
+    loop-i-init
+    offset_bounds-leasts-i
+    bounds-leasts-i
+    offset_bounds-least-i
+    bounds-least-i
+    overflow_add-i
+    loop-i-smaller
+    loop-i-preserved
     returns)

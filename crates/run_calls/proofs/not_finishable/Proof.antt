@@ -6,48 +6,48 @@ use borrow.Author.Rules.{rules}
 use Rattle.run_calls.proofs.not_finishable.Statement.{statement}
 use Rattle.run_calls.proofs.not_finishable.Tie as tie
 
-returns : tie.Need-returns
-returns c = cannot_source _ _ _ _ _ c.if1.true
+returns-then-s-eq0 : tie.Need-returns-then-s-eq0
+returns-then-s-eq0 c = cannot_source _ _ _ _ _ c.if-s-eq0.true
 
-returns_2 : tie.Need-returns-2
-returns_2 c = cannot_past _ _ _ _ _ c.before.if1.false c.if2.true
+returns-then-n-s : tie.Need-returns-then-n-s
+returns-then-s-eq0-then-n-s c = cannot_past _ _ _ _ _ c.before.if-s-eq0.false c.if-n-s.true
 
-has_requires : tie.Need-has-requires
-has_requires c κs = search rules
+has-requires : tie.Need-has-requires
+has-requires c κs = search rules
 
-returns_3 : tie.Need-returns-3
-returns_3 c =
+returns-then-not-has : tie.Need-returns-then-not-has
+returns-then-s-eq0-then-not-has c =
     let p = c.before.before in
-    cannot_fixed _ _ _ _ _ p.before.if1.false p.if2.false (ap not (sym c.before.has.ensures) ∙ c.if3.true)
+    cannot_fixed _ _ _ _ _ p.before.if-s-eq0.false p.if-n-s.false (ap not (sym c.before.has.ensures) ∙ c.if-not-has.true)
 
-has_requires_2 : tie.Need-has-requires-2
-has_requires_2 c κs = search rules
+has-requires-2 : tie.Need-has-requires-2
+has-requires-2 c κs = search rules
 
-returns_4 : tie.Need-returns-4
-returns_4 c =
+returns-then-not-has-2 : tie.Need-returns-then-not-has-2
+returns-then-s-eq0-then-not-has-2 c =
     let p = c.before.before in
     let q = p.before.before in
-    cannot_early _ _ _ _ _ q.before.if1.false q.if2.false (ap not (sym p.before.has.ensures) ∙ p.if3.false) (ap not (sym c.before.has2.ensures) ∙ c.if4.true)
+    cannot_early _ _ _ _ _ q.before.if-s-eq0.false q.if-n-s.false (ap not (sym p.before.has.ensures) ∙ p.if-not-has.false) (ap not (sym c.before.has-2.ensures) ∙ c.if-not-has-2.true)
 
-has_requires_3 : tie.Need-has-requires-3
-has_requires_3 c κs = search rules
+has-requires-3 : tie.Need-has-requires-3
+has-requires-3 c κs = search rules
 
-returns_5 : tie.Need-returns-5
-returns_5 c =
+returns : tie.Need-returns
+returns-then-s-eq0 c =
     let p = c.before.before.before in
     let q = p.before.before in
-    c.has3.ensures
-    ∙ cannot_twice _ _ _ _ _ q.before.if1.false q.if2.false (ap not (sym p.before.has.ensures) ∙ p.if3.false) (ap not (sym c.before.before.has2.ensures) ∙ c.before.if4.false)
+    c.has-3.ensures
+    ∙ cannot_twice _ _ _ _ _ q.before.if-s-eq0.false q.if-n-s.false (ap not (sym p.before.has.ensures) ∙ p.if-not-has.false) (ap not (sym c.before.before.has-2.ensures) ∙ c.before.if-not-has-2.false)
 
 pub not_finishable_spec : {M : Type 1} → statement M
 not_finishable_spec =
     tie.close
     (tie.spec
-    returns
-    returns_2
-    has_requires
-    returns_3
-    has_requires_2
-    returns_4
-    has_requires_3
-    returns_5)
+    returns-then-s-eq0
+    returns-then-s-eq0-then-n-s
+    has-requires
+    returns-then-s-eq0-then-not-has
+    has-requires-2
+    returns-then-s-eq0-then-not-has-2
+    has-requires-3
+    returns-then-s-eq0)

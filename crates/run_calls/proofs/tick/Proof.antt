@@ -12,83 +12,83 @@ use Rattle.run_calls.proofs.tick.Statement.{statement}
 use Rattle.run_calls.proofs.tick.Tie as tie
 
 -- What is known once a test has failed: past the first a run is on, past the second the table is long enough.
-abbrev start : tie.Else1 → tie.Start
+abbrev start : tie.Else-is_idle → tie.Start
 start p = p.before.before.before
 
-abbrev state : tie.Else1 → State
+abbrev state : tie.Else-is_idle → State
 state p = (start p).args.st
 
-running : (p : tie.Else1) → not_running (state p) ≡ false
-running p = sym (running_is (state p) _ p.before.is-idle.ensures) ∙ p.if1.false
+running : (p : tie.Else-is_idle) → not_running (state p) ≡ false
+running p = sym (running_is (state p) _ p.before.is_idle.ensures) ∙ p.if-is_idle.false
 
-few : (p : tie.Else1) → (state p).n ≤ most_steps
+few : (p : tie.Else-is_idle) → (state p).n ≤ most_steps
 few p = running_count (state p) (running p)
 
-abbrev first : tie.Else2 → tie.Else1
+abbrev first : tie.Else-is_short → tie.Else-is_idle
 first p = p.before.before
 
-long : (p : tie.Else2) → too_short (start (first p)).args.table.now ((state (first p)).n * (state (first p)).n) ≡ false
-long p = sym p.before.is-short.ensures ∙ p.if2.false
+long : (p : tie.Else-is_short) → too_short (start (first p)).args.table.now ((state (first p)).n * (state (first p)).n) ≡ false
+long p = sym p.before.is_short.ensures ∙ p.if-is_short.false
 
 -- From the third test on.
-abbrev second : tie.Else3 → tie.Else2
+abbrev second : tie.Else-st-eq-LAST_TICK → tie.Else-is_short
 second p = p.before.before
 
-is_idle_requires : tie.Need-is-idle-requires
-is_idle_requires c κs = search rules
+is_idle-requires : tie.Need-is_idle-requires
+is_idle-requires c κs = search rules
 
-refusal_requires : tie.Need-refusal-requires
-refusal_requires c κs = search rules
+refusal-requires : tie.Need-refusal-requires
+refusal-requires c κs = search rules
 
-returns : tie.Need-returns
-returns c = returns_as c.refusal.ensures (tick_idle _ _ (sym (running_is _ _ c.before.before.is-idle.ensures) ∙ c.before.if1.true))
+returns-then-is_idle : tie.Need-returns-then-is_idle
+returns-then-is_idle c = returns_as c.refusal.ensures (tick_idle _ _ (sym (running_is _ _ c.before.before.is_idle.ensures) ∙ c.before.if-is_idle.true))
 
-is_short_requires : tie.Need-is-short-requires
-is_short_requires c κs = few c
+is_short-requires : tie.Need-is_short-requires
+is_short-requires c κs = few c
 
-refusal_requires_2 : tie.Need-refusal-requires-2
-refusal_requires_2 c κs = search rules
+refusal-requires-then-is_short : tie.Need-refusal-requires-then-is_short
+refusal-requires-then-is_short c κs = search rules
 
-returns_2 : tie.Need-returns-2
-returns_2 c =
+returns-then-is_short : tie.Need-returns-then-is_short
+returns-then-is_idle-then-is_short c =
     let test = c.before.before in
-    returns_as c.refusal2.ensures (tick_short _ _ (running test.before) (sym test.is-short.ensures ∙ c.before.if2.true))
+    returns_as c.refusal-then-is_short.ensures (tick_short _ _ (running test.before) (sym test.is_short.ensures ∙ c.before.if-is_short.true))
 
-refusal_requires_3 : tie.Need-refusal-requires-3
-refusal_requires_3 c κs = search rules
+refusal-requires-then-st-eq-LAST_TICK : tie.Need-refusal-requires-then-st-eq-LAST_TICK
+refusal-requires-then-st-eq-LAST_TICK c κs = search rules
 
-returns_3 : tie.Need-returns-3
-returns_3 c =
+returns-then-st-eq-LAST_TICK : tie.Need-returns-then-st-eq-LAST_TICK
+returns-then-is_idle-then-st-eq-LAST_TICK c =
     let p = c.before.before.before in
-    returns_as c.refusal3.ensures (tick_end _ _ (running (first p)) (long p) c.before.if3.true)
+    returns_as c.refusal-then-st-eq-LAST_TICK.ensures (tick_end _ _ (running (first p)) (long p) c.before.if-st-eq-LAST_TICK.true)
 
-ticked_requires : tie.Need-ticked-requires
-ticked_requires c κs = search rules
+ticked-requires : tie.Need-ticked-requires
+ticked-requires c κs = search rules
 
-sweep_requires : tie.Need-sweep-requires
+sweep-requires : tie.Need-sweep-requires
 unfolding ticked
-sweep_requires c κs =
+sweep-requires c κs =
     let p = second c.before in
     room _ c.ticked.ensures (few (first p)) (long_enough _ _ (long p))
 
-returns_4 : tie.Need-returns-4
-returns_4 c =
+returns : tie.Need-returns
+returns-then-is_idle c =
     let third = c.before.before in
     let p = second third in
-    swept_given c.sweep.ensures c.before.ticked.ensures (tick_given _ _ (running (first p)) (long p) third.if3.false)
+    swept_given c.sweep.ensures c.before.ticked.ensures (tick_given _ _ (running (first p)) (long p) third.if-st-eq-LAST_TICK.false)
 
 pub tick_spec : {M : Type 1} → statement M
 tick_spec =
     tie.close
     (tie.spec
-    is_idle_requires
-    refusal_requires
-    returns
-    is_short_requires
-    refusal_requires_2
-    returns_2
-    refusal_requires_3
-    returns_3
-    ticked_requires
-    sweep_requires
-    returns_4)
+    is_idle-requires
+    refusal-requires
+    returns-then-is_idle
+    is_short-requires
+    refusal-requires-then-is_short
+    returns-then-is_idle-then-is_short
+    refusal-requires-then-st-eq-LAST_TICK
+    returns-then-is_idle-then-st-eq-LAST_TICK
+    ticked-requires
+    sweep-requires
+    returns-then-is_idle)

@@ -7,15 +7,15 @@ use borrow.Author.Rules.{rules}
 use Rattle.run_calls.proofs.too_little.Statement.{statement}
 use Rattle.run_calls.proofs.too_little.Tie as tie
 
-is_short_requires : tie.Need-is-short-requires
-is_short_requires c κs = search rules
+is_short-requires : tie.Need-is_short-requires
+is_short-requires c κs = search rules
+
+returns-then-is_short : tie.Need-returns-then-is_short
+returns-then-is_short c = sym (or_left _ (sym c.before.is_short.ensures ∙ c.if-is_short.true))
 
 returns : tie.Need-returns
-returns c = sym (or_left _ (sym c.before.is-short.ensures ∙ c.if1.true))
-
-returns_2 : tie.Need-returns-2
 unfolding too_short
-returns_2 c = sym (or_past _ (sym c.before.is-short.ensures ∙ c.if1.false))
+returns-then-is_short c = sym (or_past _ (sym c.before.is_short.ensures ∙ c.if-is_short.false))
 
 pub too_little_spec : {M : Type 1} → statement M
-too_little_spec = tie.close (tie.spec is_short_requires returns returns_2)
+too_little_spec = tie.close (tie.spec is_short-requires returns-then-is_short returns-then-is_short)

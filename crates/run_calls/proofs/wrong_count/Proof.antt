@@ -3,11 +3,11 @@ use Rattle.run_calls.proofs.CallLaws.{count_low, count_high}
 use Rattle.run_calls.proofs.wrong_count.Statement.{statement}
 use Rattle.run_calls.proofs.wrong_count.Tie as tie
 
-returns : tie.Need-returns
-returns c = count_low _ c.if1.true
+returns-then-n-lt1 : tie.Need-returns-then-n-lt1
+returns-then-n-lt1 c = count_low _ c.if-n-lt1.true
 
-returns_2 : tie.Need-returns-2
-returns_2 c = count_high _ c.if1.false
+returns : tie.Need-returns
+returns-then-n-lt1 c = count_high _ c.if-n-lt1.false
 
 pub wrong_count_spec : {M : Type 1} → statement M
-wrong_count_spec = tie.close (tie.spec returns returns_2)
+wrong_count_spec = tie.close (tie.spec returns-then-n-lt1 returns-then-n-lt1)

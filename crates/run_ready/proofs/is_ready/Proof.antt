@@ -9,55 +9,55 @@ use Rattle.run_ready.proofs.is_ready.Statement.{statement}
 use Rattle.run_ready.proofs.is_ready.Tie as tie
 
 -- From where the step has not started: the start, and that its row ends within the longest table.
-abbrev start : tie.Else1 → tie.Start
+abbrev start : tie.Else-has → tie.Start
 start p = p.before.before.before
 
-small : (p : tie.Else1) → (start p).args.v * (start p).args.n + (start p).args.n ≤ longest_table
+small : (p : tie.Else-has) → (start p).args.v * (start p).args.n + (start p).args.n ≤ longest_table
 small p = row_small (start p).args.n (start p).args.v (start p).requires.few (start p).requires.exists
 
-has_requires : tie.Need-has-requires
-has_requires c κs = search rules
+has-requires : tie.Need-has-requires
+has-requires c κs = search rules
+
+returns-then-has : tie.Need-returns-then-has
+returns-then-has c = sym (ready_started _ _ _ _ _ _ _ (sym c.before.has.ensures ∙ c.if-has.true))
+
+overflow_mul-at : tie.Need-overflow_mul-at
+overflow_mul-at c = omega (arith, small c)
+
+overflow_add-end : tie.Need-overflow_add-end
+overflow_add-end c = omega (arith, small c)
+
+offset_bounds-table-at : tie.Need-offset_bounds-table-at
+offset_bounds-table-at c = omega (arith, small c)
+
+slice_bounds-row_due-count : tie.Need-slice_bounds-row_due-count
+slice_bounds-row_due-count c = search rules
+
+slice_bounds-row_due-start : tie.Need-slice_bounds-row_due-start
+slice_bounds-row_due-start c = search rules
+
+slice_bounds-row_due-end : tie.Need-slice_bounds-row_due-end
+slice_bounds-row_due-end c = let s = start c in row_inside s.args.n s.args.v _ s.pre.exists s.pre.long
+
+row_due-requires : tie.Need-row_due-requires
+row_due-requires c κs = search rules
 
 returns : tie.Need-returns
-returns c = sym (ready_started _ _ _ _ _ _ _ (sym c.before.has.ensures ∙ c.if1.true))
-
-mul_at : tie.Need-overflow-mul-at
-mul_at c = omega (arith, small c)
-
-add_end : tie.Need-overflow-add-end
-add_end c = omega (arith, small c)
-
-mul_row_due : tie.Need-overflow-mul-row-due
-mul_row_due c = omega (arith, small c)
-
-sub_row_due : tie.Need-overflow-sub-row-due
-sub_row_due c = search rules
-
-part_row_due_start : tie.Need-slice-bounds-row-due-start
-part_row_due_start c = search rules
-
-part_row_due_end : tie.Need-slice-bounds-row-due-end
-part_row_due_end c = let s = start c in row_inside s.args.n s.args.v _ s.pre.exists s.pre.long
-
-row_due_requires : tie.Need-row-due-requires
-row_due_requires c κs = search rules
-
-returns_2 : tie.Need-returns-2
-returns_2 c =
+returns-then-has c =
     let p = c.before.before in
-    c.row-due.ensures ∙ ready_part _ _ _ _ _ _ _ (sym p.before.has.ensures ∙ p.if1.false) (start p).requires.exists (start p).requires.long
+    c.row_due.ensures ∙ ready_part _ _ _ _ _ _ _ (sym p.before.has.ensures ∙ p.if-has.false) (start p).requires.exists (start p).requires.long
 
 pub is_ready_spec : {M : Type 1} → statement M
 is_ready_spec =
     tie.close
     (tie.spec
-    has_requires
-    returns
-    mul_at
-    add_end
-    mul_row_due
-    sub_row_due
-    part_row_due_start
-    part_row_due_end
-    row_due_requires
-    returns_2)
+    has-requires
+    returns-then-has
+    overflow_mul-at
+    overflow_add-end
+    offset_bounds-table-at
+    slice_bounds-row_due-count
+    slice_bounds-row_due-start
+    slice_bounds-row_due-end
+    row_due-requires
+    returns-then-has)

@@ -9,59 +9,59 @@ use borrow.Author.Rules.{rules}
 use Rattle.run_ready.proofs.row_due.Statement.{statement}
 use Rattle.run_ready.proofs.row_due.Tie as tie
 
-abbrev invariant-loop : tie.invariant-loop
-invariant-loop row finished finish clock named₀ a₀ named a = Passed finished finish clock row named a
+abbrev invariant-loop-a : tie.invariant-loop-a
+invariant-loop-a row finished finish clock named₀ a₀ named a = Passed finished finish clock row named a
 
-abbrev decreases-loop : tie.decreases-loop
-decreases-loop row finished finish clock named₀ a₀ named a = length row - a
+abbrev decreases-loop-a : tie.decreases-loop-a
+decreases-loop-a row finished finish clock named₀ a₀ named a = length row - a
 
-loop_holds : tie.Need-loop-init invariant-loop decreases-loop
-loop_holds c = passed_none
+loop-a-init : tie.Need-loop-a-init invariant-loop-a decreases-loop-a
+loop-a-init c = passed_none
 
-mul_offset : tie.Need-overflow-mul-offset invariant-loop decreases-loop
-mul_offset c = search rules
+offset_bounds-row-a : tie.Need-offset_bounds-row-a invariant-loop-a decreases-loop-a
+offset_bounds-row-a c = search rules
 
-shared_slice_read_offset : tie.Need-shared-slice-read-offset invariant-loop decreases-loop
-shared_slice_read_offset c = search rules
+bounds-row-a : tie.Need-bounds-row-a invariant-loop-a decreases-loop-a
+bounds-row-a c = search rules
 
-is_due_requires : tie.Need-is-due-requires invariant-loop decreases-loop
-is_due_requires c κs = search rules
+is_due-requires : tie.Need-is_due-requires invariant-loop-a decreases-loop-a
+is_due-requires c κs = search rules
 
-returns : tie.Need-returns invariant-loop decreases-loop
-returns c =
+returns-then-not-is_due : tie.Need-returns-then-not-is_due invariant-loop-a decreases-loop-a
+returns-then-not-is_due c =
     let a = c.before.before.before.before.before in
-    sym (not_due a.loop.invariant c.before.before.before.before.loop-test.true c.before.before.if1.true (sym c.before.is-due.ensures ∙ not-true _ c.if2.true))
+    sym (not_due a.loop-a.invariant c.before.before.before.before.loop-a-test.true c.before.before.if-offset.true (sym c.before.is_due.ensures ∙ not-true _ c.if-not-is_due.true))
 
-add_a : tie.Need-overflow-add-a invariant-loop decreases-loop
-add_a c = search rules
+overflow_add-a : tie.Need-overflow_add-a invariant-loop-a decreases-loop-a
+overflow_add-a c = search rules
 
-loop_less : tie.Need-loop-smaller invariant-loop decreases-loop
-loop_less c = search rules
+loop-a-smaller : tie.Need-loop-a-smaller invariant-loop-a decreases-loop-a
+loop-a-smaller c = search rules
 
-loop_again : tie.Need-loop-preserved invariant-loop decreases-loop
-loop_again c =
+loop-a-preserved : tie.Need-loop-a-preserved invariant-loop-a decreases-loop-a
+loop-a-preserved c =
     let a = c.before.before.before in
-    let h = c.before.before.loop-test.true in
+    let h = c.before.before.loop-a-test.true in
     ⊎_elim
-    (λ w. rw w.3 (passed_due a.loop.invariant h w.0.taken (sym w.1.ensures ∙ not-false _ w.2.left)))
-    (λ w. rw w.1 (passed_over a.loop.invariant h w.0.left))
-    c.if1.branch
+    (λ w. rw w.3 (passed_due a.loop-a.invariant h w.0.taken (sym w.1.ensures ∙ not-false _ w.2.left)))
+    (λ w. rw w.1 (passed_over a.loop-a.invariant h w.0.left))
+    c.if-offset.branch
 
-returns_2 : tie.Need-returns-2 invariant-loop decreases-loop
-returns_2 c = passed_all c.before.loop.invariant c.loop-test.false
+returns : tie.Need-returns invariant-loop-a decreases-loop-a
+returns-then-not-is_due c = passed_all c.before.loop-a.invariant c.loop-a-test.false
 
 pub row_due_spec : {M : Type 1} → statement M
 row_due_spec =
     tie.close
     (tie.spec
-    invariant-loop
-    decreases-loop
-    loop_holds
-    mul_offset
-    shared_slice_read_offset
-    is_due_requires
-    returns
-    add_a
-    loop_less
-    loop_again
-    returns_2)
+    invariant-loop-a
+    decreases-loop-a
+    loop-a-init
+    offset_bounds-row-a
+    bounds-row-a
+    is_due-requires
+    returns-then-not-is_due
+    overflow_add-a
+    loop-a-smaller
+    loop-a-preserved
+    returns-then-not-is_due)

@@ -4,11 +4,11 @@ use Rattle.laws.proofs.Maps.{one_shl}
 use Rattle.run_release.proofs.power.Statement.{statement}
 use Rattle.run_release.proofs.power.Tie as tie
 
-shl_result : tie.Need-overflow-shl-result
-shl_result c = search rules
+overflow_shl-result : tie.Need-overflow_shl-result
+overflow_shl-result c = search rules
 
 returns : tie.Need-returns
 returns c = one_shl _ (search rules)
 
 pub power_spec : {M : Type 1} → statement M
-power_spec = tie.close (tie.spec shl_result returns)
+power_spec = tie.close (tie.spec overflow_shl-result returns)

@@ -7,65 +7,65 @@ use borrow.Author.Rules.{rules}
 use Rattle.run_release.proofs.starting_now.Statement.{statement}
 use Rattle.run_release.proofs.starting_now.Tie as tie
 
-abbrev invariant-loop : tie.invariant-loop
-invariant-loop table st n clock started finished start₀ map₀ v₀ start map v = SweptBelow st table start map v
+abbrev invariant-loop-v : tie.invariant-loop-v
+invariant-loop-v table st n clock started finished start₀ map₀ v₀ start map v = SweptBelow st table start map v
 
-abbrev decreases-loop : tie.decreases-loop
-decreases-loop table st n clock started finished start₀ map₀ v₀ start map v = n - v
+abbrev decreases-loop-v : tie.decreases-loop-v
+decreases-loop-v table st n clock started finished start₀ map₀ v₀ start map v = n - v
 
-loop_holds : tie.Need-loop-init invariant-loop decreases-loop
-loop_holds c = swept_none
+loop-v-init : tie.Need-loop-v-init invariant-loop-v decreases-loop-v
+loop-v-init c = swept_none
 
-is_ready_requires : tie.Need-is-ready-requires invariant-loop decreases-loop
-is_ready_requires c κs = search rules
+is_ready-requires : tie.Need-is_ready-requires invariant-loop-v decreases-loop-v
+is_ready-requires c κs = search rules
 
-power_requires : tie.Need-power-requires invariant-loop decreases-loop
-power_requires c κs = search rules
+power-map-requires : tie.Need-power-map-requires invariant-loop-v decreases-loop-v
+power-map-requires c κs = search rules
 
-add_map : tie.Need-overflow-add-map invariant-loop decreases-loop
-add_map c =
+overflow_add-map : tie.Need-overflow_add-map invariant-loop-v decreases-loop-v
+overflow_add-map c =
     let turn = c.before.before.before.before.before in
     let l = turn.before in
-    record { fits = swept_fits l.loop.invariant turn.loop-test.true l.before.before.before.requires.few c.power.ensures }
+    record { fits = swept_fits l.loop-v.invariant turn.loop-v-test.true l.before.before.before.requires.few c.power-map.ensures }
 
-mul_start : tie.Need-overflow-mul-start invariant-loop decreases-loop
-mul_start c = search rules
+offset_bounds-start-v : tie.Need-offset_bounds-start-v invariant-loop-v decreases-loop-v
+offset_bounds-start-v c = search rules
 
-array_write_start : tie.Need-array-write-start invariant-loop decreases-loop
-array_write_start c = search rules
+bounds-start-v : tie.Need-bounds-start-v invariant-loop-v decreases-loop-v
+bounds-start-v c = search rules
 
-add_v : tie.Need-overflow-add-v invariant-loop decreases-loop
-add_v c = search rules
+overflow_add-v : tie.Need-overflow_add-v invariant-loop-v decreases-loop-v
+overflow_add-v c = search rules
 
-loop_less : tie.Need-loop-smaller invariant-loop decreases-loop
-loop_less c = search rules
+loop-v-smaller : tie.Need-loop-v-smaller invariant-loop-v decreases-loop-v
+loop-v-smaller c = search rules
 
-loop_again : tie.Need-loop-preserved invariant-loop decreases-loop
-loop_again c =
+loop-v-preserved : tie.Need-loop-v-preserved invariant-loop-v decreases-loop-v
+loop-v-preserved c =
     let turn = c.before.before.before.before in
     let l = turn.before in
-    let h = turn.loop-test.true in
+    let h = turn.loop-v-test.true in
     ⊎_elim
-    (λ w. rw (w.2, w.3) (swept_start l.loop.invariant h (sym c.before.is-ready.ensures ∙ w.0.taken) w.1.ensures))
-    (λ w. rw (w.1, w.2) (swept_over l.loop.invariant h (sym c.before.is-ready.ensures ∙ w.0.left)))
-    c.if1.branch
+    (λ w. rw (w.2, w.3) (swept_start l.loop-v.invariant h (sym c.before.is_ready.ensures ∙ w.0.taken) w.1.ensures))
+    (λ w. rw (w.1, w.2) (swept_over l.loop-v.invariant h (sym c.before.is_ready.ensures ∙ w.0.left)))
+    c.if-is_ready.branch
 
-returns : tie.Need-returns invariant-loop decreases-loop
-returns c = (swept_map c.before.loop.invariant c.loop-test.false, swept_ticks c.before.loop.invariant c.loop-test.false)
+returns : tie.Need-returns invariant-loop-v decreases-loop-v
+returns c = (swept_map c.before.loop-v.invariant c.loop-v-test.false, swept_ticks c.before.loop-v.invariant c.loop-v-test.false)
 
 pub starting_now_spec : {M : Type 1} → statement M
 starting_now_spec =
     tie.close
     (tie.spec
-    invariant-loop
-    decreases-loop
-    loop_holds
-    is_ready_requires
-    power_requires
-    add_map
-    mul_start
-    array_write_start
-    add_v
-    loop_less
-    loop_again
+    invariant-loop-v
+    decreases-loop-v
+    loop-v-init
+    is_ready-requires
+    power-map-requires
+    overflow_add-map
+    offset_bounds-start-v
+    bounds-start-v
+    overflow_add-v
+    loop-v-smaller
+    loop-v-preserved
     returns)

@@ -4,11 +4,11 @@ use borrow.Author.Rules.{rules}
 use Rattle.run_release.proofs.sweep.Statement.{statement}
 use Rattle.run_release.proofs.sweep.Tie as tie
 
-starting_now_requires : tie.Need-starting-now-requires
-starting_now_requires c κs = search rules
+starting_now-s-requires : tie.Need-starting_now-s-requires
+starting_now-s-requires c κs = search rules
 
 returns : tie.Need-returns
-returns c = swept_now _ _ c.before.before.starting-now.ensures.0 c.before.before.starting-now.ensures.1
+returns c = swept_now _ _ c.before.before.starting_now-s.ensures.0 c.before.before.starting_now-s.ensures.1
 
 pub sweep_spec : {M : Type 1} → statement M
-sweep_spec = tie.close (tie.spec starting_now_requires returns)
+sweep_spec = tie.close (tie.spec starting_now-s-requires returns)

@@ -9,59 +9,59 @@ use borrow.Author.Rules.{rules}
 use Rattle.run_sheet.proofs.copy_leasts.Statement.{statement}
 use Rattle.run_sheet.proofs.copy_leasts.Tie as tie
 
-abbrev invariant-loop : tie.invariant-loop
-invariant-loop held n leasts₀ i₀ leasts i = (i ≤ n) × (length leasts ≡ length leasts₀) × (leasts ≡ laid (leasts_in held) i leasts₀)
+abbrev invariant-loop-i : tie.invariant-loop-i
+invariant-loop-i held n leasts₀ i₀ leasts i = (i ≤ n) × (length leasts ≡ length leasts₀) × (leasts ≡ laid (leasts_in held) i leasts₀)
 
-abbrev decreases-loop : tie.decreases-loop
-decreases-loop held n leasts₀ i₀ leasts i = n - i
+abbrev decreases-loop-i : tie.decreases-loop-i
+decreases-loop-i held n leasts₀ i₀ leasts i = n - i
 
-loop_holds : tie.Need-loop-init invariant-loop decreases-loop
-loop_holds c = (omega arith, refl, laid_none _ _)
+loop-i-init : tie.Need-loop-i-init invariant-loop-i decreases-loop-i
+loop-i-init c = (omega arith, refl, laid_none _ _)
 
-mul_least : tie.Need-overflow-mul-least invariant-loop decreases-loop
-mul_least c = search rules
+offset_bounds-held-i : tie.Need-offset_bounds-held-i invariant-loop-i decreases-loop-i
+offset_bounds-held-i c = search rules
 
-element_copy_out_least : tie.Need-element-copy-out-least invariant-loop decreases-loop
-element_copy_out_least c = search rules
+bounds-held-i : tie.Need-bounds-held-i invariant-loop-i decreases-loop-i
+bounds-held-i c = search rules
 
-mul_leasts : tie.Need-overflow-mul-leasts invariant-loop decreases-loop
-mul_leasts c = search rules
+offset_bounds-leasts-i : tie.Need-offset_bounds-leasts-i invariant-loop-i decreases-loop-i
+offset_bounds-leasts-i c = search rules
 
-slice_write_leasts : tie.Need-slice-write-leasts invariant-loop decreases-loop
-slice_write_leasts c = search rules
+bounds-leasts-i : tie.Need-bounds-leasts-i invariant-loop-i decreases-loop-i
+bounds-leasts-i c = search rules
 
-add_i : tie.Need-overflow-add-i invariant-loop decreases-loop
-add_i c = search rules
+overflow_add-i : tie.Need-overflow_add-i invariant-loop-i decreases-loop-i
+overflow_add-i c = search rules
 
-loop_less : tie.Need-loop-smaller invariant-loop decreases-loop
-loop_less c = search rules
+loop-i-smaller : tie.Need-loop-i-smaller invariant-loop-i decreases-loop-i
+loop-i-smaller c = search rules
 
-loop_again : tie.Need-loop-preserved invariant-loop decreases-loop
-loop_again c =
+loop-i-preserved : tie.Need-loop-i-preserved invariant-loop-i decreases-loop-i
+loop-i-preserved c =
     let s = c.before.before in
-    (omega arith, simp length-set s.loop.invariant.1, laid_more _ _ _ _ _ 0 (omega arith) s.loop.invariant.2 refl)
+    (omega arith, simp length-set s.loop-i.invariant.1, laid_more _ _ _ _ _ 0 (omega arith) s.loop-i.invariant.2 refl)
 
-same_length : tie.Need-same-length invariant-loop decreases-loop
-same_length c = search rules
+shape_of-leasts : tie.Need-shape_of-leasts invariant-loop-i decreases-loop-i
+shape_of-leasts c = search rules
 
-returns : tie.Need-returns invariant-loop decreases-loop
+returns : tie.Need-returns invariant-loop-i decreases-loop-i
 returns c =
-    let e : c.before.loop.i ≡ c.before.before.args.n = omega arith in
-    rw e at c.before.loop.invariant.2
+    let e : c.before.loop-i.i ≡ c.before.before.args.n = omega arith in
+    rw e at c.before.loop-i.invariant.2
 
 pub copy_leasts_spec : {M : Type 1} → statement M
 copy_leasts_spec =
     tie.close
     (tie.spec
-    invariant-loop
-    decreases-loop
-    loop_holds
-    mul_least
-    element_copy_out_least
-    mul_leasts
-    slice_write_leasts
-    add_i
-    loop_less
-    loop_again
-    same_length
+    invariant-loop-i
+    decreases-loop-i
+    loop-i-init
+    offset_bounds-held-i
+    bounds-held-i
+    offset_bounds-leasts-i
+    bounds-leasts-i
+    overflow_add-i
+    loop-i-smaller
+    loop-i-preserved
+    shape_of-leasts
     returns)

@@ -8,29 +8,29 @@ use Rattle.run_sheet.proofs.give.Tie as tie
 
 -- The memory as it is lent.
 abbrev lent : tie.Start → Beginning
-lent s = memory s.args.n.now s.args.unbounded.now s.args.leasts.now
+lent s = memory s.args.n.now s.args.unbounded.now s.args.leasts-1.now
+
+returns-then-leasts-count : tie.Need-returns-then-leasts-count
+returns-then-leasts-count c =
+    let s = c.before.before in
+    given_short s.args.count s.args.others s.args.held.now (lent s) c.if-leasts-count.true
+
+copy_leasts-requires : tie.Need-copy_leasts-requires
+copy_leasts-requires c κs = search rules
+
+open_steps-requires : tie.Need-open_steps-requires
+open_steps-requires c κs = search rules
+
+shape_of-leasts : tie.Need-shape_of-leasts
+shape_of-leasts c = search rules
 
 returns : tie.Need-returns
-returns c =
-    let s = c.before.before in
-    given_short s.args.count s.args.others s.args.held.now (lent s) c.if1.true
-
-copy_leasts_requires : tie.Need-copy-leasts-requires
-copy_leasts_requires c κs = search rules
-
-open_steps_requires : tie.Need-open-steps-requires
-open_steps_requires c κs = search rules
-
-same_length : tie.Need-same-length
-same_length c = search rules
-
-returns_2 : tie.Need-returns-2
-returns_2 c =
+returns-then-leasts-count c =
     let copied = c.before.before.before in
     let longer = copied.before.before in
     let s = longer.before.before in
-    given_whole s.args.count s.args.others s.args.held.now (lent s) longer.if1.false c.open_steps.ensures copied.copy-leasts.ensures
+    given_whole s.args.count s.args.others s.args.held.now (lent s) longer.if-leasts-count.false c.open_steps.ensures copied.copy_leasts.ensures
 
 pub give_spec : {M : Type 1} → statement M
 give_spec =
-    tie.close (tie.spec returns copy_leasts_requires open_steps_requires same_length returns_2)
+    tie.close (tie.spec returns-then-leasts-count copy_leasts-requires open_steps-requires shape_of-leasts returns-then-leasts-count)

@@ -4,14 +4,14 @@ use Rattle.run_sheet.proofs.Laws.{open_bits}
 use Rattle.run_sheet.proofs.open_steps.Statement.{statement}
 use Rattle.run_sheet.proofs.open_steps.Tie as tie
 
-below_requires : tie.Need-below-requires
-below_requires c κs = search rules
+below-requires : tie.Need-below-requires
+below-requires c κs = search rules
 
-both_requires : tie.Need-both-requires
-both_requires c κs = search rules
+both-requires : tie.Need-both-requires
+both-requires c κs = search rules
 
-insert_requires : tie.Need-insert-requires
-insert_requires c κs = search rules
+insert-requires : tie.Need-insert-requires
+insert-requires c κs = search rules
 
 returns : tie.Need-returns
 returns c =
@@ -20,4 +20,4 @@ returns c =
     open_bits _ _ _ _ _ l.before.requires.some l.below.ensures b.both.ensures c.insert.ensures
 
 pub open_steps_spec : {M : Type 1} → statement M
-open_steps_spec = tie.close (tie.spec below_requires both_requires insert_requires returns)
+open_steps_spec = tie.close (tie.spec below-requires both-requires insert-requires returns)

@@ -7,13 +7,13 @@ use Rattle.walk_cells.proofs.Heights.{below_back, not_below_back}
 use Rattle.walk_cells.proofs.clean.Statement.{statement}
 use Rattle.walk_cells.proofs.clean.Tie as tie
 
-returns : tie.Need-returns
+returns-then-c-lt0 : tie.Need-returns-then-c-lt0
 unfolding Clear value
-returns c = let a = c.before in (inl refl, sym (below_back a.ranges.c c.if1.true))
+returns-then-c-lt0 c = let a = c.before in (inl refl, sym (below_back a.ranges.c c.if-c-lt0.true))
 
-returns_2 : tie.Need-returns-2
+returns-else-c-lt0 : tie.Need-returns-else-c-lt0
 unfolding Clear
-returns_2 c = let a = c.before in rw (to_z-of_z a.ranges.c) (inr (not_below_back a.ranges.c c.if1.false), refl)
+returns-then-c-lt0-else-c-lt0 c = let a = c.before in rw (to_z-of_z a.ranges.c) (inr (not_below_back a.ranges.c c.if-c-lt0.false), refl)
 
 pub clean_spec : {M : Type 1} → statement M
-clean_spec = tie.close (tie.spec returns returns_2)
+clean_spec = tie.close (tie.spec returns-then-c-lt0 returns-then-c-lt0-else-c-lt0)

@@ -17,50 +17,50 @@ use Rattle.walk_cells.proofs.has_handed.Tie as tie
 abbrev handed : tie.Start → ℕ
 handed s = extend (value s.args.c) s.args.gain s.args.loss
 
-returns : tie.Need-returns
-returns c =
+returns-then-c-lt0 : tie.Need-returns-then-c-lt0
+returns-then-c-lt0 c =
     let s = c.before in
-    let nothing = extend_none (value s.args.c) s.args.gain s.args.loss (below_back s.ranges.c c.if1.true) in
+    let nothing = extend_none (value s.args.c) s.args.gain s.args.loss (below_back s.ranges.c c.if-c-lt0.true) in
     sym (le-leb (handed s) (value s.args.to) (omega (arith, nothing)))
 
-returns_2 : tie.Need-returns-2
-returns_2 c =
+returns-then-to-lt0 : tie.Need-returns-then-to-lt0
+returns-then-c-lt0-then-to-lt0 c =
     let s = c.before.before in
-    let some = extend_some (value s.args.c) s.args.gain s.args.loss (not_below_back s.ranges.c c.before.if1.false) in
-    sym (lt-leb (handed s) (value s.args.to) (omega (arith, some, below_back s.ranges.to c.if2.true)))
+    let some = extend_some (value s.args.c) s.args.gain s.args.loss (not_below_back s.ranges.c c.before.if-c-lt0.false) in
+    sym (lt-leb (handed s) (value s.args.to) (omega (arith, some, below_back s.ranges.to c.if-to-lt0.true)))
 
-weight_requires : tie.Need-weight-requires
-weight_requires c κs = search rules
+weight-requires : tie.Need-weight-requires
+weight-requires c κs = search rules
 
-cast_result : tie.Need-overflow-cast-result
-cast_result c = search rules
+overflow_cast-result : tie.Need-overflow_cast-result
+overflow_cast-result c = search rules
 
-add_result : tie.Need-overflow-add-result
-add_result c = search rules
+overflow_add-result : tie.Need-overflow_add-result
+overflow_add-result c = search rules
 
-weight_requires_2 : tie.Need-weight-requires-2
-weight_requires_2 c κs = search rules
+weight-requires-2 : tie.Need-weight-requires-2
+weight-requires-2 c κs = search rules
 
-cast_result_2 : tie.Need-overflow-cast-result-2
-cast_result_2 c = search rules
+overflow_cast-result-2 : tie.Need-overflow_cast-result-2
+overflow_cast-result-2 c = search rules
 
-add_result_2 : tie.Need-overflow-add-result-2
-add_result_2 c = search rules
+overflow_add-result-2 : tie.Need-overflow_add-result-2
+overflow_add-result-2 c = search rules
 
-returns_3 : tie.Need-returns-3
-returns_3 c =
+returns : tie.Need-returns
+returns-then-c-lt0 c =
     let first = c.before in
     let s = first.before.before.before in
     let a = s.args in
-    let walk = not_below_back s.ranges.c first.before.before.if1.false in
-    let there = not_below_back s.ranges.to first.before.if2.false in
+    let walk = not_below_back s.ranges.c first.before.before.if-c-lt0.false in
+    let there = not_below_back s.ranges.to first.before.if-to-lt0.false in
     let some = extend_some (value a.c) a.gain a.loss walk in
     let own : first.weight.result ≡ value a.c - 1 = rw (to_z-of_z s.ranges.c) at first.weight.ensures in
-    let end : c.weight2.result ≡ value a.to - 1 = rw (to_z-of_z s.ranges.to) at c.weight2.ensures in
+    let end : c.weight-2.result ≡ value a.to - 1 = rw (to_z-of_z s.ranges.to) at c.weight-2.ensures in
     same_test _ _
-    (λ h. le-leb (handed s) (value a.to) (omega (arith, some, there, leb-true (first.weight.result + a.gain) (c.weight2.result + a.loss) h, own, end)))
-    (λ h. le-leb (first.weight.result + a.gain) (c.weight2.result + a.loss) (omega (arith, some, walk, there, leb-true (handed s) (value a.to) h, own, end)))
+    (λ h. le-leb (handed s) (value a.to) (omega (arith, some, there, leb-true (first.weight.result + a.gain) (c.weight-2.result + a.loss) h, own, end)))
+    (λ h. le-leb (first.weight.result + a.gain) (c.weight-2.result + a.loss) (omega (arith, some, walk, there, leb-true (handed s) (value a.to) h, own, end)))
 
 pub has_handed_spec : {M : Type 1} → statement M
 has_handed_spec =
-    tie.close (tie.spec returns returns_2 weight_requires cast_result add_result weight_requires_2 cast_result_2 add_result_2 returns_3)
+    tie.close (tie.spec returns-then-c-lt0 returns-then-c-lt0-then-to-lt0 weight-requires overflow_cast-result overflow_add-result weight-requires-2 overflow_cast-result-2 overflow_add-result-2 returns-then-c-lt0)

@@ -5,15 +5,15 @@ use Rattle.walk_cells.proofs.Heights.{less_back, not_less_back}
 use Rattle.walk_cells.proofs.larger.Statement.{statement}
 use Rattle.walk_cells.proofs.larger.Tie as tie
 
-returns : tie.Need-returns
-returns c =
+returns-then-old-c : tie.Need-returns-then-old-c
+returns-then-old-c c =
     let a = c.before in
-    record { kept = λ h. absurd (omega (arith, less_back a.ranges.old a.ranges.c c.if1.true)); taken = λ h. to_z-of_z a.ranges.c }
+    record { kept = λ h. absurd (omega (arith, less_back a.ranges.old a.ranges.c c.if-old-c.true)); taken = λ h. to_z-of_z a.ranges.c }
 
-returns_2 : tie.Need-returns-2
-returns_2 c =
+returns-else-old-c : tie.Need-returns-else-old-c
+returns-then-old-c-else-old-c c =
     let a = c.before in
-    record { kept = λ h. to_z-of_z a.ranges.old; taken = λ h. absurd (omega (arith, not_less_back a.ranges.old a.ranges.c c.if1.false)) }
+    record { kept = λ h. to_z-of_z a.ranges.old; taken = λ h. absurd (omega (arith, not_less_back a.ranges.old a.ranges.c c.if-old-c.false)) }
 
 pub larger_spec : {M : Type 1} → statement M
-larger_spec = tie.close (tie.spec returns returns_2)
+larger_spec = tie.close (tie.spec returns-then-old-c returns-then-old-c-else-old-c)

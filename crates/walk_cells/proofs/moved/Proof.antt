@@ -3,11 +3,11 @@ use Rattle.walk_cells.proofs.Heights.{moved_fits, moved_height}
 use Rattle.walk_cells.proofs.moved.Statement.{statement}
 use Rattle.walk_cells.proofs.moved.Tie as tie
 
-add_result : tie.Need-overflow-add-result
-add_result c = moved_fits c.requires.0 c.requires.1 c.ranges.c c.ranges.delta
+overflow_add-result : tie.Need-overflow_add-result
+overflow_add-result c = moved_fits c.requires.0 c.requires.1 c.ranges.c c.ranges.delta
 
 returns : tie.Need-returns
 returns c = moved_height c.requires.0 c.requires.1 c.ranges.c c.ranges.delta
 
 pub moved_spec : {M : Type 1} → statement M
-moved_spec = tie.close (tie.spec add_result returns)
+moved_spec = tie.close (tie.spec overflow_add-result returns)

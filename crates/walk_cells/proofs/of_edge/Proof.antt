@@ -6,18 +6,18 @@ use Rattle.walk_cells.proofs.Heights.{value_bits}
 use Rattle.walk_cells.proofs.of_edge.Statement.{statement}
 use Rattle.walk_cells.proofs.of_edge.Tie as tie
 
-sub_result : tie.Need-overflow-sub-result
-sub_result c = search rules
+overflow_sub-result : tie.Need-overflow_sub-result
+overflow_sub-result c = search rules
 
-cast_result : tie.Need-overflow-cast-result
-cast_result c = record { sfits = omega (arith, c.before.requires) }
+overflow_cast-result : tie.Need-overflow_cast-result
+overflow_cast-result c = record { sfits = omega (arith, c.before.requires) }
 
-returns : tie.Need-returns
-returns c = value_bits _ (omega (arith, c.before.requires))
+returns-then-loss-gain : tie.Need-returns-then-loss-gain
+returns-then-loss-gain c = value_bits _ (omega (arith, c.before.requires))
 
-returns_2 : tie.Need-returns-2
+returns-else-loss-gain : tie.Need-returns-else-loss-gain
 unfolding value
-returns_2 c = omega arith
+returns-then-loss-gain-else-loss-gain c = omega arith
 
 pub of_edge_spec : {M : Type 1} → statement M
-of_edge_spec = tie.close (tie.spec sub_result cast_result returns returns_2)
+of_edge_spec = tie.close (tie.spec overflow_sub-result overflow_cast-result returns-then-loss-gain returns-then-loss-gain-else-loss-gain)

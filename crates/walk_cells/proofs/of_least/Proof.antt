@@ -4,11 +4,11 @@ use Rattle.walk_cells.proofs.Heights.{value_bits}
 use Rattle.walk_cells.proofs.of_least.Statement.{statement}
 use Rattle.walk_cells.proofs.of_least.Tie as tie
 
-cast_result : tie.Need-overflow-cast-result
-cast_result c = let b = c.ranges.least.fits in record { sfits = omega arith }
+overflow_cast-result : tie.Need-overflow_cast-result
+overflow_cast-result c = let b = c.ranges.least.fits in record { sfits = omega arith }
 
 returns : tie.Need-returns
 returns c = let b = c.ranges.least.fits in (value_bits c.args.least (omega arith), omega arith)
 
 pub of_least_spec : {M : Type 1} → statement M
-of_least_spec = tie.close (tie.spec cast_result returns)
+of_least_spec = tie.close (tie.spec overflow_cast-result returns)

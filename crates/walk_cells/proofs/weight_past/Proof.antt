@@ -10,20 +10,20 @@ use Rattle.walk_cells.proofs.weight_past.Tie as tie
 small : (s : tie.Start) → s.args.least < 2 ^ 16
 small s = s.ranges.least.fits
 
-cast_x : tie.Need-overflow-cast-x
-cast_x c = record { sfits = omega (arith, small c) }
+overflow_cast-x : tie.Need-overflow_cast-x
+overflow_cast-x c = record { sfits = omega (arith, small c) }
+
+returns-then-c-x : tie.Need-returns-then-c-x
+returns-then-c-x c = sym (past_none c.before.ranges.c (small c.before) c.if-c-x.true)
+
+overflow_sub-result : tie.Need-overflow_sub-result
+overflow_sub-result c = past_fits c.before.ranges.c (small c.before) c.if-c-x.false
+
+overflow_cast-result : tie.Need-overflow_cast-result
+overflow_cast-result c = past_cast c.before.ranges.c (small c.before) c.if-c-x.false
 
 returns : tie.Need-returns
-returns c = sym (past_none c.before.ranges.c (small c.before) c.if1.true)
-
-sub_result : tie.Need-overflow-sub-result
-sub_result c = past_fits c.before.ranges.c (small c.before) c.if1.false
-
-cast_result : tie.Need-overflow-cast-result
-cast_result c = past_cast c.before.ranges.c (small c.before) c.if1.false
-
-returns_2 : tie.Need-returns-2
-returns_2 c = past_bits c.before.ranges.c (small c.before) c.if1.false
+returns-then-c-x c = past_bits c.before.ranges.c (small c.before) c.if-c-x.false
 
 pub weight_past_spec : {M : Type 1} → statement M
-weight_past_spec = tie.close (tie.spec cast_x returns sub_result cast_result returns_2)
+weight_past_spec = tie.close (tie.spec overflow_cast-x returns-then-c-x overflow_sub-result overflow_cast-result returns-then-c-x)

@@ -10,107 +10,107 @@ use borrow.Author.Rules.{rules}
 use Rattle.walk_feasible.proofs.closes_above.Statement.{statement}
 use Rattle.walk_feasible.proofs.closes_above.Tie as tie
 
-abbrev invariant-loop : tie.invariant-loop
-invariant-loop es via x n v₀ gains₀ losses₀ k₀ v gains losses k = Back es x n k v gains losses
+abbrev invariant-loop-k : tie.invariant-loop-k
+invariant-loop-k es via x n v₀ gains₀ losses₀ k₀ v gains losses k = Back es x n k v gains losses
 
-abbrev decreases-loop : tie.decreases-loop
-decreases-loop es via x n v₀ gains₀ losses₀ k₀ v gains losses k = n - k
+abbrev decreases-loop-k : tie.decreases-loop-k
+decreases-loop-k es via x n v₀ gains₀ losses₀ k₀ v gains losses k = n - k
 
 -- A turn, from where its edge is known to enter the step; and that it does.
-abbrev turn : tie.Else1 invariant-loop decreases-loop → tie.At-loop invariant-loop decreases-loop
+abbrev turn : tie.Else-not-enters invariant-loop-k decreases-loop-k → tie.At-loop-k invariant-loop-k decreases-loop-k
 turn s = s.before.before.before.before.before
 
-entered : (s : tie.Else1 invariant-loop decreases-loop) → Enters (turn s).before.before.args.es.now s.before.before.index.result (turn s).loop.v
-entered s = s.before.enters.ensures (not-false _ s.if1.false)
+entered : (s : tie.Else-not-enters invariant-loop-k decreases-loop-k) → Enters (turn s).before.before.args.es.now s.before.before.index-i.result (turn s).loop-k.v
+entered s = s.before.enters.ensures (not-false _ s.if-not-enters.false)
 
-loop_holds : tie.Need-loop-init invariant-loop decreases-loop
-loop_holds c = back_start _ _ _ c.before.requires.0
+loop-k-init : tie.Need-loop-k-init invariant-loop-k decreases-loop-k
+loop-k-init c = back_start _ _ _ c.before.requires.0
 
-mul_index : tie.Need-overflow-mul-index invariant-loop decreases-loop
-mul_index c = search rules
+offset_bounds-via-v : tie.Need-offset_bounds-via-v invariant-loop-k decreases-loop-k
+offset_bounds-via-v c = search rules
 
-element_copy_out_index : tie.Need-element-copy-out-index invariant-loop decreases-loop
-element_copy_out_index c = omega (arith, c.before.loop.invariant.below)
+bounds-via-v : tie.Need-bounds-via-v invariant-loop-k decreases-loop-k
+bounds-via-v c = omega (arith, c.before.loop-k.invariant.below)
 
-index_requires : tie.Need-index-requires invariant-loop decreases-loop
-index_requires c κs = search rules
+index-i-requires : tie.Need-index-i-requires invariant-loop-k decreases-loop-k
+index-i-requires c κs = search rules
 
-enters_requires : tie.Need-enters-requires invariant-loop decreases-loop
-enters_requires c κs = search rules
+enters-requires : tie.Need-enters-requires invariant-loop-k decreases-loop-k
+enters-requires c κs = search rules
 
-returns : tie.Need-returns invariant-loop decreases-loop
-returns c = λ h. absurd (true≢false (sym h))
+returns-then-not-enters : tie.Need-returns-then-not-enters invariant-loop-k decreases-loop-k
+returns-then-not-enters c = λ h. absurd (true≢false (sym h))
 
-sub_w : tie.Need-overflow-sub-w invariant-loop decreases-loop
-sub_w c = omega (arith, (entered c).some)
+overflow_sub-w : tie.Need-overflow_sub-w invariant-loop-k decreases-loop-k
+overflow_sub-w c = omega (arith, (entered c).some)
 
-mul_w : tie.Need-overflow-mul-w invariant-loop decreases-loop
-mul_w c = omega (arith, (entered c).inside)
+offset_bounds-es-i : tie.Need-offset_bounds-es-i invariant-loop-k decreases-loop-k
+offset_bounds-es-i c = omega (arith, (entered c).inside)
 
-shared_slice_read_w : tie.Need-shared-slice-read-w invariant-loop decreases-loop
-shared_slice_read_w c = let h = entered c.before in omega (arith, h.some, h.inside)
+bounds-es-i : tie.Need-bounds-es-i invariant-loop-k decreases-loop-k
+bounds-es-i c = let h = entered c.before in omega (arith, h.some, h.inside)
 
-edge_gain_requires : tie.Need-edge-gain-requires invariant-loop decreases-loop
-edge_gain_requires c κs = search rules
+edge_gain-gains-requires : tie.Need-edge_gain-gains-requires invariant-loop-k decreases-loop-k
+edge_gain-gains-requires c κs = search rules
 
-add_gains : tie.Need-overflow-add-gains invariant-loop decreases-loop
-add_gains c = let t = turn c.before.before in omega (arith, t.loop.inv.light, t.loop.inv.inside, c.edge-gain.ensures.1, t.before.before.pre.1)
+overflow_add-gains : tie.Need-overflow_add-gains invariant-loop-k decreases-loop-k
+overflow_add-gains c = let t = turn c.before.before in omega (arith, t.loop-k.inv.light, t.loop-k.inv.inside, c.edge_gain-gains.ensures.1, t.before.before.pre.1)
 
-edge_loss_requires : tie.Need-edge-loss-requires invariant-loop decreases-loop
-edge_loss_requires c κs = search rules
+edge_loss-losses-requires : tie.Need-edge_loss-losses-requires invariant-loop-k decreases-loop-k
+edge_loss-losses-requires c κs = search rules
 
-add_losses : tie.Need-overflow-add-losses invariant-loop decreases-loop
-add_losses c = let t = turn c.before.before.before in omega (arith, t.loop.inv.small, t.loop.inv.inside, c.edge-loss.ensures.1, t.before.before.pre.1)
+overflow_add-losses : tie.Need-overflow_add-losses invariant-loop-k decreases-loop-k
+overflow_add-losses c = let t = turn c.before.before.before in omega (arith, t.loop-k.inv.small, t.loop-k.inv.inside, c.edge_loss-losses.ensures.1, t.before.before.pre.1)
 
-edge_from_requires : tie.Need-edge-from-requires invariant-loop decreases-loop
-edge_from_requires c κs = search rules
+edge_from-v-requires : tie.Need-edge_from-v-requires invariant-loop-k decreases-loop-k
+edge_from-v-requires c κs = search rules
 
-returns_2 : tie.Need-returns-2 invariant-loop decreases-loop
-returns_2 c = λ t.
+returns-then-v-x : tie.Need-returns-then-v-x invariant-loop-k decreases-loop-k
+returns-then-not-enters-then-v-x c = λ t.
     let s = c.before in
     let l = s.before in
     let e = l.before.before.before in
-    back_closed _ _ _ _ _ _ _ _ (turn e).loop.invariant (entered e) s.edge-from.ensures.0 l.before.edge-gain.ensures.0 l.edge-loss.ensures.0 c.if2.true (ltb-true _ _ t)
+    back_closed _ _ _ _ _ _ _ _ (turn e).loop-k.invariant (entered e) s.edge_from-v.ensures.0 l.before.edge_gain-gains.ensures.0 l.edge_loss-losses.ensures.0 c.if-v-x.true (ltb-true _ _ t)
 
-add_k : tie.Need-overflow-add-k invariant-loop decreases-loop
-add_k c = search rules
+overflow_add-k : tie.Need-overflow_add-k invariant-loop-k decreases-loop-k
+overflow_add-k c = search rules
 
-loop_less : tie.Need-loop-smaller invariant-loop decreases-loop
-loop_less c = search rules
+loop-k-smaller : tie.Need-loop-k-smaller invariant-loop-k decreases-loop-k
+loop-k-smaller c = search rules
 
-loop_again : tie.Need-loop-preserved invariant-loop decreases-loop
-loop_again c =
+loop-k-preserved : tie.Need-loop-k-preserved invariant-loop-k decreases-loop-k
+loop-k-preserved c =
     let s = c.before in
     let l = s.before in
-    let gain = l.before.edge-gain.ensures in
+    let gain = l.before.edge_gain-gains.ensures in
     let e = l.before.before.before in
-    back_more _ _ _ _ _ _ _ _ (turn e).loop.invariant (entered e) s.edge-from.ensures.0 gain.0 l.edge-loss.ensures.0 e.before.before.before.before.loop-test.true s.edge-from.ensures.1 gain.1 l.edge-loss.ensures.1
+    back_more _ _ _ _ _ _ _ _ (turn e).loop-k.invariant (entered e) s.edge_from-v.ensures.0 gain.0 l.edge_loss-losses.ensures.0 e.before.before.before.before.loop-k-test.true s.edge_from-v.ensures.1 gain.1 l.edge_loss-losses.ensures.1
 
-returns_3 : tie.Need-returns-3 invariant-loop decreases-loop
-returns_3 c = λ h. absurd (true≢false (sym h))
+returns : tie.Need-returns invariant-loop-k decreases-loop-k
+returns-then-not-enters c = λ h. absurd (true≢false (sym h))
 
 pub closes_above_spec : {M : Type 1} → statement M
 closes_above_spec =
     tie.close
     (tie.spec
-    invariant-loop
-    decreases-loop
-    loop_holds
-    mul_index
-    element_copy_out_index
-    index_requires
-    enters_requires
-    returns
-    sub_w
-    mul_w
-    shared_slice_read_w
-    edge_gain_requires
-    add_gains
-    edge_loss_requires
-    add_losses
-    edge_from_requires
-    returns_2
-    add_k
-    loop_less
-    loop_again
-    returns_3)
+    invariant-loop-k
+    decreases-loop-k
+    loop-k-init
+    offset_bounds-via-v
+    bounds-via-v
+    index-i-requires
+    enters-requires
+    returns-then-not-enters
+    overflow_sub-w
+    offset_bounds-es-i
+    bounds-es-i
+    edge_gain-gains-requires
+    overflow_add-gains
+    edge_loss-losses-requires
+    overflow_add-losses
+    edge_from-v-requires
+    returns-then-not-enters-then-v-x
+    overflow_add-k
+    loop-k-smaller
+    loop-k-preserved
+    returns-then-not-enters)

@@ -7,35 +7,35 @@ use borrow.Author.Rules.{rules}
 use Rattle.walk_feasible.proofs.enters.Statement.{statement}
 use Rattle.walk_feasible.proofs.enters.Tie as tie
 
+returns-then-k-eq0 : tie.Need-returns-then-k-eq0
+returns-then-k-eq0 c = λ h. absurd (true≢false (sym h))
+
+returns-then-es-k : tie.Need-returns-then-es-k
+returns-then-k-eq0-then-es-k c = λ h. absurd (true≢false (sym h))
+
+overflow_sub-k : tie.Need-overflow_sub-k
+overflow_sub-k c = search rules
+
+offset_bounds-es-k : tie.Need-offset_bounds-es-k
+offset_bounds-es-k c = search rules
+
+bounds-es-k : tie.Need-bounds-es-k
+bounds-es-k c = search rules
+
+edge_to-requires : tie.Need-edge_to-requires
+edge_to-requires c κs = search rules
+
 returns : tie.Need-returns
-returns c = λ h. absurd (true≢false (sym h))
-
-returns_2 : tie.Need-returns-2
-returns_2 c = λ h. absurd (true≢false (sym h))
-
-sub_edge_to : tie.Need-overflow-sub-edge-to
-sub_edge_to c = search rules
-
-mul_edge_to : tie.Need-overflow-mul-edge-to
-mul_edge_to c = search rules
-
-shared_slice_read_edge_to : tie.Need-shared-slice-read-edge-to
-shared_slice_read_edge_to c = search rules
-
-edge_to_requires : tie.Need-edge-to-requires
-edge_to_requires c κs = search rules
-
-returns_3 : tie.Need-returns-3
-returns_3 c = λ h. record { some = omega arith; inside = omega arith; ends = sym c.edge_to.ensures.0 ∙ eqb-true _ _ h }
+returns-then-k-eq0 c = λ h. record { some = omega arith; inside = omega arith; ends = sym c.edge_to.ensures.0 ∙ eqb-true _ _ h }
 
 pub enters_spec : {M : Type 1} → statement M
 enters_spec =
     tie.close
     (tie.spec
-    returns
-    returns_2
-    sub_edge_to
-    mul_edge_to
-    shared_slice_read_edge_to
-    edge_to_requires
-    returns_3)
+    returns-then-k-eq0
+    returns-then-k-eq0-then-es-k
+    overflow_sub-k
+    offset_bounds-es-k
+    bounds-es-k
+    edge_to-requires
+    returns-then-k-eq0)

@@ -5,74 +5,74 @@ use Rattle.walk_feasible.proofs.far_back.Statement.{statement}
 use Rattle.walk_feasible.proofs.far_back.Tie as tie
 use Rattle.walk_feasible.proofs.far_back.Reads as reads
 use Rattle.walk_feasible.proofs.far_back.Lts as lts
-use Rattle.data_edges.proofs.edge_from.Reads as edge-from-reads
-use Rattle.data_indices.proofs.index.Reads as index_Reads
+use Rattle.data_edges.proofs.edge_from-v.Reads as edge-from-reads
+use Rattle.data_indices.proofs.index-i.Reads as index_Reads
 
-abbrev invariant-loop : tie.invariant-loop
-invariant-loop es via x n v₀ k₀ v k = v < 64
+abbrev invariant-loop-k : tie.invariant-loop-k
+invariant-loop-k es via x n v₀ k₀ v k = v < 64
 
-abbrev decreases-loop : tie.decreases-loop
-decreases-loop es via x n v₀ k₀ v k = n - k
+abbrev decreases-loop-k : tie.decreases-loop-k
+decreases-loop-k es via x n v₀ k₀ v k = n - k
 
-loop_holds : tie.Need-loop-init invariant-loop decreases-loop
-loop_holds c = search rules
+loop-k-init : tie.Need-loop-k-init invariant-loop-k decreases-loop-k
+loop-k-init c = search rules
 
-mul_index : tie.Need-overflow-mul-index invariant-loop decreases-loop
-mul_index c = search rules
+offset_bounds-via-v : tie.Need-offset_bounds-via-v invariant-loop-k decreases-loop-k
+offset_bounds-via-v c = search rules
 
-element_copy_out_index : tie.Need-element-copy-out-index invariant-loop decreases-loop
-element_copy_out_index c = search rules
+bounds-via-v : tie.Need-bounds-via-v invariant-loop-k decreases-loop-k
+bounds-via-v c = search rules
 
-index_requires : tie.Need-index-requires invariant-loop decreases-loop
-index_requires c κs = search rules
+index-i-requires : tie.Need-index-i-requires invariant-loop-k decreases-loop-k
+index-i-requires c κs = search rules
 
-returns : tie.Need-returns invariant-loop decreases-loop
-returns c = search rules
+returns-then-i-eq0 : tie.Need-returns-then-i-eq0 invariant-loop-k decreases-loop-k
+returns-then-i-eq0 c = search rules
 
-returns_2 : tie.Need-returns-2 invariant-loop decreases-loop
-returns_2 c = search rules
+returns-then-es-i : tie.Need-returns-then-es-i invariant-loop-k decreases-loop-k
+returns-then-i-eq0-then-es-i c = search rules
 
-sub_edge_from : tie.Need-overflow-sub-edge-from invariant-loop decreases-loop
-sub_edge_from c = search rules
+overflow_sub-i : tie.Need-overflow_sub-i invariant-loop-k decreases-loop-k
+overflow_sub-i c = search rules
 
-mul_edge_from : tie.Need-overflow-mul-edge-from invariant-loop decreases-loop
-mul_edge_from c = search rules
+offset_bounds-es-i : tie.Need-offset_bounds-es-i invariant-loop-k decreases-loop-k
+offset_bounds-es-i c = search rules
 
-shared_slice_read_edge_from : tie.Need-shared-slice-read-edge-from invariant-loop decreases-loop
-shared_slice_read_edge_from c = search rules
+bounds-es-i : tie.Need-bounds-es-i invariant-loop-k decreases-loop-k
+bounds-es-i c = search rules
 
-edge_from_requires : tie.Need-edge-from-requires invariant-loop decreases-loop
-edge_from_requires c κs = search rules
+edge_from-v-requires : tie.Need-edge_from-v-requires invariant-loop-k decreases-loop-k
+edge_from-v-requires c κs = search rules
 
-add_k : tie.Need-overflow-add-k invariant-loop decreases-loop
-add_k c = search rules
+overflow_add-k : tie.Need-overflow_add-k invariant-loop-k decreases-loop-k
+overflow_add-k c = search rules
 
-loop_less : tie.Need-loop-smaller invariant-loop decreases-loop
-loop_less c = search rules
+loop-k-smaller : tie.Need-loop-k-smaller invariant-loop-k decreases-loop-k
+loop-k-smaller c = search rules
 
-loop_again : tie.Need-loop-preserved invariant-loop decreases-loop
-loop_again c = search rules
+loop-k-preserved : tie.Need-loop-k-preserved invariant-loop-k decreases-loop-k
+loop-k-preserved c = search rules
 
-returns_3 : tie.Need-returns-3 invariant-loop decreases-loop
-returns_3 c = search rules
+returns : tie.Need-returns invariant-loop-k decreases-loop-k
+returns-then-i-eq0 c = search rules
 
 pub far_back_spec : {M : Type 1} → statement M
 far_back_spec =
     tie.close
     (tie.spec
-    invariant-loop
-    decreases-loop
-    loop_holds
-    mul_index
-    element_copy_out_index
-    index_requires
-    returns
-    returns_2
-    sub_edge_from
-    mul_edge_from
-    shared_slice_read_edge_from
-    edge_from_requires
-    add_k
-    loop_less
-    loop_again
-    returns_3)
+    invariant-loop-k
+    decreases-loop-k
+    loop-k-init
+    offset_bounds-via-v
+    bounds-via-v
+    index-i-requires
+    returns-then-i-eq0
+    returns-then-i-eq0-then-es-i
+    overflow_sub-i
+    offset_bounds-es-i
+    bounds-es-i
+    edge_from-v-requires
+    overflow_add-k
+    loop-k-smaller
+    loop-k-preserved
+    returns-then-i-eq0)

@@ -6,81 +6,81 @@ use borrow.Author.Rules.{rules}
 use Rattle.walk_feasible.proofs.feasible.Statement.{statement}
 use Rattle.walk_feasible.proofs.feasible.Tie as tie
 
-abbrev invariant-loop : tie.invariant-loop
-invariant-loop es lists order n row₀ via₀ marks₀ k₀ row via marks k = Searched es n k row via marks
+abbrev invariant-loop-k : tie.invariant-loop-k
+invariant-loop-k es lists order n row₀ via₀ marks₀ k₀ row via marks k = Searched es n k row via marks
 
-abbrev decreases-loop : tie.decreases-loop
-decreases-loop es lists order n row₀ via₀ marks₀ k₀ row via marks k = n + 1 - k
+abbrev decreases-loop-k : tie.decreases-loop-k
+decreases-loop-k es lists order n row₀ via₀ marks₀ k₀ row via marks k = n + 1 - k
 
 -- Places: the start, from the loop; a turn, from where its pass is done; and that, from where a step far back is known.
-abbrev start : tie.At-loop invariant-loop decreases-loop → tie.Start invariant-loop decreases-loop
+abbrev start : tie.At-loop-k invariant-loop-k decreases-loop-k → tie.Start invariant-loop-k decreases-loop-k
 start s = s.before.before.before.before
 
-abbrev turn : tie.After-pass invariant-loop decreases-loop → tie.At-loop invariant-loop decreases-loop
+abbrev turn : tie.After-pass-marks invariant-loop-k decreases-loop-k → tie.At-loop-k invariant-loop-k decreases-loop-k
 turn s = s.before.before.before.before
 
-abbrev passed : tie.After-far-back invariant-loop decreases-loop → tie.After-pass invariant-loop decreases-loop
+abbrev passed : tie.After-far_back-y invariant-loop-k decreases-loop-k → tie.After-pass-marks invariant-loop-k decreases-loop-k
 passed s = s.before.before.before.before
 
-below_requires : tie.Need-below-requires invariant-loop decreases-loop
-below_requires c κs = search rules
+below-marks-requires : tie.Need-below-marks-requires invariant-loop-k decreases-loop-k
+below-marks-requires c κs = search rules
 
-loop_holds : tie.Need-loop-init invariant-loop decreases-loop
-loop_holds c = searched_start _ _ _ c.before.before.before.requires.few c.below.ensures
+loop-k-init : tie.Need-loop-k-init invariant-loop-k decreases-loop-k
+loop-k-init c = searched_start _ _ _ c.before.before.before.requires.few c.below-marks.ensures
 
-pass_requires : tie.Need-pass-requires invariant-loop decreases-loop
-pass_requires c κs =
+pass-marks-requires : tie.Need-pass-marks-requires invariant-loop-k decreases-loop-k
+pass-marks-requires c κs =
     let t = c.before.before.before in
     let p = (start t).requires in
-    (p.few, record { listed = p.listed; room = searched_room _ _ _ (omega (arith, p.few)) t.loop.invariant; noted = t.loop.invariant.noted })
+    (p.few, record { listed = p.listed; room = searched_room _ _ _ (omega (arith, p.few)) t.loop-k.invariant; noted = t.loop-k.invariant.noted })
 
-returns : tie.Need-returns invariant-loop decreases-loop
-returns c = let s = c.before in let t = turn s in searched_rest _ _ (start t).pre.some (start t).pre.few t.loop.inv s.pass.ensures (omega arith)
+returns-then-marks-eq0 : tie.Need-returns-then-marks-eq0 invariant-loop-k decreases-loop-k
+returns-then-marks-eq0 c = let s = c.before in let t = turn s in searched_rest _ _ (start t).pre.some (start t).pre.few t.loop-k.inv s.pass-marks.ensures (omega arith)
 
-lowest_requires : tie.Need-lowest-requires invariant-loop decreases-loop
-lowest_requires c κs = omega arith
+lowest-x-requires : tie.Need-lowest-x-requires invariant-loop-k decreases-loop-k
+lowest-x-requires c κs = omega arith
 
-far_back_requires : tie.Need-far-back-requires invariant-loop decreases-loop
-far_back_requires c κs = c.before.lowest.ensures.below
+far_back-y-requires : tie.Need-far_back-y-requires invariant-loop-k decreases-loop-k
+far_back-y-requires c κs = c.before.lowest-x.ensures.below-marks
 
-closes_above_requires : tie.Need-closes-above-requires invariant-loop decreases-loop
-closes_above_requires c κs = let s = c.before in (s.far-back.ensures, (start (turn (passed s))).pre.few)
+closes_above-requires : tie.Need-closes_above-requires invariant-loop-k decreases-loop-k
+closes_above-requires c κs = let s = c.before in (s.far_back-y.ensures, (start (turn (passed s))).pre.few)
 
-returns_2 : tie.Need-returns-2 invariant-loop decreases-loop
-returns_2 c = circle_found _ _ (start (turn (passed c.before.before.before))).pre.some (c.before.closes-above.ensures c.if2.true)
+returns-then-closes_above : tie.Need-returns-then-closes_above invariant-loop-k decreases-loop-k
+returns-then-marks-eq0-then-closes_above c = circle_found _ _ (start (turn (passed c.before.before.before))).pre.some (c.before.closes_above.ensures c.if-closes_above.true)
 
-add_k : tie.Need-overflow-add-k invariant-loop decreases-loop
-add_k c = search rules
+overflow_add-k : tie.Need-overflow_add-k invariant-loop-k decreases-loop-k
+overflow_add-k c = search rules
 
-loop_less : tie.Need-loop-smaller invariant-loop decreases-loop
-loop_less c = search rules
+loop-k-smaller : tie.Need-loop-k-smaller invariant-loop-k decreases-loop-k
+loop-k-smaller c = search rules
 
-loop_again : tie.Need-loop-preserved invariant-loop decreases-loop
-loop_again c =
+loop-k-preserved : tie.Need-loop-k-preserved invariant-loop-k decreases-loop-k
+loop-k-preserved c =
     let back = c.before.before.before in
-    let x = back.before.before.lowest.ensures in
+    let x = back.before.before.lowest-x.ensures in
     let s = passed back in
     let t = turn s in
-    searched_more _ _ (start t).pre.some (start t).pre.few t.loop.inv s.pass.ensures _ x.below x.member s.before.before.before.loop-test.taken
+    searched_more _ _ (start t).pre.some (start t).pre.few t.loop-k.inv s.pass-marks.ensures _ x.below-marks x.member s.before.before.before.loop-k-test.taken
 
-returns_3 : tie.Need-returns-3 invariant-loop decreases-loop
-returns_3 c = let t = c.before in searched_spent _ _ (start t).requires.some (start t).requires.few t.loop.invariant (omega arith)
+returns : tie.Need-returns invariant-loop-k decreases-loop-k
+returns-then-marks-eq0 c = let t = c.before in searched_spent _ _ (start t).requires.some (start t).requires.few t.loop-k.invariant (omega arith)
 
 pub feasible_spec : {M : Type 1} → statement M
 feasible_spec =
     tie.close
     (tie.spec
-    invariant-loop
-    decreases-loop
-    below_requires
-    loop_holds
-    pass_requires
-    returns
-    lowest_requires
-    far_back_requires
-    closes_above_requires
-    returns_2
-    add_k
-    loop_less
-    loop_again
-    returns_3)
+    invariant-loop-k
+    decreases-loop-k
+    below-marks-requires
+    loop-k-init
+    pass-marks-requires
+    returns-then-marks-eq0
+    lowest-x-requires
+    far_back-y-requires
+    closes_above-requires
+    returns-then-marks-eq0-then-closes_above
+    overflow_add-k
+    loop-k-smaller
+    loop-k-preserved
+    returns-then-marks-eq0)

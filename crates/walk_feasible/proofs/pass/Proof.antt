@@ -7,20 +7,20 @@ use Rattle.walk_feasible.proofs.Passing.{passed_room, passed_then, room_less}
 use Rattle.walk_feasible.proofs.pass.Statement.{statement}
 use Rattle.walk_feasible.proofs.pass.Tie as tie
 
-pass_order_requires : tie.Need-pass-order-requires
-pass_order_requires c κs =
+pass_order-m-requires : tie.Need-pass_order-m-requires
+pass_order-m-requires c κs =
     let p = c.before.before.before.before.requires in
     (p.0, record { listed = p.1.listed; room = room_less most_steps pass_visits (omega arith) p.1.room; noted = p.1.noted })
 
-pass_down_requires : tie.Need-pass-down-requires
-pass_down_requires c κs =
+pass_down-requires : tie.Need-pass_down-requires
+pass_down-requires c κs =
     let ordered = c.before.before in
     let p = ordered.before.before.before.before.before.requires.1 in
-    let h = ordered.pass-order.ensures in
+    let h = ordered.pass_order-m.ensures in
     record { listed = p.listed; room = passed_room most_steps most_steps pass_visits (omega arith) p.room h; noted = h.noted }
 
 returns : tie.Need-returns
-returns c = passed_then (λ v x. inr x) (omega arith) c.before.before.before.pass-order.ensures c.pass-down.ensures
+returns c = passed_then (λ v x. inr x) (omega arith) c.before.before.before.pass_order-m.ensures c.pass_down.ensures
 
 pub pass_spec : {M : Type 1} → statement M
-pass_spec = tie.close (tie.spec pass_order_requires pass_down_requires returns)
+pass_spec = tie.close (tie.spec pass_order-m-requires pass_down-requires returns)

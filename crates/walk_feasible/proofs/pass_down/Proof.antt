@@ -7,60 +7,60 @@ use borrow.Author.Rules.{rules}
 use Rattle.walk_feasible.proofs.pass_down.Statement.{statement}
 use Rattle.walk_feasible.proofs.pass_down.Tie as tie
 
-abbrev invariant-loop : tie.invariant-loop
-invariant-loop row₀ via₀ marks es lists m₀ left₀ last₀ row via m left last = Falling (members (graph es)) row₀ row via marks m left last
+abbrev invariant-loop-left : tie.invariant-loop-left
+invariant-loop-left row₀ via₀ marks es lists m₀ left₀ last₀ row via m left last = Falling (members (graph es)) row₀ row via marks m left last
 
-abbrev decreases-loop : tie.decreases-loop
-decreases-loop row₀ via₀ marks es lists m₀ left₀ last₀ row via m left last = last
+abbrev decreases-loop-left : tie.decreases-loop-left
+decreases-loop-left row₀ via₀ marks es lists m₀ left₀ last₀ row via m left last = last
 
 -- Places: the start, from the loop; and a turn, from where its step is known.
-abbrev start : tie.At-loop invariant-loop decreases-loop → tie.Start invariant-loop decreases-loop
+abbrev start : tie.At-loop-left invariant-loop-left decreases-loop-left → tie.Start invariant-loop-left decreases-loop-left
 start s = s.before.before.before
 
-abbrev turn : tie.After-highest invariant-loop decreases-loop → tie.At-loop invariant-loop decreases-loop
+abbrev turn : tie.After-highest-last invariant-loop-left decreases-loop-left → tie.At-loop-left invariant-loop-left decreases-loop-left
 turn s = s.before.before
 
-loop_holds : tie.Need-loop-init invariant-loop decreases-loop
-loop_holds c = let p = c.before.before.requires in falling_start _ _ _ (search rules) p.room.long p.noted
+loop-left-init : tie.Need-loop-left-init invariant-loop-left decreases-loop-left
+loop-left-init c = let p = c.before.before.requires in falling_start _ _ _ (search rules) p.room.long p.noted
 
-highest_requires : tie.Need-highest-requires invariant-loop decreases-loop
-highest_requires c κs = omega arith
+highest-last-requires : tie.Need-highest-last-requires invariant-loop-left decreases-loop-left
+highest-last-requires c κs = omega arith
 
-pass_step_requires : tie.Need-pass-step-requires invariant-loop decreases-loop
-pass_step_requires c κs =
+pass_step-m-requires : tie.Need-pass_step-m-requires invariant-loop-left decreases-loop-left
+pass_step-m-requires c κs =
     let h = c.before.before in
     let p = (start (turn h)).pre in
-    let F = (turn h).loop.invariant in
-    (h.highest.ensures.below, record { listed = p.listed; room = falling_room _ _ _ _ _ _ _ F _ h.highest.ensures p.room; noted = F.passed.noted })
+    let F = (turn h).loop-left.invariant in
+    (h.highest-last.ensures.below, record { listed = p.listed; room = falling_room _ _ _ _ _ _ _ F _ h.highest-last.ensures p.room; noted = F.passed.noted })
 
-below_requires : tie.Need-below-requires invariant-loop decreases-loop
-below_requires c κs = let b = c.before.before.before.highest.ensures.below in omega arith
+below-requires : tie.Need-below-requires invariant-loop-left decreases-loop-left
+below-requires c κs = let b = c.before.before.before.highest-last.ensures.below in omega arith
 
-both_requires : tie.Need-both-requires invariant-loop decreases-loop
-both_requires c κs = search rules
+both-left-requires : tie.Need-both-left-requires invariant-loop-left decreases-loop-left
+both-left-requires c κs = search rules
 
-loop_less : tie.Need-loop-smaller invariant-loop decreases-loop
-loop_less c = let h = c.before.before.before.before.before in falling_less _ _ _ _ _ _ _ (turn h).loop.invariant _ h.highest.ensures
+loop-left-smaller : tie.Need-loop-left-smaller invariant-loop-left decreases-loop-left
+loop-left-smaller c = let h = c.before.before.before.before.before in falling_less _ _ _ _ _ _ _ (turn h).loop-left.invariant _ h.highest-last.ensures
 
-loop_again : tie.Need-loop-preserved invariant-loop decreases-loop
-loop_again c =
+loop-left-preserved : tie.Need-loop-left-preserved invariant-loop-left decreases-loop-left
+loop-left-preserved c =
     let h = c.before.before.before.before.before in
-    falling_turn _ _ _ _ _ _ _ (turn h).loop.invariant _ h.highest.ensures _ _ _ _ _ c.before.before.pass_step.ensures c.before.below.ensures c.both.ensures
+    falling_turn _ _ _ _ _ _ _ (turn h).loop-left.invariant _ h.highest-last.ensures _ _ _ _ _ c.before.before.pass_step-m.ensures c.before.below.ensures c.both-left.ensures
 
-returns : tie.Need-returns invariant-loop decreases-loop
-returns c = falling_end _ _ _ _ _ _ _ c.before.loop.invariant (omega arith)
+returns : tie.Need-returns invariant-loop-left decreases-loop-left
+returns c = falling_end _ _ _ _ _ _ _ c.before.loop-left.invariant (omega arith)
 
 pub pass_down_spec : {M : Type 1} → statement M
 pass_down_spec =
     tie.close
     (tie.spec
-    invariant-loop
-    decreases-loop
-    loop_holds
-    highest_requires
-    pass_step_requires
-    below_requires
-    both_requires
-    loop_less
-    loop_again
+    invariant-loop-left
+    decreases-loop-left
+    loop-left-init
+    highest-last-requires
+    pass_step-m-requires
+    below-requires
+    both-left-requires
+    loop-left-smaller
+    loop-left-preserved
     returns)

@@ -11,54 +11,54 @@ use borrow.Author.Rules.{rules}
 use Rattle.walk_feasible.proofs.pass_order.Statement.{statement}
 use Rattle.walk_feasible.proofs.pass_order.Tie as tie
 
-abbrev invariant-loop : tie.invariant-loop
-invariant-loop row₀ via₀ marks es lists order n m₀ k₀ row via m k = (k ≤ n) × Passed (members (graph es)) (λ v. ⊥) k row₀ row via marks m
+abbrev invariant-loop-k : tie.invariant-loop-k
+invariant-loop-k row₀ via₀ marks es lists order n m₀ k₀ row via m k = (k ≤ n) × Passed (members (graph es)) (λ v. ⊥) k row₀ row via marks m
 
-abbrev decreases-loop : tie.decreases-loop
-decreases-loop row₀ via₀ marks es lists order n m₀ k₀ row via m k = n - k
+abbrev decreases-loop-k : tie.decreases-loop-k
+decreases-loop-k row₀ via₀ marks es lists order n m₀ k₀ row via m k = n - k
 
-abbrev start : tie.At-loop invariant-loop decreases-loop → tie.Start invariant-loop decreases-loop
+abbrev start : tie.At-loop-k invariant-loop-k decreases-loop-k → tie.Start invariant-loop-k decreases-loop-k
 start s = s.before.before.before
 
-loop_holds : tie.Need-loop-init invariant-loop decreases-loop
-loop_holds c = let p = c.before.before.requires.1 in (omega arith, passed_less (λ v x. absurd x) (omega arith) (passed_idle p.room.long p.noted))
+loop-k-init : tie.Need-loop-k-init invariant-loop-k decreases-loop-k
+loop-k-init c = let p = c.before.before.requires.1 in (omega arith, passed_less (λ v x. absurd x) (omega arith) (passed_idle p.room.long p.noted))
 
-element_copy_out_place : tie.Need-element-copy-out-place invariant-loop decreases-loop
-element_copy_out_place c = search rules
+bounds-order-k : tie.Need-bounds-order-k invariant-loop-k decreases-loop-k
+bounds-order-k c = search rules
 
-place_requires : tie.Need-place-requires invariant-loop decreases-loop
-place_requires c κs = search rules
+place-u-requires : tie.Need-place-u-requires invariant-loop-k decreases-loop-k
+place-u-requires c κs = search rules
 
-pass_step_requires : tie.Need-pass-step-requires invariant-loop decreases-loop
-pass_step_requires c κs =
+pass_step-m-requires : tie.Need-pass_step-m-requires invariant-loop-k decreases-loop-k
+pass_step-m-requires c κs =
     let t = c.before.before.before.before.before in
     let p = (start t).requires in
-    let been = t.loop.invariant.1 in
-    (c.before.before.place.ensures.1, record { listed = p.1.listed; room = passed_room t.loop.k 1 most_steps (omega (arith, p.0)) p.1.room been; noted = been.noted })
+    let been = t.loop-k.invariant.1 in
+    (c.before.before.place-u.ensures.1, record { listed = p.1.listed; room = passed_room t.loop-k.k 1 most_steps (omega (arith, p.0)) p.1.room been; noted = been.noted })
 
-add_k : tie.Need-overflow-add-k invariant-loop decreases-loop
-add_k c = search rules
+overflow_add-k : tie.Need-overflow_add-k invariant-loop-k decreases-loop-k
+overflow_add-k c = search rules
 
-loop_less : tie.Need-loop-smaller invariant-loop decreases-loop
-loop_less c = search rules
+loop-k-smaller : tie.Need-loop-k-smaller invariant-loop-k decreases-loop-k
+loop-k-smaller c = search rules
 
-loop_again : tie.Need-loop-preserved invariant-loop decreases-loop
-loop_again c = let t = c.before.before.before.before.before.before in (omega arith, passed_then (λ v x. inl x) (omega arith) t.loop.invariant.1 c.pass_step.ensures)
+loop-k-preserved : tie.Need-loop-k-preserved invariant-loop-k decreases-loop-k
+loop-k-preserved c = let t = c.before.before.before.before.before.before in (omega arith, passed_then (λ v x. inl x) (omega arith) t.loop-k.invariant.1 c.pass_step-m.ensures)
 
-returns : tie.Need-returns invariant-loop decreases-loop
-returns c = let t = c.before in passed_less (λ v x. x) (omega (arith, (start t).requires.0, t.loop.invariant.0)) t.loop.invariant.1
+returns : tie.Need-returns invariant-loop-k decreases-loop-k
+returns c = let t = c.before in passed_less (λ v x. x) (omega (arith, (start t).requires.0, t.loop-k.invariant.0)) t.loop-k.invariant.1
 
 pub pass_order_spec : {M : Type 1} → statement M
 pass_order_spec =
     tie.close
     (tie.spec
-    invariant-loop
-    decreases-loop
-    loop_holds
-    element_copy_out_place
-    place_requires
-    pass_step_requires
-    add_k
-    loop_less
-    loop_again
+    invariant-loop-k
+    decreases-loop-k
+    loop-k-init
+    bounds-order-k
+    place-u-requires
+    pass_step-m-requires
+    overflow_add-k
+    loop-k-smaller
+    loop-k-preserved
     returns)

@@ -5,23 +5,23 @@ use Rattle.walk_feasible.proofs.pass_step.Statement.{statement}
 use Rattle.walk_feasible.proofs.pass_step.Tie as tie
 
 -- Places: the start and where the mark is taken away, from where the edges have handed on.
-abbrev start : tie.After-push-step → tie.Start
+abbrev start : tie.After-push_step → tie.Start
 start s = s.before.before.before.before.before.before.before
 
-abbrev removed : tie.After-push-step → tie.After-remove
+abbrev removed : tie.After-push_step → tie.After-remove-rest
 removed s = s.before.before.before.before
 
-remove_requires : tie.Need-remove-requires
-remove_requires c κs = search rules
+remove-rest-requires : tie.Need-remove-rest-requires
+remove-rest-requires c κs = search rules
+
+returns-then-rest-marks : tie.Need-returns-then-rest-marks
+returns-then-rest-marks c = let p = c.before.before.before.before.requires.1 in passed_same _ _ _ c.before.remove-rest.ensures c.if-rest-marks.true p.room.long p.noted
+
+push_step-requires : tie.Need-push_step-requires
+push_step-requires c κs = search rules
 
 returns : tie.Need-returns
-returns c = let p = c.before.before.before.before.requires.1 in passed_same _ _ _ c.before.remove.ensures c.if1.true p.room.long p.noted
-
-push_step_requires : tie.Need-push-step-requires
-push_step_requires c κs = search rules
-
-returns_2 : tie.Need-returns-2
-returns_2 c = passed_visit _ _ (start c).requires.1.listed.light (removed c).remove.ensures c.push_step.ensures
+returns-then-rest-marks c = passed_visit _ _ (start c).requires.1.listed.light (removed c).remove-rest.ensures c.push_step.ensures
 
 pub pass_step_spec : {M : Type 1} → statement M
-pass_step_spec = tie.close (tie.spec remove_requires returns push_step_requires returns_2)
+pass_step_spec = tie.close (tie.spec remove-rest-requires returns-then-rest-marks push_step-requires returns-then-rest-marks)

@@ -15,110 +15,110 @@ use borrow.Author.Rules.{rules, sfits_of}
 use Rattle.walk_feasible.proofs.push_step.Statement.{statement}
 use Rattle.walk_feasible.proofs.push_step.Tie as tie
 
-abbrev invariant-loop : tie.invariant-loop
-invariant-loop row₀ via₀ marks es lists u own m₀ next₀ row via m next = Listing es u (level row₀ u) row₀ row via marks m next
+abbrev invariant-loop-next : tie.invariant-loop-next
+invariant-loop-next row₀ via₀ marks es lists u own m₀ next₀ row via m next = Listing es u (level row₀ u) row₀ row via marks m next
 
-abbrev decreases-loop : tie.decreases-loop
-decreases-loop row₀ via₀ marks es lists u own m₀ next₀ row via m next = next
+abbrev decreases-loop-next : tie.decreases-loop-next
+decreases-loop-next row₀ via₀ marks es lists u own m₀ next₀ row via m next = next
 
 -- Places: the start, from the head of the list and from a turn; a turn, from where its index is known; and that, from where its edge has handed on.
-abbrev start : tie.After-shared-slice-known3 invariant-loop decreases-loop → tie.Start invariant-loop decreases-loop
+abbrev start : tie.After-shared_slice_known-3-1 invariant-loop-next decreases-loop-next → tie.Start invariant-loop-next decreases-loop-next
 start s = s.before.before.before.before
 
-abbrev turn : tie.After-index invariant-loop decreases-loop → tie.At-loop invariant-loop decreases-loop
+abbrev turn : tie.After-index-k invariant-loop-next decreases-loop-next → tie.At-loop-next invariant-loop-next decreases-loop-next
 turn s = s.before.before
 
-abbrev entry : tie.After-index invariant-loop decreases-loop → tie.Start invariant-loop decreases-loop
+abbrev entry : tie.After-index-k invariant-loop-next decreases-loop-next → tie.Start invariant-loop-next decreases-loop-next
 entry s = start (turn s).before
 
-abbrev indexed : tie.After-push-edge invariant-loop decreases-loop → tie.After-index invariant-loop decreases-loop
+abbrev indexed : tie.After-push_edge-m invariant-loop-next decreases-loop-next → tie.After-index-k invariant-loop-next decreases-loop-next
 indexed s = s.before.before.before.before
 
-some : (s : tie.After-index invariant-loop decreases-loop) → 1 ≤ (turn s).loop.next
+some : (s : tie.After-index-k invariant-loop-next decreases-loop-next) → 1 ≤ (turn s).loop-next.next
 some s = omega arith
 
 -- What follows the edge in its list.
-following : (s : tie.After-index invariant-loop decreases-loop) → get_or (entry s).args.lists.now (63 + s.index.result) 0 ≡ last_from (entry s).args.es.now (entry s).args.u ((turn s).loop.next - 1)
-following s = following_next (entry s).requires.1.listed (some s) (turn s).loop.invariant (ap (λ (j : ℕ). get_or (entry s).args.lists.now (63 + j) 0) s.index.ensures)
+following : (s : tie.After-index-k invariant-loop-next decreases-loop-next) → get_or (entry s).args.lists.now (63 + s.index-k.result) 0 ≡ last_from (entry s).args.es.now (entry s).args.u ((turn s).loop-next.next - 1)
+following s = following_next (entry s).requires.1.listed (some s) (turn s).loop-next.invariant (ap (λ (j : ℕ). get_or (entry s).args.lists.now (63 + j) 0) s.index-k.ensures)
 
 -- The cell of u fits 32 bits.
-own_fits : (s : tie.After-shared-slice-known3 invariant-loop decreases-loop) → SFits w32 (get_or (start s).args.row.now (start s).args.u (pos 0))
-own_fits s = sfits_of s.before.own.given
+own_fits : (s : tie.After-shared_slice_known-3-1 invariant-loop-next decreases-loop-next) → SFits w32 (get_or (start s).args.row.now (start s).args.u (pos 0))
+own_fits s = sfits_of s.before.own-1.given
 
-mul_own : tie.Need-overflow-mul-own invariant-loop decreases-loop
-mul_own c = search rules
+offset_bounds-row-u : tie.Need-offset_bounds-row-u invariant-loop-next decreases-loop-next
+offset_bounds-row-u c = search rules
 
-element_copy_out_own : tie.Need-element-copy-out-own invariant-loop decreases-loop
-element_copy_out_own c = search rules
+bounds-row-u : tie.Need-bounds-row-u invariant-loop-next decreases-loop-next
+bounds-row-u c = search rules
 
-mul_next : tie.Need-overflow-mul-next invariant-loop decreases-loop
-mul_next c = search rules
+offset_bounds-lists-u : tie.Need-offset_bounds-lists-u invariant-loop-next decreases-loop-next
+offset_bounds-lists-u c = search rules
 
-shared_slice_read_next : tie.Need-shared-slice-read-next invariant-loop decreases-loop
-shared_slice_read_next c = let p = (start c).requires in omega (arith, p.1.listed.long, p.0)
+bounds-lists-u : tie.Need-bounds-lists-u invariant-loop-next decreases-loop-next
+bounds-lists-u c = let p = (start c).requires in omega (arith, p.1.listed.long, p.0)
 
-loop_holds : tie.Need-loop-init invariant-loop decreases-loop
-loop_holds c = let p = (start c).requires in following_start (p.1.listed.heads _ p.0) (pushed_none p.1.room.long p.1.noted)
+loop-next-init : tie.Need-loop-next-init invariant-loop-next decreases-loop-next
+loop-next-init c = let p = (start c).requires in following_start (p.1.listed.heads _ p.0) (pushed_none p.1.room.long p.1.noted)
 
-index_requires : tie.Need-index-requires invariant-loop decreases-loop
-index_requires c κs = search rules
+index-k-requires : tie.Need-index-k-requires invariant-loop-next decreases-loop-next
+index-k-requires c κs = search rules
 
-sub_push_edge : tie.Need-overflow-sub-push-edge invariant-loop decreases-loop
-sub_push_edge c = omega (arith, c.before.before.index.ensures)
+overflow_sub-k : tie.Need-overflow_sub-k invariant-loop-next decreases-loop-next
+overflow_sub-k c = omega (arith, c.before.before.index-k.ensures)
 
-mul_push_edge : tie.Need-overflow-mul-push-edge invariant-loop decreases-loop
-mul_push_edge c = let i = c.before.before in omega (arith, (turn i).loop.invariant.few, i.index.ensures, (entry i).requires.1.listed.few)
+offset_bounds-es-k : tie.Need-offset_bounds-es-k invariant-loop-next decreases-loop-next
+offset_bounds-es-k c = let i = c.before.before in omega (arith, (turn i).loop-next.invariant.few, i.index-k.ensures, (entry i).requires.1.listed.few)
 
-shared_slice_read_push_edge : tie.Need-shared-slice-read-push-edge invariant-loop decreases-loop
-shared_slice_read_push_edge c = let i = c.before.before.before in omega (arith, (turn i).loop.invariant.few, i.index.ensures, (entry i).requires.1.listed.few)
+bounds-es-k : tie.Need-bounds-es-k invariant-loop-next decreases-loop-next
+bounds-es-k c = let i = c.before.before.before in omega (arith, (turn i).loop-next.invariant.few, i.index-k.ensures, (entry i).requires.1.listed.few)
 
-push_edge_requires : tie.Need-push-edge-requires invariant-loop decreases-loop
-push_edge_requires c κs =
+push_edge-m-requires : tie.Need-push_edge-m-requires invariant-loop-next decreases-loop-next
+push_edge-m-requires c κs =
     let i = c.before.before.before in
-    let h = (turn i).loop.invariant.been in
+    let h = (turn i).loop-next.invariant.been in
     let p = (entry i).requires in
     record { long = h.long; noted = h.noted; movable = back_has Movable (own_fits (turn i).before) (room_movable p.1.room _) }
 
-add_next : tie.Need-overflow-add-next invariant-loop decreases-loop
-add_next c = let i = indexed c in omega (arith, (turn i).loop.inv.few, i.index.ensures, (entry i).pre.1.listed.few)
+overflow_add-next : tie.Need-overflow_add-next invariant-loop-next decreases-loop-next
+overflow_add-next c = let i = indexed c in omega (arith, (turn i).loop-next.inv.few, i.index-k.ensures, (entry i).pre.1.listed.few)
 
-mul_next_2 : tie.Need-overflow-mul-next-2 invariant-loop decreases-loop
-mul_next_2 c = let i = indexed c in omega (arith, (turn i).loop.inv.few, i.index.ensures, (entry i).pre.1.listed.few)
+offset_bounds-lists-k : tie.Need-offset_bounds-lists-k invariant-loop-next decreases-loop-next
+offset_bounds-lists-k c = let i = indexed c in omega (arith, (turn i).loop-next.inv.few, i.index-k.ensures, (entry i).pre.1.listed.few)
 
-shared_slice_read_next_2 : tie.Need-shared-slice-read-next-2 invariant-loop decreases-loop
-shared_slice_read_next_2 c = let i = indexed c.before in omega (arith, (turn i).loop.inv.few, i.index.ensures, (entry i).pre.1.listed.long)
+bounds-lists-k : tie.Need-bounds-lists-k invariant-loop-next decreases-loop-next
+bounds-lists-k c = let i = indexed c.before in omega (arith, (turn i).loop-next.inv.few, i.index-k.ensures, (entry i).pre.1.listed.long)
 
-loop_less : tie.Need-loop-smaller invariant-loop decreases-loop
-loop_less c = let i = indexed c.before in following_less (some i) (following i) (turn i).loop.inv
+loop-next-smaller : tie.Need-loop-next-smaller invariant-loop-next decreases-loop-next
+loop-next-smaller c = let i = indexed c.before in following_less (some i) (following i) (turn i).loop-next.inv
 
-loop_again : tie.Need-loop-preserved invariant-loop decreases-loop
-loop_again c =
+loop-next-preserved : tie.Need-loop-next-preserved invariant-loop-next decreases-loop-next
+loop-next-preserved c =
     let i = indexed c.before in
     let own = height_back (own_fits (turn i).before) in
-    following_turn (some i) (following i) (pushed_more (pushed_at (entry i).args.es.now i.index.ensures own c.before.push-edge.ensures)) (turn i).loop.inv
+    following_turn (some i) (following i) (pushed_more (pushed_at (entry i).args.es.now i.index-k.ensures own c.before.push_edge-m.ensures)) (turn i).loop-next.inv
 
-returns : tie.Need-returns invariant-loop decreases-loop
-returns c = following_end (omega arith) pushed_as c.before.loop.invariant
+returns : tie.Need-returns invariant-loop-next decreases-loop-next
+returns c = following_end (omega arith) pushed_as c.before.loop-next.invariant
 
 pub push_step_spec : {M : Type 1} → statement M
 push_step_spec =
     tie.close
     (tie.spec
-    invariant-loop
-    decreases-loop
-    mul_own
-    element_copy_out_own
-    mul_next
-    shared_slice_read_next
-    loop_holds
-    index_requires
-    sub_push_edge
-    mul_push_edge
-    shared_slice_read_push_edge
-    push_edge_requires
-    add_next
-    mul_next_2
-    shared_slice_read_next_2
-    loop_less
-    loop_again
+    invariant-loop-next
+    decreases-loop-next
+    offset_bounds-row-u
+    bounds-row-u
+    offset_bounds-lists-u
+    bounds-lists-u
+    loop-next-init
+    index-k-requires
+    overflow_sub-k
+    offset_bounds-es-k
+    bounds-es-k
+    push_edge-m-requires
+    overflow_add-next
+    offset_bounds-lists-k
+    bounds-lists-k
+    loop-next-smaller
+    loop-next-preserved
     returns)

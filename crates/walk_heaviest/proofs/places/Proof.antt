@@ -5,53 +5,53 @@ use Rattle.walk_heaviest.proofs.places.Statement.{statement}
 use Rattle.walk_heaviest.proofs.places.Tie as tie
 use Rattle.walk_heaviest.proofs.places.Reads as reads
 use Rattle.walk_heaviest.proofs.places.Lts as lts
-use Rattle.data_indices.proofs.place.Reads as place-reads
+use Rattle.data_indices.proofs.place-v.Reads as place-reads
 
-abbrev invariant-loop : tie.invariant-loop
-invariant-loop order n place₀ k₀ place k = k ≤ n
+abbrev invariant-loop-k : tie.invariant-loop-k
+invariant-loop-k order n place₀ k₀ place k = k ≤ n
 
-abbrev decreases-loop : tie.decreases-loop
-decreases-loop order n place₀ k₀ place k = n - k
+abbrev decreases-loop-k : tie.decreases-loop-k
+decreases-loop-k order n place₀ k₀ place k = n - k
 
-loop_holds : tie.Need-loop-init invariant-loop decreases-loop
-loop_holds c = search rules
+loop-k-init : tie.Need-loop-k-init invariant-loop-k decreases-loop-k
+loop-k-init c = search rules
 
-element_copy_out_place : tie.Need-element-copy-out-place invariant-loop decreases-loop
-element_copy_out_place c = search rules
+bounds-order-k : tie.Need-bounds-order-k invariant-loop-k decreases-loop-k
+bounds-order-k c = search rules
 
-place_requires : tie.Need-place-requires invariant-loop decreases-loop
-place_requires c κs = search rules
+place-v-requires : tie.Need-place-v-requires invariant-loop-k decreases-loop-k
+place-v-requires c κs = search rules
 
-cast_place : tie.Need-overflow-cast-place invariant-loop decreases-loop
-cast_place c = search rules
+overflow_cast-place : tie.Need-overflow_cast-place invariant-loop-k decreases-loop-k
+overflow_cast-place c = search rules
 
-array_write_place : tie.Need-array-write-place invariant-loop decreases-loop
-array_write_place c = search rules
+bounds-place-v : tie.Need-bounds-place-v invariant-loop-k decreases-loop-k
+bounds-place-v c = search rules
 
-add_k : tie.Need-overflow-add-k invariant-loop decreases-loop
-add_k c = search rules
+overflow_add-k : tie.Need-overflow_add-k invariant-loop-k decreases-loop-k
+overflow_add-k c = search rules
 
-loop_less : tie.Need-loop-smaller invariant-loop decreases-loop
-loop_less c = search rules
+loop-k-smaller : tie.Need-loop-k-smaller invariant-loop-k decreases-loop-k
+loop-k-smaller c = search rules
 
-loop_again : tie.Need-loop-preserved invariant-loop decreases-loop
-loop_again c = search rules
+loop-k-preserved : tie.Need-loop-k-preserved invariant-loop-k decreases-loop-k
+loop-k-preserved c = search rules
 
-returns : tie.Need-returns invariant-loop decreases-loop
+returns : tie.Need-returns invariant-loop-k decreases-loop-k
 returns c = search rules
 
 pub places_spec : {M : Type 1} → statement M
 places_spec =
     tie.close
     (tie.spec
-    invariant-loop
-    decreases-loop
-    loop_holds
-    element_copy_out_place
-    place_requires
-    cast_place
-    array_write_place
-    add_k
-    loop_less
-    loop_again
+    invariant-loop-k
+    decreases-loop-k
+    loop-k-init
+    bounds-order-k
+    place-v-requires
+    overflow_cast-place
+    bounds-place-v
+    overflow_add-k
+    loop-k-smaller
+    loop-k-preserved
     returns)

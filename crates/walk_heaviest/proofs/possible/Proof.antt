@@ -7,14 +7,14 @@ use Rattle.walk_heaviest.proofs.possible.Reads as reads
 use Rattle.walk_heaviest.proofs.possible.Lts as lts
 use Rattle.walk_feasible.proofs.feasible.Reads as feasible-reads
 
+returns-then-marks-eq0 : tie.Need-returns-then-marks-eq0
+returns-then-marks-eq0 c = λ shape rooted rest. sym (rest c.if-marks-eq0.true)
+
+feasible-requires : tie.Need-feasible-requires
+feasible-requires c κs = search rules
+
 returns : tie.Need-returns
-returns c = λ shape rooted rest. sym (rest c.if1.true)
-
-feasible_requires : tie.Need-feasible-requires
-feasible_requires c κs = search rules
-
-returns_2 : tie.Need-returns-2
-returns_2 c = λ shape rooted rest. c.feasible.ensures shape rooted
+returns-then-marks-eq0 c = λ shape rooted rest. c.feasible.ensures shape rooted
 
 pub possible_spec : {M : Type 1} → statement M
-possible_spec = tie.close (tie.spec returns feasible_requires returns_2)
+possible_spec = tie.close (tie.spec returns-then-marks-eq0 feasible-requires returns-then-marks-eq0)

@@ -14,59 +14,59 @@ use Rattle.walk_heaviest.proofs.settle.Statement.{statement}
 use Rattle.walk_heaviest.proofs.settle.Tie as tie
 
 -- The start, from where the first sweep is done.
-abbrev start : tie.After-sweep-first → tie.Start
+abbrev start : tie.After-sweep_first-marks → tie.Start
 start s = s.before.before.before.before.before.before
 
-places_requires : tie.Need-places-requires
-places_requires c κs = search rules
+places-place-requires : tie.Need-places-place-requires
+places-place-requires c κs = search rules
 
-sweep_first_requires : tie.Need-sweep-first-requires
-sweep_first_requires c κs = let p = c.before.before.before.before.before.requires in sweepable_later 0 1 p (omega arith) p.network.linked.square (held_more (omega arith) p.held)
+sweep_first-marks-requires : tie.Need-sweep_first-marks-requires
+sweep_first-marks-requires c κs = let p = c.before.before.before.before.before.requires in sweepable_later 0 1 p (omega arith) p.network.linked.square (held_more (omega arith) p.held)
 
-possible_requires : tie.Need-possible-requires
-possible_requires c κs = search rules
+possible-requires : tie.Need-possible-requires
+possible-requires c κs = search rules
 
-same_length : tie.Need-same-length
-same_length c = search rules
+shape_of-d-then-not-possible : tie.Need-shape_of-d-then-not-possible
+shape_of-d-then-not-possible c = search rules
 
-returns : tie.Need-returns
-returns c =
+returns-then-not-possible : tie.Need-returns-then-not-possible
+returns-then-not-possible c =
     let f = c.before.before.before in
     record {
-      square = f.sweep-first.ensures.swept.square;
+      square = f.sweep_first-marks.ensures.swept.square;
       settled = λ q. absurd (both_ways q refl);
-      told = λ shape rooted rest. sym (not-true _ c.if1.true) ∙ c.before.possible.ensures shape rooted (rest f.sweep-first.new.0 f.sweep-first.result f.sweep-first.ensures);
+      told = λ shape rooted rest. sym (not-true _ c.if-not-possible.true) ∙ c.before.possible.ensures shape rooted (rest f.sweep_first-marks.new.d-1 f.sweep_first-marks.result f.sweep_first-marks.ensures);
     }
 
-sweep_on_requires : tie.Need-sweep-on-requires
-sweep_on_requires c κs = let f = c.before.before.before.before.before in let p = (start f).requires in let first = f.sweep-first.ensures.swept in sweepable_later 1 (most_steps - 1) p (omega arith) first.square (held_more (omega (arith, p.few)) (first.held p.level p.held))
+sweep_on-requires : tie.Need-sweep_on-requires
+sweep_on-requires c κs = let f = c.before.before.before.before.before in let p = (start f).requires in let first = f.sweep_first-marks.ensures.swept in sweepable_later 1 (most_steps - 1) p (omega arith) first.square (held_more (omega (arith, p.few)) (first.held p.level p.held))
 
-same_length_2 : tie.Need-same-length-2
-same_length_2 c = search rules
+shape_of-d : tie.Need-shape_of-d
+shape_of-d c = search rules
 
-returns_2 : tie.Need-returns-2
-returns_2 c =
+returns : tie.Need-returns
+returns-then-not-possible c =
     let tested = c.before.before.before.before in
     let f = tested.before.before.before in
     let s = start f in
     let a = s.args in
-    let first = f.sweep-first.ensures in
-    let settled = c.before.sweep-on.ensures _ (settling_opened a.es.now (leasts_in a.leasts.now) a.waiting.now a.number.now a.width a.n a.d.now s.pre.network.linked.square first) in
+    let first = f.sweep_first-marks.ensures in
+    let settled = c.before.sweep_on.ensures _ (settling_opened a.es.now (leasts_in a.leasts.now) a.waiting.now a.number.now a.width a.n a.d-1.now s.pre.network.linked.square first) in
     record {
       square = settled.square;
       settled = λ q. settled;
-      told = λ shape rooted rest. sym (not-false _ tested.if1.false) ∙ tested.before.possible.ensures shape rooted (rest f.sweep-first.new.0 f.sweep-first.result first);
+      told = λ shape rooted rest. sym (not-false _ tested.if-not-possible.false) ∙ tested.before.possible.ensures shape rooted (rest f.sweep_first-marks.new.d-1 f.sweep_first-marks.result first);
     }
 
 pub settle_spec : {M : Type 1} → statement M
 settle_spec =
     tie.close
     (tie.spec
-    places_requires
-    sweep_first_requires
-    possible_requires
-    same_length
-    returns
-    sweep_on_requires
-    same_length_2
-    returns_2)
+    places-place-requires
+    sweep_first-marks-requires
+    possible-requires
+    shape_of-d-then-not-possible
+    returns-then-not-possible
+    sweep_on-requires
+    shape_of-d
+    returns-then-not-possible)

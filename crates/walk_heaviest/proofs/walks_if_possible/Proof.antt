@@ -21,10 +21,10 @@ use Rattle.walk_heaviest.proofs.walks_if_possible.Tie as tie
 abbrev start : tie.After-transpose → tie.Start
 start s = s.before.before.before.before
 
-abbrev turned : tie.After-seed → tie.After-transpose
+abbrev turned : tie.After-seed-width → tie.After-transpose
 turned s = s.before.before.before
 
-abbrev seeded : tie.After-settle → tie.After-seed
+abbrev seeded : tie.After-settle → tie.After-seed-width
 seeded s = s.before.before.before.before.before
 
 abbrev origin : tie.After-settle → tie.Start
@@ -40,38 +40,38 @@ told w shape rooted gains leasts sources =
     let s = start t in
     let a = s.args in
     w.settle.ensures.told shape rooted
-    (λ d₁ m opened. rest_stable a.es.now (leasts_in a.leasts.now) a.maps.now t.transpose.last.1.1.0 a.sets.now a.n s.pre.given.some s.pre.given.few t.transpose.ensures shape gains leasts sources sown.seed.ensures opened rooted)
+    (λ d₁ m opened. rest_stable a.es.now (leasts_in a.leasts.now) a.maps.now t.transpose.last.1.1.0 a.sets.now a.n s.pre.given.some s.pre.given.few t.transpose.ensures shape gains leasts sources sown.seed-width.ensures opened rooted)
 
-transpose_requires : tie.Need-transpose-requires
-transpose_requires c κs = search rules
+transpose-requires : tie.Need-transpose-requires
+transpose-requires c κs = search rules
 
-seed_requires : tie.Need-seed-requires
-seed_requires c κs = search rules
+seed-width-requires : tie.Need-seed-width-requires
+seed-width-requires c κs = search rules
 
-settle_requires : tie.Need-settle-requires
-settle_requires c κs =
+settle-requires : tie.Need-settle-requires
+settle-requires c κs =
     let seeded = c.before.before.before.before in
     let t = turned seeded in
     let s = start t in
     let p = s.pre in
-    let S = seeded.seed.ensures.square in
+    let S = seeded.seed-width.ensures.square in
     let within = turned_within s.args.maps.now t.transpose.last.1.1.0 s.args.n t.transpose.ensures in
     record {
       some = p.given.some;
       few = p.given.few;
       inside = omega (arith, p.inside, S.rows);
-      narrow = seeded.seed.ensures.few;
+      narrow = seeded.seed-width.ensures.few;
       network = record {
         linked = record { listed = p.given.listed; ends = λ k b. omega (arith, p.ends k b, S.rows); square = square_own S };
         waits = λ a b h. omega (arith, within a b h, p.inside, S.rows);
       };
       level = most_gain;
-      held = seeded.seed.ensures.held;
+      held = seeded.seed-width.ensures.held;
       room = omega arith;
     }
 
-same_length : tie.Need-same-length
-same_length c = search rules
+shape_of-d : tie.Need-shape_of-d
+shape_of-d c = search rules
 
 returns : tie.Need-returns
 returns c =
@@ -81,14 +81,14 @@ returns c =
     let s = start t in
     let a = s.args in
     record {
-      square = square_then sown.seed.ensures.square w.settle.ensures.square;
+      square = square_then sown.seed-width.ensures.square w.settle.ensures.square;
       cells = λ q within leasts well posed gains x inside support v b member.
           walks_found a.es.now (leasts_in a.leasts.now) a.maps.now t.transpose.last.1.1.0 a.sets.now a.n s.pre.given.few within t.transpose.ensures well posed gains leasts
-          sown.seed.ensures (w.settle.ensures.settled q) x inside support v b member;
+          sown.seed-width.ensures (w.settle.ensures.settled q) x inside support v b member;
       told = told w;
-      first = λ v b h. omega (arith, sown.seed.ensures.low v 0 b (omega arith) h);
+      first = λ v b h. omega (arith, sown.seed-width.ensures.low v 0 b (omega arith) h);
     }
 
 pub walks_if_possible_spec : {M : Type 1} → statement M
 walks_if_possible_spec =
-    tie.close (tie.spec transpose_requires seed_requires settle_requires same_length returns)
+    tie.close (tie.spec transpose-requires seed-width-requires settle-requires shape_of-d returns)

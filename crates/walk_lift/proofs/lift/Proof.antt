@@ -14,102 +14,102 @@ use Rattle.walk_lift.proofs.Lifting.{lifted_start, lifted_turn, liftable_turn}
 use Rattle.walk_lift.proofs.lift.Statement.{statement}
 use Rattle.walk_lift.proofs.lift.Tie as tie
 
-abbrev invariant-loop : tie.invariant-loop
-invariant-loop d₀ row to delta width k₀ d k = (k ≤ width) × (k % 4 ≡ 0) × Lifted (λ j. j < k) to (to_z w32 delta) row d₀ d
+abbrev invariant-loop-k : tie.invariant-loop-k
+invariant-loop-k d₀ row to delta width k₀ d k = (k ≤ width) × (k % 4 ≡ 0) × Lifted (λ j. j < k) to (to_z w32 delta) row d₀ d
 
-abbrev decreases-loop : tie.decreases-loop
-decreases-loop d₀ row to delta width k₀ d k = width - k
+abbrev decreases-loop-k : tie.decreases-loop-k
+decreases-loop-k d₀ row to delta width k₀ d k = width - k
 
 -- What is known of the columns of a turn: a turn lifts those of one more than the last, and there is room for all four.
-abbrev Lifts : tie.At-loop invariant-loop decreases-loop → ℕ → List (List ℤ) → Type 0
-Lifts s n d = let a = s.before.args in Lifted (λ j. j < n) a.to (back a.delta) a.row.now a.d.now d
+abbrev Lifts : tie.At-loop-k invariant-loop-k decreases-loop-k → ℕ → List (List ℤ) → Type 0
+Lifts s n d = let a = s.before.args in Lifted (λ j. j < n) a.to (back a.delta) a.row.now a.d-1.now d
 
-ready : (s : tie.At-loop invariant-loop decreases-loop) {n : ℕ} {d : List (List ℤ)} (k : ℕ) → k < s.before.args.width → Lifts s n d → LiftableCell s.before.args.to k (back s.before.args.delta) s.before.args.row.now d
+ready : (s : tie.At-loop-k invariant-loop-k decreases-loop-k) {n : ℕ} {d : List (List ℤ)} (k : ℕ) → k < s.before.args.width → Lifts s n d → LiftableCell s.before.args.to k (back s.before.args.delta) s.before.args.row.now d
 ready s k b L = let fits = to_z-of_z s.before.ranges.delta in rw fits (liftable_turn k b s.before.requires (rw fits at L))
 
-four : (s : tie.In-loop invariant-loop decreases-loop) → s.before.loop.k + 4 ≤ s.before.before.args.width
-four s = omega (arith, s.loop-test.true, s.before.loop.invariant.0, s.before.loop.invariant.1, s.before.before.requires.movable.fours)
+four : (s : tie.In-loop-k invariant-loop-k decreases-loop-k) → s.before.loop-k.k + 4 ≤ s.before.before.args.width
+four s = omega (arith, s.loop-k-test.true, s.before.loop-k.invariant.0, s.before.loop-k.invariant.1, s.before.before.requires.movable.fours)
 
 -- The turn, and what is lifted, from where one, two, three and four of its columns are.
-abbrev turn : tie.After-d invariant-loop decreases-loop → tie.In-loop invariant-loop decreases-loop
+abbrev turn : tie.After-d-1 invariant-loop-k decreases-loop-k → tie.In-loop-k invariant-loop-k decreases-loop-k
 turn s = s.before.before.before
 
-abbrev turn_2 : tie.After-d2 invariant-loop decreases-loop → tie.In-loop invariant-loop decreases-loop
+abbrev turn_2 : tie.After-d-in-loop-k-1 invariant-loop-k decreases-loop-k → tie.In-loop-k invariant-loop-k decreases-loop-k
 turn_2 s = turn s.before.before.before
 
-abbrev turn_3 : tie.After-d3 invariant-loop decreases-loop → tie.In-loop invariant-loop decreases-loop
+abbrev turn_3 : tie.After-d-in-loop-k-2-1 invariant-loop-k decreases-loop-k → tie.In-loop-k invariant-loop-k decreases-loop-k
 turn_3 s = turn_2 s.before.before.before
 
-abbrev turn_4 : tie.After-d4 invariant-loop decreases-loop → tie.In-loop invariant-loop decreases-loop
+abbrev turn_4 : tie.After-d-in-loop-k-3-1 invariant-loop-k decreases-loop-k → tie.In-loop-k invariant-loop-k decreases-loop-k
 turn_4 s = turn_3 s.before.before.before
 
-lifts : (s : tie.After-d invariant-loop decreases-loop) → Lifts (turn s).before ((turn s).before.loop.k + 1) s.before.lift-cell.new.0
-lifts s = lifted_turn _ (omega arith) (turn s).before.loop.invariant.2 s.before.lift-cell.ensures.0
+lifts : (s : tie.After-d-1 invariant-loop-k decreases-loop-k) → Lifts (turn s).before ((turn s).before.loop-k.k + 1) s.before.lift_cell.new.d-1
+lifts s = lifted_turn _ (omega arith) (turn s).before.loop-k.invariant.2 s.before.lift_cell.ensures.0
 
-lifts_2 : (s : tie.After-d2 invariant-loop decreases-loop) → Lifts (turn_2 s).before ((turn_2 s).before.loop.k + 2) s.before.lift-cell2.new.0
-lifts_2 s = lifted_turn _ (omega arith) (lifts s.before.before.before) s.before.lift-cell2.ensures.0
+lifts_2 : (s : tie.After-d-in-loop-k-1 invariant-loop-k decreases-loop-k) → Lifts (turn_2 s).before ((turn_2 s).before.loop-k.k + 2) s.before.lift_cell-in-loop-k.new.d-1
+lifts_2 s = lifted_turn _ (omega arith) (lifts s.before.before.before) s.before.lift_cell-in-loop-k.ensures.0
 
-lifts_3 : (s : tie.After-d3 invariant-loop decreases-loop) → Lifts (turn_3 s).before ((turn_3 s).before.loop.k + 3) s.before.lift-cell3.new.0
-lifts_3 s = lifted_turn _ (omega arith) (lifts_2 s.before.before.before) s.before.lift-cell3.ensures.0
+lifts_3 : (s : tie.After-d-in-loop-k-2-1 invariant-loop-k decreases-loop-k) → Lifts (turn_3 s).before ((turn_3 s).before.loop-k.k + 3) s.before.lift_cell-in-loop-k-2.new.d-1
+lifts_3 s = lifted_turn _ (omega arith) (lifts_2 s.before.before.before) s.before.lift_cell-in-loop-k-2.ensures.0
 
-lifts_4 : (s : tie.After-d4 invariant-loop decreases-loop) → Lifts (turn_4 s).before ((turn_4 s).before.loop.k + 4) s.before.lift-cell4.new.0
-lifts_4 s = lifted_turn _ (omega arith) (lifts_3 s.before.before.before) s.before.lift-cell4.ensures.0
+lifts_4 : (s : tie.After-d-in-loop-k-3-1 invariant-loop-k decreases-loop-k) → Lifts (turn_4 s).before ((turn_4 s).before.loop-k.k + 4) s.before.lift_cell-in-loop-k-3.new.d-1
+lifts_4 s = lifted_turn _ (omega arith) (lifts_3 s.before.before.before) s.before.lift_cell-in-loop-k-3.ensures.0
 
-loop_holds : tie.Need-loop-init invariant-loop decreases-loop
-loop_holds c = (omega arith, omega arith, lifted_start _ _ _ _ c.requires.target.square)
+loop-k-init : tie.Need-loop-k-init invariant-loop-k decreases-loop-k
+loop-k-init c = (omega arith, omega arith, lifted_start _ _ _ _ c.requires.target.square)
 
-lift_cell_requires : tie.Need-lift-cell-requires invariant-loop decreases-loop
-lift_cell_requires c κs = let s = c.before in ready s.before _ (omega (arith, four s)) s.before.loop.invariant.2
+lift_cell-requires : tie.Need-lift_cell-requires invariant-loop-k decreases-loop-k
+lift_cell-requires c κs = let s = c.before in ready s.before _ (omega (arith, four s)) s.before.loop-k.invariant.2
 
-add_lift_cell : tie.Need-overflow-add-lift-cell invariant-loop decreases-loop
-add_lift_cell c = search rules
+overflow_add-k : tie.Need-overflow_add-k invariant-loop-k decreases-loop-k
+overflow_add-k c = search rules
 
-lift_cell_requires_2 : tie.Need-lift-cell-requires-2 invariant-loop decreases-loop
-lift_cell_requires_2 c κs = let s = turn c.before in ready s.before _ (omega (arith, four s)) (lifts c.before)
+lift_cell-requires-in-loop-k : tie.Need-lift_cell-requires-in-loop-k invariant-loop-k decreases-loop-k
+lift_cell-requires-in-loop-k c κs = let s = turn c.before in ready s.before _ (omega (arith, four s)) (lifts c.before)
 
-add_lift_cell_2 : tie.Need-overflow-add-lift-cell-2 invariant-loop decreases-loop
-add_lift_cell_2 c = search rules
+overflow_add-k-in-loop-k : tie.Need-overflow_add-k-in-loop-k invariant-loop-k decreases-loop-k
+overflow_add-k-in-loop-k c = search rules
 
-lift_cell_requires_3 : tie.Need-lift-cell-requires-3 invariant-loop decreases-loop
-lift_cell_requires_3 c κs = let s = turn_2 c.before in ready s.before _ (omega (arith, four s)) (lifts_2 c.before)
+lift_cell-requires-in-loop-k-2 : tie.Need-lift_cell-requires-in-loop-k-2 invariant-loop-k decreases-loop-k
+lift_cell-requires-in-loop-k-2 c κs = let s = turn_2 c.before in ready s.before _ (omega (arith, four s)) (lifts_2 c.before)
 
-add_lift_cell_3 : tie.Need-overflow-add-lift-cell-3 invariant-loop decreases-loop
-add_lift_cell_3 c = search rules
+overflow_add-k-in-loop-k-2 : tie.Need-overflow_add-k-in-loop-k-2 invariant-loop-k decreases-loop-k
+overflow_add-k-in-loop-k-2 c = search rules
 
-lift_cell_requires_4 : tie.Need-lift-cell-requires-4 invariant-loop decreases-loop
-lift_cell_requires_4 c κs = let s = turn_3 c.before in ready s.before _ (omega (arith, four s)) (lifts_3 c.before)
+lift_cell-requires-in-loop-k-3 : tie.Need-lift_cell-requires-in-loop-k-3 invariant-loop-k decreases-loop-k
+lift_cell-requires-in-loop-k-3 c κs = let s = turn_3 c.before in ready s.before _ (omega (arith, four s)) (lifts_3 c.before)
 
-add_k : tie.Need-overflow-add-k invariant-loop decreases-loop
-add_k c = search rules
+overflow_add-k-in-loop-k-3 : tie.Need-overflow_add-k-in-loop-k-3 invariant-loop-k decreases-loop-k
+overflow_add-k-in-loop-k-3 c = search rules
 
-loop_less : tie.Need-loop-smaller invariant-loop decreases-loop
-loop_less c = search rules
+loop-k-smaller : tie.Need-loop-k-smaller invariant-loop-k decreases-loop-k
+loop-k-smaller c = search rules
 
-loop_again : tie.Need-loop-preserved invariant-loop decreases-loop
-loop_again c = let s = turn_4 c in (four s, omega (arith, s.before.loop.inv.1), lifts_4 c)
+loop-k-preserved : tie.Need-loop-k-preserved invariant-loop-k decreases-loop-k
+loop-k-preserved c = let s = turn_4 c in (four s, omega (arith, s.before.loop-k.inv.1), lifts_4 c)
 
-same_length : tie.Need-same-length invariant-loop decreases-loop
-same_length c = c.before.loop.invariant.2.square.rows
+shape_of-d : tie.Need-shape_of-d invariant-loop-k decreases-loop-k
+shape_of-d c = c.before.loop-k.invariant.2.square.rows
 
-returns : tie.Need-returns invariant-loop decreases-loop
-returns c = let s = c.before in let e : s.loop.k ≡ s.before.args.width = omega arith in rw (e, to_z-of_z s.before.ranges.delta) at s.loop.invariant.2
+returns : tie.Need-returns invariant-loop-k decreases-loop-k
+returns c = let s = c.before in let e : s.loop-k.k ≡ s.before.args.width = omega arith in rw (e, to_z-of_z s.before.ranges.delta) at s.loop-k.invariant.2
 
 pub lift_spec : {M : Type 1} → statement M
 lift_spec =
     tie.close
     (tie.spec
-    invariant-loop
-    decreases-loop
-    loop_holds
-    lift_cell_requires
-    add_lift_cell
-    lift_cell_requires_2
-    add_lift_cell_2
-    lift_cell_requires_3
-    add_lift_cell_3
-    lift_cell_requires_4
-    add_k
-    loop_less
-    loop_again
-    same_length
+    invariant-loop-k
+    decreases-loop-k
+    loop-k-init
+    lift_cell-requires
+    overflow_add-k
+    lift_cell-requires-in-loop-k
+    overflow_add-k-in-loop-k
+    lift_cell-requires-in-loop-k-2
+    overflow_add-k-in-loop-k-2
+    lift_cell-requires-in-loop-k-3
+    overflow_add-k-in-loop-k-3
+    loop-k-smaller
+    loop-k-preserved
+    shape_of-d
     returns)

@@ -6,36 +6,36 @@ use Rattle.walk_lift.proofs.Lifting.{raised_marked, raised_noting}
 use Rattle.walk_lift.proofs.raise_row.Statement.{statement}
 use Rattle.walk_lift.proofs.raise_row.Tie as tie
 
-has_requires : tie.Need-has-requires
-has_requires c κs = search rules
+has-requires : tie.Need-has-requires
+has-requires c κs = search rules
 
-lift_requires : tie.Need-lift-requires
-lift_requires c κs = search rules
+lift-requires : tie.Need-lift-requires
+lift-requires c κs = search rules
 
-same_length : tie.Need-same-length
-same_length c = search rules
+shape_of-d-then-has : tie.Need-shape_of-d-then-has
+shape_of-d-then-has c = search rules
+
+returns-then-has : tie.Need-returns-then-has
+returns-then-has c =
+    let has = c.before.before.before.before in
+    raised_marked (sym has.has.ensures ∙ c.before.before.before.if-has.true) (rw (to_z-of_z has.before.ranges.delta) at c.before.lift.ensures)
+
+lift_noting-grew-requires : tie.Need-lift_noting-grew-requires
+lift_noting-grew-requires c κs = search rules
+
+insert_if-requires : tie.Need-insert_if-requires
+insert_if-requires c κs = search rules
+
+shape_of-d : tie.Need-shape_of-d
+shape_of-d c = search rules
 
 returns : tie.Need-returns
-returns c =
-    let has = c.before.before.before.before in
-    raised_marked (sym has.has.ensures ∙ c.before.before.before.if1.true) (rw (to_z-of_z has.before.ranges.delta) at c.before.lift.ensures)
-
-lift_noting_requires : tie.Need-lift-noting-requires
-lift_noting_requires c κs = search rules
-
-insert_if_requires : tie.Need-insert-if-requires
-insert_if_requires c κs = search rules
-
-same_length_2 : tie.Need-same-length-2
-same_length_2 c = search rules
-
-returns_2 : tie.Need-returns-2
-returns_2 c =
+returns-then-has c =
     let lifts = c.before.before in
     let start = lifts.before.before.before.before in
-    raised_noting _ c.insert-if.ensures (rw (to_z-of_z start.ranges.delta) at lifts.lift-noting.ensures.0) lifts.lift-noting.ensures.1
+    raised_noting _ c.insert_if.ensures (rw (to_z-of_z start.ranges.delta) at lifts.lift_noting-grew.ensures.0) lifts.lift_noting-grew.ensures.1
 
 pub raise_row_spec : {M : Type 1} → statement M
 raise_row_spec =
     tie.close
-    (tie.spec has_requires lift_requires same_length returns lift_noting_requires insert_if_requires same_length_2 returns_2)
+    (tie.spec has-requires lift-requires shape_of-d-then-has returns-then-has lift_noting-grew-requires insert_if-requires shape_of-d returns-then-has)

@@ -10,54 +10,54 @@ use Rattle.walk_seed.proofs.all_members.Statement.{statement}
 use Rattle.walk_seed.proofs.all_members.Tie as tie
 use Rattle.walk_seed.proofs.all_members.Reads as reads
 use Rattle.walk_seed.proofs.all_members.Lts as lts
-use Rattle.data_sets.proofs.union.Reads as union-reads
+use Rattle.data_sets.proofs.union-all.Reads as union-reads
 
-abbrev invariant-loop : tie.invariant-loop
-invariant-loop sets n all₀ v₀ all v = (v ≤ n) × ((a : ℕ) → test_bit all a ≡ any_below (λ w. row_bit sets w a) v)
+abbrev invariant-loop-v : tie.invariant-loop-v
+invariant-loop-v sets n all₀ v₀ all v = (v ≤ n) × ((a : ℕ) → test_bit all a ≡ any_below (λ w. row_bit sets w a) v)
 
-abbrev decreases-loop : tie.decreases-loop
-decreases-loop sets n all₀ v₀ all v = n - v
+abbrev decreases-loop-v : tie.decreases-loop-v
+decreases-loop-v sets n all₀ v₀ all v = n - v
 
-loop_holds : tie.Need-loop-init invariant-loop decreases-loop
-loop_holds c = (omega arith, union_none c.args.sets.now)
+loop-v-init : tie.Need-loop-v-init invariant-loop-v decreases-loop-v
+loop-v-init c = (omega arith, union_none c.args.sets.now)
 
-mul_union : tie.Need-overflow-mul-union invariant-loop decreases-loop
-mul_union c = search rules
+offset_bounds-sets-v : tie.Need-offset_bounds-sets-v invariant-loop-v decreases-loop-v
+offset_bounds-sets-v c = search rules
 
-element_copy_out_union : tie.Need-element-copy-out-union invariant-loop decreases-loop
-element_copy_out_union c = search rules
+bounds-sets-v : tie.Need-bounds-sets-v invariant-loop-v decreases-loop-v
+bounds-sets-v c = search rules
 
-union_requires : tie.Need-union-requires invariant-loop decreases-loop
-union_requires c κs = search rules
+union-all-requires : tie.Need-union-all-requires invariant-loop-v decreases-loop-v
+union-all-requires c κs = search rules
 
-add_v : tie.Need-overflow-add-v invariant-loop decreases-loop
-add_v c = search rules
+overflow_add-v : tie.Need-overflow_add-v invariant-loop-v decreases-loop-v
+overflow_add-v c = search rules
 
-loop_less : tie.Need-loop-smaller invariant-loop decreases-loop
-loop_less c = search rules
+loop-v-smaller : tie.Need-loop-v-smaller invariant-loop-v decreases-loop-v
+loop-v-smaller c = search rules
 
-loop_again : tie.Need-loop-preserved invariant-loop decreases-loop
-loop_again c =
+loop-v-preserved : tie.Need-loop-v-preserved invariant-loop-v decreases-loop-v
+loop-v-preserved c =
     let s = c.before.before.before in
-    (omega arith, λ a. union_more s.before.args.sets.now s.loop.v s.loop.all c.union.result a (s.loop.invariant.1 a) (c.union.ensures a))
+    (omega arith, λ a. union_more s.before.args.sets.now s.loop-v.v s.loop-v.all c.union-all.result a (s.loop-v.invariant.1 a) (c.union-all.ensures a))
 
-returns : tie.Need-returns invariant-loop decreases-loop
+returns : tie.Need-returns invariant-loop-v decreases-loop-v
 returns c =
     let s = c.before in
-    let e : s.loop.v ≡ s.before.args.n = omega arith in
-    λ a. s.loop.invariant.1 a ∙ ap (any_below (λ w. row_bit s.before.args.sets.now w a)) e
+    let e : s.loop-v.v ≡ s.before.args.n = omega arith in
+    λ a. s.loop-v.invariant.1 a ∙ ap (any_below (λ w. row_bit s.before.args.sets.now w a)) e
 
 pub all_members_spec : {M : Type 1} → statement M
 all_members_spec =
     tie.close
     (tie.spec
-    invariant-loop
-    decreases-loop
-    loop_holds
-    mul_union
-    element_copy_out_union
-    union_requires
-    add_v
-    loop_less
-    loop_again
+    invariant-loop-v
+    decreases-loop-v
+    loop-v-init
+    offset_bounds-sets-v
+    bounds-sets-v
+    union-all-requires
+    overflow_add-v
+    loop-v-smaller
+    loop-v-preserved
     returns)

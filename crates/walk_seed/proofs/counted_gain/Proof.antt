@@ -5,23 +5,23 @@ use Rattle.laws.proofs.Bools.{both_ways}
 use Rattle.walk_seed.proofs.counted_gain.Statement.{statement}
 use Rattle.walk_seed.proofs.counted_gain.Tie as tie
 
-edge_gain_requires : tie.Need-edge-gain-requires
-edge_gain_requires c κs = search rules
+edge_gain-gain-requires : tie.Need-edge_gain-gain-requires
+edge_gain-gain-requires c κs = search rules
 
-is_counted_requires : tie.Need-is-counted-requires
-is_counted_requires c κs = search rules
+is_counted-requires : tie.Need-is_counted-requires
+is_counted-requires c κs = search rules
 
-returns : tie.Need-returns
-returns c counts = c.before.before.edge-gain.ensures.0
+returns-then-is_counted : tie.Need-returns-then-is_counted
+returns-then-is_counted c counts = c.before.before.edge_gain-gain.ensures.0
 
-returns_2 : tie.Need-returns-2
-returns_2 c counts = absurd (both_ways counts (sym c.before.is-counted.ensures ∙ c.if1.false))
+returns-else-is_counted : tie.Need-returns-else-is_counted
+returns-then-is_counted-else-is_counted c counts = absurd (both_ways counts (sym c.before.is_counted.ensures ∙ c.if-is_counted.false))
 
 pub counted_gain_spec : {M : Type 1} → statement M
 counted_gain_spec =
     tie.close
     (tie.spec
-    edge_gain_requires
-    is_counted_requires
-    returns
-    returns_2)
+    edge_gain-gain-requires
+    is_counted-requires
+    returns-then-is_counted
+    returns-then-is_counted-else-is_counted)

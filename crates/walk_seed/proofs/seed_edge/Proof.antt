@@ -15,79 +15,79 @@ use Rattle.walk_seed.proofs.seed_edge.Statement.{statement}
 use Rattle.walk_seed.proofs.seed_edge.Tie as tie
 
 -- Places: the start, and where the edge's start is read, from where the cell of its walk is made.
-abbrev start : tie.After-of-edge → tie.Start
+abbrev start : tie.After-of_edge-c → tie.Start
 start s = s.before.before.before.before.before.before.before
 
-abbrev leaving : tie.After-of-edge → tie.After-edge-from
+abbrev leaving : tie.After-of_edge-c → tie.After-edge_from-from
 leaving s = s.before.before.before.before.before.before
 
-abbrev edge : tie.After-of-edge → Edge
+abbrev edge : tie.After-of_edge-c → Edge
 edge s = unpack (start s).args.w
 
 -- That cell says what the edge gains.
-weighs : (s : tie.After-of-edge) → value s.of-edge.result ≡ suc ((edge s).gain - (edge s).loss)
-weighs s = omega (arith, s.of-edge.ensures, s.before.before.edge-gain.ensures.0, s.before.edge-loss.ensures.0)
+weighs : (s : tie.After-of_edge-c) → value s.of_edge-c.result ≡ suc ((edge s).gain - (edge s).loss)
+weighs s = omega (arith, s.of_edge-c.ensures, s.before.before.edge_gain.ensures.0, s.before.edge_loss.ensures.0)
 
-edge_from_requires : tie.Need-edge-from-requires
-edge_from_requires c κs = search rules
+edge_from-from-requires : tie.Need-edge_from-from-requires
+edge_from-from-requires c κs = search rules
 
-returns : tie.Need-returns
-returns c = let s = c.before.before in begun_source s.args.number.now (unpack s.args.w) s.args.d.now s.requires.placed.square (sym c.before.edge-from.ensures.0 ∙ c.if1.true)
+returns-then-from-eq0 : tie.Need-returns-then-from-eq0
+returns-then-from-eq0 c = let s = c.before.before in begun_source s.args.number.now (unpack s.args.w) s.args.d-1.now s.requires.placed.square (sym c.before.edge_from-from.ensures.0 ∙ c.if-from-eq0.true)
 
-element_copy_out_k : tie.Need-element-copy-out-k
-element_copy_out_k c = search rules
+bounds-number-from : tie.Need-bounds-number-from
+bounds-number-from c = search rules
 
-returns_2 : tie.Need-returns-2
-returns_2 c =
+returns-then-k-ge64 : tie.Need-returns-then-k-ge64
+returns-then-from-eq0-then-k-ge64 c =
     let f = c.before.before.before in
     let s = f.before in
-    begun_unnumbered s.args.number.now (unpack s.args.w) s.args.d.now s.requires.placed.square (omega (arith, ap (λ (x : ℕ). get_or s.args.number.now x 0) f.edge-from.ensures.0, c.if2.true))
+    begun_unnumbered s.args.number.now (unpack s.args.w) s.args.d-1.now s.requires.placed.square (omega (arith, ap (λ (x : ℕ). get_or s.args.number.now x 0) f.edge_from-from.ensures.0, c.if-k-ge64.true))
 
-edge_gain_requires : tie.Need-edge-gain-requires
-edge_gain_requires c κs = search rules
+edge_gain-requires : tie.Need-edge_gain-requires
+edge_gain-requires c κs = search rules
 
-edge_loss_requires : tie.Need-edge-loss-requires
-edge_loss_requires c κs = search rules
+edge_loss-requires : tie.Need-edge_loss-requires
+edge_loss-requires c κs = search rules
 
-of_edge_requires : tie.Need-of-edge-requires
-of_edge_requires c κs = search rules
+of_edge-c-requires : tie.Need-of_edge-c-requires
+of_edge-c-requires c κs = search rules
 
-edge_to_requires : tie.Need-edge-to-requires
-edge_to_requires c κs = search rules
+edge_to-requires : tie.Need-edge_to-requires
+edge_to-requires c κs = search rules
 
-place_requires : tie.Need-place-requires
-place_requires c κs = search rules
+place-requires : tie.Need-place-requires
+place-requires c κs = search rules
 
-raise_requires : tie.Need-raise-requires
-raise_requires c κs =
+raise-requires : tie.Need-raise-requires
+raise-requires c κs =
     let p = (start c.before.before.before).requires.placed in
     record { row = omega (arith, c.before.edge_to.ensures.0, p.row); few = omega (arith, c.place.ensures.1); square = p.square }
 
-same_length : tie.Need-same-length
-same_length c = search rules
+shape_of-d : tie.Need-shape_of-d
+shape_of-d c = search rules
 
-returns_3 : tie.Need-returns-3
-returns_3 c =
+returns : tie.Need-returns
+returns-then-from-eq0 c =
     let to = c.before.before.before in
     let k = c.before.before.place in
     let o = to.before.before in
     let s = start o in
-    let from = (leaving o).edge-from.ensures in
-    let fits : SFits w32 o.of-edge.result = sfits_of o.of-edge.type-inv in
+    let from = (leaving o).edge_from-from.ensures in
+    let fits : SFits w32 o.of_edge-c.result = sfits_of o.of_edge-c.type_inv in
     begun_edge
     s.args.number.now
     (unpack s.args.w)
     to.edge_to.result
     k.result
-    o.of-edge.result
-    s.args.d.now
-    c.before.raise.new.0
+    o.of_edge-c.result
+    s.args.d-1.now
+    c.before.raise.new.d-1
     to.edge_to.ensures.0
     s.pre.placed.light
     s.pre.counts
-    (λ z. o.before.before.before.before.before.if1.false (from.0 ∙ z))
+    (λ z. o.before.before.before.before.before.if-from-eq0.false (from.0 ∙ z))
     (omega (arith, from.0, from.1))
-    (omega (arith, k.ensures.0, ap (λ (x : ℕ). get_or s.args.number.now x 0) from.0, o.before.before.before.if2.false))
+    (omega (arith, k.ensures.0, ap (λ (x : ℕ). get_or s.args.number.now x 0) from.0, o.before.before.before.if-k-ge64.false))
     (weighs o)
     (rw (to_z-of_z fits) at c.before.raise.ensures)
 
@@ -95,15 +95,15 @@ pub seed_edge_spec : {M : Type 1} → statement M
 seed_edge_spec =
     tie.close
     (tie.spec
-    edge_from_requires
-    returns
-    element_copy_out_k
-    returns_2
-    edge_gain_requires
-    edge_loss_requires
-    of_edge_requires
-    edge_to_requires
-    place_requires
-    raise_requires
-    same_length
-    returns_3)
+    edge_from-from-requires
+    returns-then-from-eq0
+    bounds-number-from
+    returns-then-from-eq0-then-k-ge64
+    edge_gain-requires
+    edge_loss-requires
+    of_edge-c-requires
+    edge_to-requires
+    place-requires
+    raise-requires
+    shape_of-d
+    returns-then-from-eq0)

@@ -4,27 +4,27 @@ use Rattle.walk_seed.proofs.Seeding.{begun_idle}
 use Rattle.walk_seed.proofs.seed_edges.Statement.{statement}
 use Rattle.walk_seed.proofs.seed_edges.Tie as tie
 
-begins_some_requires : tie.Need-begins-some-requires
-begins_some_requires c κs = search rules
+begins_some-requires : tie.Need-begins_some-requires
+begins_some-requires c κs = search rules
 
-seed_words_requires : tie.Need-seed-words-requires
-seed_words_requires c κs = search rules
+seed_words-requires : tie.Need-seed_words-requires
+seed_words-requires c κs = search rules
 
-same_length : tie.Need-same-length
-same_length c = search rules
+shape_of-d : tie.Need-shape_of-d
+shape_of-d c = search rules
 
-returns : tie.Need-returns
-returns c = c.before.seed-words.ensures
+returns-then-begins_some : tie.Need-returns-then-begins_some
+returns-then-begins_some c = c.before.seed_words.ensures
 
-returns_2 : tie.Need-returns-2
-returns_2 c = let s = c.before.before.before in begun_idle _ s.args.es.now _ s.requires.square (c.before.begins-some.ensures c.if1.false)
+returns-else-begins_some : tie.Need-returns-else-begins_some
+returns-then-begins_some-else-begins_some c = let s = c.before.before.before in begun_idle _ s.args.es.now _ s.requires.square (c.before.begins_some.ensures c.if-begins_some.false)
 
 pub seed_edges_spec : {M : Type 1} → statement M
 seed_edges_spec =
     tie.close
     (tie.spec
-    begins_some_requires
-    seed_words_requires
-    same_length
-    returns
-    returns_2)
+    begins_some-requires
+    seed_words-requires
+    shape_of-d
+    returns-then-begins_some
+    returns-then-begins_some-else-begins_some)

@@ -10,55 +10,55 @@ use mathlib.Core.Path.{◌≡◌, subst}
 use Rattle.walk_seed.proofs.seed_rows.Statement.{statement}
 use Rattle.walk_seed.proofs.seed_rows.Tie as tie
 
-abbrev invariant-loop : tie.invariant-loop
-invariant-loop d₀ number leasts sets n v₀ d v = (v ≤ n) × Seeded (leasts_in leasts) number (Below sets v) d₀ d
+abbrev invariant-loop-v : tie.invariant-loop-v
+invariant-loop-v d₀ number leasts sets n v₀ d v = (v ≤ n) × Seeded (leasts_in leasts) number (Below sets v) d₀ d
 
-abbrev decreases-loop : tie.decreases-loop
-decreases-loop d₀ number leasts sets n v₀ d v = n - v
+abbrev decreases-loop-v : tie.decreases-loop-v
+decreases-loop-v d₀ number leasts sets n v₀ d v = n - v
 
-loop_holds : tie.Need-loop-init invariant-loop decreases-loop
-loop_holds c = (omega arith, below_start (leasts_in c.args.leasts.now) c.args.number.now c.args.sets.now c.args.d.now c.requires.square)
+loop-v-init : tie.Need-loop-v-init invariant-loop-v decreases-loop-v
+loop-v-init c = (omega arith, below_start (leasts_in c.args.leasts.now) c.args.number.now c.args.sets.now c.args.d-1.now c.requires.square)
 
-mul_seed_row : tie.Need-overflow-mul-seed-row invariant-loop decreases-loop
-mul_seed_row c = search rules
+offset_bounds-sets-v : tie.Need-offset_bounds-sets-v invariant-loop-v decreases-loop-v
+offset_bounds-sets-v c = search rules
 
-element_copy_out_seed_row : tie.Need-element-copy-out-seed-row invariant-loop decreases-loop
-element_copy_out_seed_row c = search rules
+bounds-sets-v : tie.Need-bounds-sets-v invariant-loop-v decreases-loop-v
+bounds-sets-v c = search rules
 
-seed_row_requires : tie.Need-seed-row-requires invariant-loop decreases-loop
-seed_row_requires c κs = let S = c.before.before.before.loop.invariant.1.square in (omega (arith, c.before.before.before.before.requires.inside, S.rows), square_own S)
+seed_row-requires : tie.Need-seed_row-requires invariant-loop-v decreases-loop-v
+seed_row-requires c κs = let S = c.before.before.before.loop-v.invariant.1.square in (omega (arith, c.before.before.before.before.requires.inside, S.rows), square_own S)
 
-add_v : tie.Need-overflow-add-v invariant-loop decreases-loop
-add_v c = search rules
+overflow_add-v : tie.Need-overflow_add-v invariant-loop-v decreases-loop-v
+overflow_add-v c = search rules
 
-loop_less : tie.Need-loop-smaller invariant-loop decreases-loop
-loop_less c = search rules
+loop-v-smaller : tie.Need-loop-v-smaller invariant-loop-v decreases-loop-v
+loop-v-smaller c = search rules
 
-loop_again : tie.Need-loop-preserved invariant-loop decreases-loop
-loop_again c = let s = c.before.before.before.before.before in (omega arith, below_more (leasts_in s.before.args.leasts.now) s.before.args.number.now s.before.args.sets.now s.loop.v s.loop.invariant.1 c.before.seed-row.ensures)
+loop-v-preserved : tie.Need-loop-v-preserved invariant-loop-v decreases-loop-v
+loop-v-preserved c = let s = c.before.before.before.before.before in (omega arith, below_more (leasts_in s.before.args.leasts.now) s.before.args.number.now s.before.args.sets.now s.loop-v.v s.loop-v.invariant.1 c.before.seed_row.ensures)
 
-same_length : tie.Need-same-length invariant-loop decreases-loop
-same_length c = c.before.loop.invariant.1.square.rows
+shape_of-d : tie.Need-shape_of-d invariant-loop-v decreases-loop-v
+shape_of-d c = c.before.loop-v.invariant.1.square.rows
 
-returns : tie.Need-returns invariant-loop decreases-loop
+returns : tie.Need-returns invariant-loop-v decreases-loop-v
 returns c =
     let s = c.before in
     let args = s.before.args in
-    let e : s.loop.v ≡ args.n = omega arith in
-    subst (λ (x : ℕ). Seeded (leasts_in args.leasts.now) args.number.now (Below args.sets.now x) args.d.now s.loop.d) e s.loop.invariant.1
+    let e : s.loop-v.v ≡ args.n = omega arith in
+    subst (λ (x : ℕ). Seeded (leasts_in args.leasts.now) args.number.now (Below args.sets.now x) args.d-1.now s.loop-v.d-1) e s.loop-v.invariant.1
 
 pub seed_rows_spec : {M : Type 1} → statement M
 seed_rows_spec =
     tie.close
     (tie.spec
-    invariant-loop
-    decreases-loop
-    loop_holds
-    mul_seed_row
-    element_copy_out_seed_row
-    seed_row_requires
-    add_v
-    loop_less
-    loop_again
-    same_length
+    invariant-loop-v
+    decreases-loop-v
+    loop-v-init
+    offset_bounds-sets-v
+    bounds-sets-v
+    seed_row-requires
+    overflow_add-v
+    loop-v-smaller
+    loop-v-preserved
+    shape_of-d
     returns)

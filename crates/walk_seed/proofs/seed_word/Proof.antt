@@ -8,42 +8,42 @@ use Rattle.walk_seed.proofs.Seeding.{begun_light, begun_uncounted}
 use Rattle.walk_seed.proofs.seed_word.Statement.{statement}
 use Rattle.walk_seed.proofs.seed_word.Tie as tie
 
-is_counted_requires : tie.Need-is-counted-requires
-is_counted_requires c κs = search rules
+is_counted-requires : tie.Need-is_counted-requires
+is_counted-requires c κs = search rules
 
-returns : tie.Need-returns
-returns c = let s = c.before.before in begun_uncounted s.args.number.now (unpack s.args.w) s.args.d.now s.requires.square (sym c.before.is-counted.ensures ∙ not-true _ c.if1.true)
+returns-then-not-is_counted : tie.Need-returns-then-not-is_counted
+returns-then-not-is_counted c = let s = c.before.before in begun_uncounted s.args.number.now (unpack s.args.w) s.args.d-1.now s.requires.square (sym c.before.is_counted.ensures ∙ not-true _ c.if-not-is_counted.true)
 
-edge_gain_requires : tie.Need-edge-gain-requires
-edge_gain_requires c κs = search rules
+edge_gain-requires : tie.Need-edge_gain-requires
+edge_gain-requires c κs = search rules
 
-edge_loss_requires : tie.Need-edge-loss-requires
-edge_loss_requires c κs = search rules
+edge_loss-requires : tie.Need-edge_loss-requires
+edge_loss-requires c κs = search rules
 
-returns_2 : tie.Need-returns-2
-returns_2 c = let s = c.before.before.before.before.before in begun_light s.args.number.now (unpack s.args.w) s.args.d.now s.requires.square (omega (arith, c.before.before.edge-gain.ensures.0, c.before.edge-loss.ensures.0, c.if2.true))
+returns-then-edge_gain-edge_loss : tie.Need-returns-then-edge_gain-edge_loss
+returns-then-not-is_counted-then-edge_gain-edge_loss c = let s = c.before.before.before.before.before in begun_light s.args.number.now (unpack s.args.w) s.args.d-1.now s.requires.square (omega (arith, c.before.before.edge_gain.ensures.0, c.before.edge_loss.ensures.0, c.if-edge_gain-edge_loss.true))
 
-seed_edge_requires : tie.Need-seed-edge-requires
-seed_edge_requires c κs =
+seed_edge-requires : tie.Need-seed_edge-requires
+seed_edge-requires c κs =
     let counted = c.before.before.before.before.before in
     let p = counted.before.requires in
-    record { placed = p; counts = sym counted.is-counted.ensures ∙ not-false _ c.before.before.before.before.if1.false }
+    record { placed = p; counts = sym counted.is_counted.ensures ∙ not-false _ c.before.before.before.before.if-not-is_counted.false }
 
-same_length : tie.Need-same-length
-same_length c = search rules
+shape_of-d : tie.Need-shape_of-d
+shape_of-d c = search rules
 
-returns_3 : tie.Need-returns-3
-returns_3 c = c.before.seed-edge.ensures
+returns : tie.Need-returns
+returns-then-not-is_counted c = c.before.seed_edge.ensures
 
 pub seed_word_spec : {M : Type 1} → statement M
 seed_word_spec =
     tie.close
     (tie.spec
-    is_counted_requires
-    returns
-    edge_gain_requires
-    edge_loss_requires
-    returns_2
-    seed_edge_requires
-    same_length
-    returns_3)
+    is_counted-requires
+    returns-then-not-is_counted
+    edge_gain-requires
+    edge_loss-requires
+    returns-then-not-is_counted-then-edge_gain-edge_loss
+    seed_edge-requires
+    shape_of-d
+    returns-then-not-is_counted)

@@ -4,26 +4,26 @@ use Rattle.walk_cells.proofs.Tables.{read_says}
 use Rattle.walk_settled.proofs.handed.Statement.{statement}
 use Rattle.walk_settled.proofs.handed.Tie as tie
 
-mul_has_handed : tie.Need-overflow-mul-has-handed
-mul_has_handed c = search rules
+offset_bounds-d-from : tie.Need-offset_bounds-d-from
+offset_bounds-d-from c = search rules
 
-index_1_has_handed : tie.Need-bounds-1-has-handed
-index_1_has_handed c = search rules
+bounds-d-from : tie.Need-bounds-d-from
+bounds-d-from c = search rules
 
-index_2_has_handed : tie.Need-bounds-2-has-handed
-index_2_has_handed c = search rules
+bounds-d-0 : tie.Need-bounds-d-0
+bounds-d-0 c = search rules
 
-mul_has_handed_2 : tie.Need-overflow-mul-has-handed-2
-mul_has_handed_2 c = search rules
+offset_bounds-d-to : tie.Need-offset_bounds-d-to
+offset_bounds-d-to c = search rules
 
-index_1_has_handed_2 : tie.Need-bounds-1-has-handed-2
-index_1_has_handed_2 c = search rules
+bounds-d-to : tie.Need-bounds-d-to
+bounds-d-to c = search rules
 
-index_2_has_handed_2 : tie.Need-bounds-2-has-handed-2
-index_2_has_handed_2 c = search rules
+bounds-d-0-2 : tie.Need-bounds-d-0-2
+bounds-d-0-2 c = search rules
 
-has_handed_requires : tie.Need-has-handed-requires
-has_handed_requires c κs = search rules
+has_handed-requires : tie.Need-has_handed-requires
+has_handed-requires c κs = search rules
 
 returns : tie.Need-returns
 returns c =
@@ -31,19 +31,19 @@ returns c =
     let first = second.before in
     let s = first.before in
     let p = s.requires in
-    let start = read_says s.args.d.now p.square p.start (search rules) first.has-handed-arg.given in
-    let end = read_says s.args.d.now p.square p.end (search rules) second.has-handed-arg2.given in
-    rw (start, end) at c.has-handed.ensures
+    let start = read_says s.args.d.now p.square p.start (search rules) first.has_handed-arg-1.given in
+    let end = read_says s.args.d.now p.square p.end (search rules) second.has_handed-arg-2-1.given in
+    rw (start, end) at c.has_handed.ensures
 
 pub handed_spec : {M : Type 1} → statement M
 handed_spec =
     tie.close
     (tie.spec
-    mul_has_handed
-    index_1_has_handed
-    index_2_has_handed
-    mul_has_handed_2
-    index_1_has_handed_2
-    index_2_has_handed_2
-    has_handed_requires
+    offset_bounds-d-from
+    bounds-d-from
+    bounds-d-0
+    offset_bounds-d-to
+    bounds-d-to
+    bounds-d-0-2
+    has_handed-requires
     returns)

@@ -12,27 +12,27 @@ use Rattle.walk_settled.proofs.settled.Lts as lts
 use Rattle.walk_settled.proofs.settled_edges.Reads as settled-edges-reads
 use Rattle.walk_settled.proofs.settled_waits.Reads as settled-waits-reads
 
-settled_edges_requires : tie.Need-settled-edges-requires
-settled_edges_requires c κs = search rules
+settled_edges-requires : tie.Need-settled_edges-requires
+settled_edges-requires c κs = search rules
+
+returns-then-not-settled_edges : tie.Need-returns-then-not-settled_edges
+returns-then-not-settled_edges c =
+    let s = c.before.before.before in
+    λ within. sym (edges_fail (said s.args.d.now) s.args.n (leasts_in s.args.leasts.now) s.args.es.now s.args.maps.now (sym c.before.settled_edges.ensures ∙ not-true _ c.if-not-settled_edges.true))
+
+settled_waits-requires : tie.Need-settled_waits-requires
+settled_waits-requires c κs = search rules
 
 returns : tie.Need-returns
-returns c =
-    let s = c.before.before.before in
-    λ within. sym (edges_fail (said s.args.d.now) s.args.n (leasts_in s.args.leasts.now) s.args.es.now s.args.maps.now (sym c.before.settled-edges.ensures ∙ not-true _ c.if1.true))
-
-settled_waits_requires : tie.Need-settled-waits-requires
-settled_waits_requires c κs = search rules
-
-returns_2 : tie.Need-returns-2
-returns_2 c =
+returns-then-not-settled_edges c =
     let s = c.before.before.before.before in
-    λ within. c.settled-waits.ensures ∙ both_pass (said s.args.d.now) s.args.n (leasts_in s.args.leasts.now) s.args.es.now s.args.maps.now s.requires.0 (sym c.before.before.settled-edges.ensures ∙ not-false _ c.before.if1.false) within
+    λ within. c.settled_waits.ensures ∙ both_pass (said s.args.d.now) s.args.n (leasts_in s.args.leasts.now) s.args.es.now s.args.maps.now s.requires.0 (sym c.before.before.settled_edges.ensures ∙ not-false _ c.before.if-not-settled_edges.false) within
 
 pub settled_spec : {M : Type 1} → statement M
 settled_spec =
     tie.close
     (tie.spec
-    settled_edges_requires
-    returns
-    settled_waits_requires
-    returns_2)
+    settled_edges-requires
+    returns-then-not-settled_edges
+    settled_waits-requires
+    returns-then-not-settled_edges)

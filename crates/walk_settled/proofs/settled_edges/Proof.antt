@@ -23,59 +23,59 @@ use Rattle.walk_settled.proofs.handed_word.Reads as handed-word-reads
 abbrev handed_at : List (List ℕ) → List ℕ → ℕ → Bool
 handed_at d es j = handed_on d (unpack (get_or es j 0))
 
-abbrev invariant-loop : tie.invariant-loop
-invariant-loop d es k₀ k = (k ≤ length es) × (all_below (handed_at (said d) es) k ≡ true)
+abbrev invariant-loop-k : tie.invariant-loop-k
+invariant-loop-k d es k₀ k = (k ≤ length es) × (all_below (handed_at (said d) es) k ≡ true)
 
-abbrev decreases-loop : tie.decreases-loop
-decreases-loop d es k₀ k = length es - k
+abbrev decreases-loop-k : tie.decreases-loop-k
+decreases-loop-k d es k₀ k = length es - k
 
-loop_holds : tie.Need-loop-init invariant-loop decreases-loop
-loop_holds c = (omega arith, all_below_nothing _)
+loop-k-init : tie.Need-loop-k-init invariant-loop-k decreases-loop-k
+loop-k-init c = (omega arith, all_below_nothing _)
 
-mul_handed_word : tie.Need-overflow-mul-handed-word invariant-loop decreases-loop
-mul_handed_word c = search rules
+offset_bounds-es-k : tie.Need-offset_bounds-es-k invariant-loop-k decreases-loop-k
+offset_bounds-es-k c = search rules
 
-shared_slice_read_handed_word : tie.Need-shared-slice-read-handed-word invariant-loop decreases-loop
-shared_slice_read_handed_word c = search rules
+bounds-es-k : tie.Need-bounds-es-k invariant-loop-k decreases-loop-k
+bounds-es-k c = search rules
 
-handed_word_requires : tie.Need-handed-word-requires invariant-loop decreases-loop
-handed_word_requires c κs = search rules
+handed_word-requires : tie.Need-handed_word-requires invariant-loop-k decreases-loop-k
+handed_word-requires c κs = search rules
 
-returns : tie.Need-returns invariant-loop decreases-loop
-returns c =
+returns-then-not-handed_word : tie.Need-returns-then-not-handed_word invariant-loop-k decreases-loop-k
+returns-then-not-handed_word c =
     let s = c.before.before.before.before in
-    sym (graph_fails (handed_on (said s.before.before.args.d.now)) s.before.before.args.es.now s.loop.k (search rules) (sym c.before.handed-word.ensures ∙ not-true _ c.if1.true))
+    sym (graph_fails (handed_on (said s.before.before.args.d.now)) s.before.before.args.es.now s.loop-k.k (search rules) (sym c.before.handed_word.ensures ∙ not-true _ c.if-not-handed_word.true))
 
-add_k : tie.Need-overflow-add-k invariant-loop decreases-loop
-add_k c = search rules
+overflow_add-k : tie.Need-overflow_add-k invariant-loop-k decreases-loop-k
+overflow_add-k c = search rules
 
-loop_less : tie.Need-loop-smaller invariant-loop decreases-loop
-loop_less c = search rules
+loop-k-smaller : tie.Need-loop-k-smaller invariant-loop-k decreases-loop-k
+loop-k-smaller c = search rules
 
-loop_again : tie.Need-loop-preserved invariant-loop decreases-loop
-loop_again c =
+loop-k-preserved : tie.Need-loop-k-preserved invariant-loop-k decreases-loop-k
+loop-k-preserved c =
     let s = c.before.before.before.before in
     let given = s.before.before.args in
-    (search rules, all_below_more (handed_at (said given.d.now) given.es.now) s.loop.k s.loop.invariant.1 (sym c.before.handed-word.ensures ∙ not-false _ c.if1.false))
+    (search rules, all_below_more (handed_at (said given.d.now) given.es.now) s.loop-k.k s.loop-k.invariant.1 (sym c.before.handed_word.ensures ∙ not-false _ c.if-not-handed_word.false))
 
-returns_2 : tie.Need-returns-2 invariant-loop decreases-loop
-returns_2 c =
+returns : tie.Need-returns invariant-loop-k decreases-loop-k
+returns-then-not-handed_word c =
     let s = c.before in
     let given = s.before.before.args in
-    sym (graph_passes (handed_on (said given.d.now)) given.es.now (λ k b. all_below_each (handed_at (said given.d.now) given.es.now) s.loop.k s.loop.invariant.1 k (search rules)))
+    sym (graph_passes (handed_on (said given.d.now)) given.es.now (λ k b. all_below_each (handed_at (said given.d.now) given.es.now) s.loop-k.k s.loop-k.invariant.1 k (search rules)))
 
 pub settled_edges_spec : {M : Type 1} → statement M
 settled_edges_spec =
     tie.close
     (tie.spec
-    invariant-loop
-    decreases-loop
-    loop_holds
-    mul_handed_word
-    shared_slice_read_handed_word
-    handed_word_requires
-    returns
-    add_k
-    loop_less
-    loop_again
-    returns_2)
+    invariant-loop-k
+    decreases-loop-k
+    loop-k-init
+    offset_bounds-es-k
+    bounds-es-k
+    handed_word-requires
+    returns-then-not-handed_word
+    overflow_add-k
+    loop-k-smaller
+    loop-k-preserved
+    returns-then-not-handed_word)

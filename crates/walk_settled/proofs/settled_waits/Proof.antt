@@ -19,54 +19,54 @@ use Rattle.walk_settled.proofs.settled_waits.Reads as reads
 use Rattle.walk_settled.proofs.settled_waits.Lts as lts
 use Rattle.walk_settled.proofs.settled_row.Reads as settled-row-reads
 
-abbrev invariant-loop : tie.invariant-loop
-invariant-loop d leasts maps n i₀ i = (i ≤ n) × (all_below (λ j. waits_handed_on (said d) (leasts_in leasts) (get_or maps j 0) j) i ≡ true)
+abbrev invariant-loop-i : tie.invariant-loop-i
+invariant-loop-i d leasts maps n i₀ i = (i ≤ n) × (all_below (λ j. waits_handed_on (said d) (leasts_in leasts) (get_or maps j 0) j) i ≡ true)
 
-abbrev decreases-loop : tie.decreases-loop
-decreases-loop d leasts maps n i₀ i = n - i
+abbrev decreases-loop-i : tie.decreases-loop-i
+decreases-loop-i d leasts maps n i₀ i = n - i
 
-loop_holds : tie.Need-loop-init invariant-loop decreases-loop
-loop_holds c = (omega arith, all_below_nothing _)
+loop-i-init : tie.Need-loop-i-init invariant-loop-i decreases-loop-i
+loop-i-init c = (omega arith, all_below_nothing _)
 
-mul_settled_row : tie.Need-overflow-mul-settled-row invariant-loop decreases-loop
-mul_settled_row c = search rules
+offset_bounds-maps-i : tie.Need-offset_bounds-maps-i invariant-loop-i decreases-loop-i
+offset_bounds-maps-i c = search rules
 
-element_copy_out_settled_row : tie.Need-element-copy-out-settled-row invariant-loop decreases-loop
-element_copy_out_settled_row c = search rules
+bounds-maps-i : tie.Need-bounds-maps-i invariant-loop-i decreases-loop-i
+bounds-maps-i c = search rules
 
-settled_row_requires : tie.Need-settled-row-requires invariant-loop decreases-loop
-settled_row_requires c κs = search rules
+settled_row-requires : tie.Need-settled_row-requires invariant-loop-i decreases-loop-i
+settled_row-requires c κs = search rules
 
-returns : tie.Need-returns invariant-loop decreases-loop
-returns c = sym (not_passing _ (λ t. both_ways (all_below_each _ _ t _ c.before.before.before.loop-test.true) (sym c.before.settled-row.ensures ∙ not-true _ c.if1.true)))
+returns-then-not-settled_row : tie.Need-returns-then-not-settled_row invariant-loop-i decreases-loop-i
+returns-then-not-settled_row c = sym (not_passing _ (λ t. both_ways (all_below_each _ _ t _ c.before.before.before.loop-i-test.true) (sym c.before.settled_row.ensures ∙ not-true _ c.if-not-settled_row.true)))
 
-add_i : tie.Need-overflow-add-i invariant-loop decreases-loop
-add_i c = search rules
+overflow_add-i : tie.Need-overflow_add-i invariant-loop-i decreases-loop-i
+overflow_add-i c = search rules
 
-loop_less : tie.Need-loop-smaller invariant-loop decreases-loop
-loop_less c = search rules
+loop-i-smaller : tie.Need-loop-i-smaller invariant-loop-i decreases-loop-i
+loop-i-smaller c = search rules
 
-loop_again : tie.Need-loop-preserved invariant-loop decreases-loop
-loop_again c =
+loop-i-preserved : tie.Need-loop-i-preserved invariant-loop-i decreases-loop-i
+loop-i-preserved c =
     let s = c.before.before.before.before in
     let given = s.before.args in
-    (search rules, all_below_more (λ j. waits_handed_on (said given.d.now) (leasts_in given.leasts.now) (get_or given.maps.now j 0) j) s.loop.i s.loop.invariant.1 (sym c.before.settled-row.ensures ∙ not-false _ c.if1.false))
+    (search rules, all_below_more (λ j. waits_handed_on (said given.d.now) (leasts_in given.leasts.now) (get_or given.maps.now j 0) j) s.loop-i.i s.loop-i.invariant.1 (sym c.before.settled_row.ensures ∙ not-false _ c.if-not-settled_row.false))
 
-returns_2 : tie.Need-returns-2 invariant-loop decreases-loop
-returns_2 c = let s = c.before in sym (all_below_by _ _ (λ j b. all_below_each _ s.loop.i s.loop.invariant.1 j (omega arith)))
+returns : tie.Need-returns invariant-loop-i decreases-loop-i
+returns-then-not-settled_row c = let s = c.before in sym (all_below_by _ _ (λ j b. all_below_each _ s.loop-i.i s.loop-i.invariant.1 j (omega arith)))
 
 pub settled_waits_spec : {M : Type 1} → statement M
 settled_waits_spec =
     tie.close
     (tie.spec
-    invariant-loop
-    decreases-loop
-    loop_holds
-    mul_settled_row
-    element_copy_out_settled_row
-    settled_row_requires
-    returns
-    add_i
-    loop_less
-    loop_again
-    returns_2)
+    invariant-loop-i
+    decreases-loop-i
+    loop-i-init
+    offset_bounds-maps-i
+    bounds-maps-i
+    settled_row-requires
+    returns-then-not-settled_row
+    overflow_add-i
+    loop-i-smaller
+    loop-i-preserved
+    returns-then-not-settled_row)

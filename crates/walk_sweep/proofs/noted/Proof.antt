@@ -5,51 +5,51 @@ use Rattle.laws.proofs.Maps.{removed_lt}
 use Rattle.walk_sweep.proofs.noted.Statement.{statement}
 use Rattle.walk_sweep.proofs.noted.Tie as tie
 
-abbrev invariant-loop : tie.invariant-loop
-invariant-loop hint fresh place all₀ left₀ all left = Unit {0}
+abbrev invariant-loop-left : tie.invariant-loop-left
+invariant-loop-left hint fresh place all₀ left₀ all left = Unit {0}
 
-abbrev decreases-loop : tie.decreases-loop
-decreases-loop hint fresh place all₀ left₀ all left = left
+abbrev decreases-loop-left : tie.decreases-loop-left
+decreases-loop-left hint fresh place all₀ left₀ all left = left
 
-loop_holds : tie.Need-loop-init invariant-loop decreases-loop
-loop_holds c = tt
+loop-left-init : tie.Need-loop-left-init invariant-loop-left decreases-loop-left
+loop-left-init c = tt
 
-lowest_requires : tie.Need-lowest-requires invariant-loop decreases-loop
-lowest_requires c κs = omega arith
+lowest-v-requires : tie.Need-lowest-v-requires invariant-loop-left decreases-loop-left
+lowest-v-requires c κs = omega arith
 
-element_copy_out_place : tie.Need-element-copy-out-place invariant-loop decreases-loop
-element_copy_out_place c = search rules
+bounds-place-v : tie.Need-bounds-place-v invariant-loop-left decreases-loop-left
+bounds-place-v c = search rules
 
-place_requires : tie.Need-place-requires invariant-loop decreases-loop
-place_requires c κs = search rules
+place-requires : tie.Need-place-requires invariant-loop-left decreases-loop-left
+place-requires c κs = search rules
 
-insert_requires : tie.Need-insert-requires invariant-loop decreases-loop
-insert_requires c κs = search rules
+insert-all-requires : tie.Need-insert-all-requires invariant-loop-left decreases-loop-left
+insert-all-requires c κs = search rules
 
-without_lowest_requires : tie.Need-without-lowest-requires invariant-loop decreases-loop
-without_lowest_requires c κs = omega arith
+without_lowest-left-requires : tie.Need-without_lowest-left-requires invariant-loop-left decreases-loop-left
+without_lowest-left-requires c κs = omega arith
 
-loop_less : tie.Need-loop-smaller invariant-loop decreases-loop
-loop_less c = removed_lt _ _ _ c.before.before.before.before.lowest.ensures.member (c.without-lowest.ensures _ c.before.before.before.before.lowest.ensures)
+loop-left-smaller : tie.Need-loop-left-smaller invariant-loop-left decreases-loop-left
+loop-left-smaller c = removed_lt _ _ _ c.before.before.before.before.lowest-v.ensures.member (c.without_lowest-left.ensures _ c.before.before.before.before.lowest-v.ensures)
 
-loop_again : tie.Need-loop-preserved invariant-loop decreases-loop
-loop_again c = tt
+loop-left-preserved : tie.Need-loop-left-preserved invariant-loop-left decreases-loop-left
+loop-left-preserved c = tt
 
-returns : tie.Need-returns invariant-loop decreases-loop
+returns : tie.Need-returns invariant-loop-left decreases-loop-left
 returns c = search rules
 
 pub noted_spec : {M : Type 1} → statement M
 noted_spec =
     tie.close
     (tie.spec
-    invariant-loop
-    decreases-loop
-    loop_holds
-    lowest_requires
-    element_copy_out_place
-    place_requires
-    insert_requires
-    without_lowest_requires
-    loop_less
-    loop_again
+    invariant-loop-left
+    decreases-loop-left
+    loop-left-init
+    lowest-v-requires
+    bounds-place-v
+    place-requires
+    insert-all-requires
+    without_lowest-left-requires
+    loop-left-smaller
+    loop-left-preserved
     returns)

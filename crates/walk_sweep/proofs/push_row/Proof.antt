@@ -11,106 +11,106 @@ use borrow.Author.Rules.{rules}
 use Rattle.walk_sweep.proofs.push_row.Statement.{statement}
 use Rattle.walk_sweep.proofs.push_row.Tie as tie
 
-abbrev invariant-loop : tie.invariant-loop
-invariant-loop d₀ row marks es lists u top number width left₀ k₀ d left k = Listing es number u (lent row width) d₀ d marks left k
+abbrev invariant-loop-k : tie.invariant-loop-k
+invariant-loop-k d₀ row marks es lists u top number width left₀ k₀ d left k = Listing es number u (lent row width) d₀ d marks left k
 
-abbrev decreases-loop : tie.decreases-loop
-decreases-loop d₀ row marks es lists u top number width left₀ k₀ d left k = k
+abbrev decreases-loop-k : tie.decreases-loop-k
+decreases-loop-k d₀ row marks es lists u top number width left₀ k₀ d left k = k
 
 -- Places: the start, from the head of the list and from a turn; a turn, from where its edge has handed on; and that, from where the next edge is known.
-abbrev start : tie.After-index invariant-loop decreases-loop → tie.Start invariant-loop decreases-loop
+abbrev start : tie.After-index-k invariant-loop-k decreases-loop-k → tie.Start invariant-loop-k decreases-loop-k
 start s = s.before.before.before.before
 
-abbrev entry : tie.At-loop invariant-loop decreases-loop → tie.Start invariant-loop decreases-loop
+abbrev entry : tie.At-loop-k invariant-loop-k decreases-loop-k → tie.Start invariant-loop-k decreases-loop-k
 entry s = start s.before
 
-abbrev turn : tie.After-push-word invariant-loop decreases-loop → tie.At-loop invariant-loop decreases-loop
+abbrev turn : tie.After-push_word-left invariant-loop-k decreases-loop-k → tie.At-loop-k invariant-loop-k decreases-loop-k
 turn s = s.before.before.before.before
 
-abbrev pushed : tie.After-index2 invariant-loop decreases-loop → tie.After-push-word invariant-loop decreases-loop
+abbrev pushed : tie.After-index-k-in-loop-k invariant-loop-k decreases-loop-k → tie.After-push_word-left invariant-loop-k decreases-loop-k
 pushed s = s.before.before.before
 
-some : (s : tie.After-push-word invariant-loop decreases-loop) → 1 ≤ (turn s).loop.k
+some : (s : tie.After-push_word-left invariant-loop-k decreases-loop-k) → 1 ≤ (turn s).loop-k.k
 some s = omega arith
 
-next : (s : tie.After-index2 invariant-loop decreases-loop) → s.index2.result ≡ last_from (entry (turn (pushed s))).args.es.now (entry (turn (pushed s))).args.u ((turn (pushed s)).loop.k - 1)
-next s = let t = turn (pushed s) in following_next (entry t).pre.linked.listed (some (pushed s)) t.loop.inv s.index2.ensures
+next : (s : tie.After-index-k-in-loop-k invariant-loop-k decreases-loop-k) → s.index-k-in-loop-k.result ≡ last_from (entry (turn (pushed s))).args.es.now (entry (turn (pushed s))).args.u ((turn (pushed s)).loop-k.k - 1)
+next s = let t = turn (pushed s) in following_next (entry t).pre.linked.listed (some (pushed s)) t.loop-k.inv s.index-k-in-loop-k.ensures
 
-mul_index : tie.Need-overflow-mul-index invariant-loop decreases-loop
-mul_index c = omega (arith, c.before.before.requires.below)
+offset_bounds-lists-u : tie.Need-offset_bounds-lists-u invariant-loop-k decreases-loop-k
+offset_bounds-lists-u c = omega (arith, c.before.before.requires.below)
 
-shared_slice_read_index : tie.Need-shared-slice-read-index invariant-loop decreases-loop
-shared_slice_read_index c = let p = c.before.before.before.requires in omega (arith, p.below, p.linked.listed.long)
+bounds-lists-u : tie.Need-bounds-lists-u invariant-loop-k decreases-loop-k
+bounds-lists-u c = let p = c.before.before.before.requires in omega (arith, p.below, p.linked.listed.long)
 
-index_requires : tie.Need-index-requires invariant-loop decreases-loop
-index_requires c κs = search rules
+index-k-requires : tie.Need-index-k-requires invariant-loop-k decreases-loop-k
+index-k-requires c κs = search rules
 
-loop_holds : tie.Need-loop-init invariant-loop decreases-loop
-loop_holds c = let p = (start c).requires in following_start (c.index.ensures ∙ p.linked.listed.heads _ p.below) (listed_none p.linked.square)
+loop-k-init : tie.Need-loop-k-init invariant-loop-k decreases-loop-k
+loop-k-init c = let p = (start c).requires in following_start (c.index-k.ensures ∙ p.linked.listed.heads _ p.below) (listed_none p.linked.square)
 
-sub_push_word : tie.Need-overflow-sub-push-word invariant-loop decreases-loop
-sub_push_word c = search rules
+overflow_sub-k : tie.Need-overflow_sub-k invariant-loop-k decreases-loop-k
+overflow_sub-k c = search rules
 
-mul_push_word : tie.Need-overflow-mul-push-word invariant-loop decreases-loop
-mul_push_word c = let t = c.before.before in omega (arith, t.loop.invariant.few, (entry t).requires.linked.listed.few)
+offset_bounds-es-k : tie.Need-offset_bounds-es-k invariant-loop-k decreases-loop-k
+offset_bounds-es-k c = let t = c.before.before in omega (arith, t.loop-k.invariant.few, (entry t).requires.linked.listed.few)
 
-shared_slice_read_push_word : tie.Need-shared-slice-read-push-word invariant-loop decreases-loop
-shared_slice_read_push_word c = omega (arith, c.before.before.before.loop.invariant.few)
+bounds-es-k : tie.Need-bounds-es-k invariant-loop-k decreases-loop-k
+bounds-es-k c = omega (arith, c.before.before.before.loop-k.invariant.few)
 
-push_word_requires : tie.Need-push-word-requires invariant-loop decreases-loop
-push_word_requires c κs =
+push_word-left-requires : tie.Need-push_word-left-requires invariant-loop-k decreases-loop-k
+push_word-left-requires c κs =
     let t = c.before.before.before in
     let p = (entry t).requires in
-    let S = t.loop.invariant.been.square in
+    let S = t.loop-k.invariant.been.square in
     record {
-      target = record { row = omega (arith, p.linked.ends (t.loop.k - 1) (omega (arith, t.loop.invariant.few)), S.rows); few = p.few; square = square_own S };
+      target = record { row = omega (arith, p.linked.ends (t.loop-k.k - 1) (omega (arith, t.loop-k.invariant.few)), S.rows); few = p.few; square = square_own S };
       ready = p.ready;
-      light = p.linked.listed.light (t.loop.k - 1) (omega (arith, t.loop.invariant.few));
+      light = p.linked.listed.light (t.loop-k.k - 1) (omega (arith, t.loop-k.invariant.few));
     }
 
-add_index : tie.Need-overflow-add-index invariant-loop decreases-loop
-add_index c = let t = turn c.before in omega (arith, t.loop.inv.few, (entry t).pre.linked.listed.few)
+overflow_add-k : tie.Need-overflow_add-k invariant-loop-k decreases-loop-k
+overflow_add-k c = let t = turn c.before in omega (arith, t.loop-k.inv.few, (entry t).pre.linked.listed.few)
 
-mul_index_2 : tie.Need-overflow-mul-index-2 invariant-loop decreases-loop
-mul_index_2 c = let t = turn c.before in omega (arith, t.loop.inv.few, (entry t).pre.linked.listed.few)
+offset_bounds-lists-k : tie.Need-offset_bounds-lists-k invariant-loop-k decreases-loop-k
+offset_bounds-lists-k c = let t = turn c.before in omega (arith, t.loop-k.inv.few, (entry t).pre.linked.listed.few)
 
-shared_slice_read_index_2 : tie.Need-shared-slice-read-index-2 invariant-loop decreases-loop
-shared_slice_read_index_2 c = let t = turn c.before.before in omega (arith, t.loop.inv.few, (entry t).pre.linked.listed.long)
+bounds-lists-k : tie.Need-bounds-lists-k invariant-loop-k decreases-loop-k
+bounds-lists-k c = let t = turn c.before.before in omega (arith, t.loop-k.inv.few, (entry t).pre.linked.listed.long)
 
-index_requires_2 : tie.Need-index-requires-2 invariant-loop decreases-loop
-index_requires_2 c κs = search rules
+index-k-requires-in-loop-k : tie.Need-index-k-requires-in-loop-k invariant-loop-k decreases-loop-k
+index-k-requires-in-loop-k c κs = search rules
 
-loop_less : tie.Need-loop-smaller invariant-loop decreases-loop
-loop_less c = let s = pushed c in following_less (some s) (next c) (turn s).loop.inv
+loop-k-smaller : tie.Need-loop-k-smaller invariant-loop-k decreases-loop-k
+loop-k-smaller c = let s = pushed c in following_less (some s) (next c) (turn s).loop-k.inv
 
-loop_again : tie.Need-loop-preserved invariant-loop decreases-loop
-loop_again c = let s = pushed c in following_turn (some s) (next c) (listed_more s.push-word.ensures) (turn s).loop.inv
+loop-k-preserved : tie.Need-loop-k-preserved invariant-loop-k decreases-loop-k
+loop-k-preserved c = let s = pushed c in following_turn (some s) (next c) (listed_more s.push_word-left.ensures) (turn s).loop-k.inv
 
-same_length : tie.Need-same-length invariant-loop decreases-loop
-same_length c = c.before.loop.invariant.been.square.rows
+shape_of-d : tie.Need-shape_of-d invariant-loop-k decreases-loop-k
+shape_of-d c = c.before.loop-k.invariant.been.square.rows
 
-returns : tie.Need-returns invariant-loop decreases-loop
-returns c = following_end (omega arith) listed_as c.before.loop.invariant
+returns : tie.Need-returns invariant-loop-k decreases-loop-k
+returns c = following_end (omega arith) listed_as c.before.loop-k.invariant
 
 pub push_row_spec : {M : Type 1} → statement M
 push_row_spec =
     tie.close
     (tie.spec
-    invariant-loop
-    decreases-loop
-    mul_index
-    shared_slice_read_index
-    index_requires
-    loop_holds
-    sub_push_word
-    mul_push_word
-    shared_slice_read_push_word
-    push_word_requires
-    add_index
-    mul_index_2
-    shared_slice_read_index_2
-    index_requires_2
-    loop_less
-    loop_again
-    same_length
+    invariant-loop-k
+    decreases-loop-k
+    offset_bounds-lists-u
+    bounds-lists-u
+    index-k-requires
+    loop-k-init
+    overflow_sub-k
+    offset_bounds-es-k
+    bounds-es-k
+    push_word-left-requires
+    overflow_add-k
+    offset_bounds-lists-k
+    bounds-lists-k
+    index-k-requires-in-loop-k
+    loop-k-smaller
+    loop-k-preserved
+    shape_of-d
     returns)

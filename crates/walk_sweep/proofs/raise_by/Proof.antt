@@ -10,32 +10,32 @@ use Rattle.walk_sweep.proofs.raise_by.Statement.{statement}
 use Rattle.walk_sweep.proofs.raise_by.Tie as tie
 
 -- What the row is raised by, where the least is not 0: the cell of the least is the least.
-by_least : (s : tie.After-of-least) → to_z w32 (of_z w32 s.of-least.result) ≡ pos s.before.before.before.args.least
+by_least : (s : tie.After-of_least) → to_z w32 (of_z w32 s.of_least.result) ≡ pos s.before.before.before.args.least
 by_least s =
-    let fits : SFits w32 s.of-least.result = sfits_of s.of-least.type-inv in
-    to_z-of_z fits ∙ value_walk s.of-least.result s.before.before.before.args.least s.of-least.ensures.0
+    let fits : SFits w32 s.of_least.result = sfits_of s.of_least.type_inv in
+    to_z-of_z fits ∙ value_walk s.of_least.result s.before.before.before.args.least s.of_least.ensures.0
 
-raise_row_requires : tie.Need-raise-row-requires
-raise_row_requires c κs = rw c.before.if1.true at c.before.before.requires
+raise_row-requires : tie.Need-raise_row-requires
+raise_row-requires c κs = rw c.before.if-least-eq0.true at c.before.before.requires
 
-same_length : tie.Need-same-length
-same_length c = search rules
+shape_of-d-then-least-eq0 : tie.Need-shape_of-d-then-least-eq0
+shape_of-d-then-least-eq0 c = search rules
+
+returns-then-least-eq0 : tie.Need-returns-then-least-eq0
+returns-then-least-eq0 c = rw c.before.before.before.if-least-eq0.true c.before.raise_row.ensures
+
+of_least-requires : tie.Need-of_least-requires
+of_least-requires c κs = search rules
+
+raise_row-requires-2 : tie.Need-raise_row-requires-2
+raise_row-requires-2 c κs = rw (by_least c) c.before.before.before.requires
+
+shape_of-d : tie.Need-shape_of-d
+shape_of-d c = search rules
 
 returns : tie.Need-returns
-returns c = rw c.before.before.before.if1.true c.before.raise-row.ensures
-
-of_least_requires : tie.Need-of-least-requires
-of_least_requires c κs = search rules
-
-raise_row_requires_2 : tie.Need-raise-row-requires-2
-raise_row_requires_2 c κs = rw (by_least c) c.before.before.before.requires
-
-same_length_2 : tie.Need-same-length-2
-same_length_2 c = search rules
-
-returns_2 : tie.Need-returns-2
-returns_2 c = rw (by_least c.before.before) at c.before.raise-row2.ensures
+returns-then-least-eq0 c = rw (by_least c.before.before) at c.before.raise_row-2.ensures
 
 pub raise_by_spec : {M : Type 1} → statement M
 raise_by_spec =
-    tie.close (tie.spec raise_row_requires same_length returns of_least_requires raise_row_requires_2 same_length_2 returns_2)
+    tie.close (tie.spec raise_row-requires shape_of-d-then-least-eq0 returns-then-least-eq0 of_least-requires raise_row-requires-2 shape_of-d returns-then-least-eq0)

@@ -11,94 +11,94 @@ use borrow.Author.Rules.{rules}
 use Rattle.walk_sweep.proofs.sweep.Statement.{statement}
 use Rattle.walk_sweep.proofs.sweep.Tie as tie
 
-abbrev invariant-loop : tie.invariant-loop
-invariant-loop d₀ marks es lists leasts waiting order place number width n row₀ left₀ hint₀ k₀ d row left hint k =
+abbrev invariant-loop-k : tie.invariant-loop-k
+invariant-loop-k d₀ marks es lists leasts waiting order place number width n row₀ left₀ hint₀ k₀ d row left hint k =
     (k ≤ visits n) × SweptBy es (leasts_in leasts) waiting number width (λ v. (k ≤ v) × (v < n)) (visits n - k) d₀ d marks left × (length row ≡ 64)
 
-abbrev decreases-loop : tie.decreases-loop
-decreases-loop d₀ marks es lists leasts waiting order place number width n row₀ left₀ hint₀ k₀ d row left hint k = k
+abbrev decreases-loop-k : tie.decreases-loop-k
+decreases-loop-k d₀ marks es lists leasts waiting order place number width n row₀ left₀ hint₀ k₀ d row left hint k = k
 
 -- Places: the start, from the loop; the loop, from where a step has handed on; and that, from the end of a turn.
-abbrev start : tie.At-loop invariant-loop decreases-loop → tie.Start invariant-loop decreases-loop
+abbrev start : tie.At-loop-k invariant-loop-k decreases-loop-k → tie.Start invariant-loop-k decreases-loop-k
 start s = s.before.before.before
 
-abbrev turn : tie.After-hand-on invariant-loop decreases-loop → tie.At-loop invariant-loop decreases-loop
+abbrev turn : tie.After-hand_on-left invariant-loop-k decreases-loop-k → tie.At-loop-k invariant-loop-k decreases-loop-k
 turn s = s.before.before.before.before.before.before
 
-abbrev visited : tie.After-noted invariant-loop decreases-loop → tie.After-hand-on invariant-loop decreases-loop
+abbrev visited : tie.After-noted-hint invariant-loop-k decreases-loop-k → tie.After-hand_on-left invariant-loop-k decreases-loop-k
 visited s = s.before.before.before.before
 
-add_k : tie.Need-overflow-add-k invariant-loop decreases-loop
-add_k c = search rules
+overflow_add-k : tie.Need-overflow_add-k invariant-loop-k decreases-loop-k
+overflow_add-k c = search rules
 
-add_k_2 : tie.Need-overflow-add-k-2 invariant-loop decreases-loop
-add_k_2 c = search rules
+overflow_add-k-2 : tie.Need-overflow_add-k-2 invariant-loop-k decreases-loop-k
+overflow_add-k-2 c = search rules
 
-loop_holds : tie.Need-loop-init invariant-loop decreases-loop
-loop_holds c = (omega arith, swept_none c.before.before.requires.network.linked.square (λ v o. absurd (omega (arith, o.0, o.1))), refl)
+loop-k-init : tie.Need-loop-k-init invariant-loop-k decreases-loop-k
+loop-k-init c = (omega arith, swept_none c.before.before.requires.network.linked.square (λ v o. absurd (omega (arith, o.0, o.1))), refl)
 
-same_length : tie.Need-same-length invariant-loop decreases-loop
-same_length c = c.before.before.loop.invariant.1.square.rows
+shape_of-d-then-left-eq0 : tie.Need-shape_of-d-then-left-eq0 invariant-loop-k decreases-loop-k
+shape_of-d-then-left-eq0 c = c.before.before.loop-k.invariant.1.square.rows
 
-returns : tie.Need-returns invariant-loop decreases-loop
-returns c = swept_all (omega arith) (omega arith) c.before.before.loop.invariant.1
+returns-then-left-eq0 : tie.Need-returns-then-left-eq0 invariant-loop-k decreases-loop-k
+returns-then-left-eq0 c = swept_all (omega arith) (omega arith) c.before.before.loop-k.invariant.1
 
-next_step_requires : tie.Need-next-step-requires invariant-loop decreases-loop
-next_step_requires c κs = search rules
+next_step-u-requires : tie.Need-next_step-u-requires invariant-loop-k decreases-loop-k
+next_step-u-requires c κs = search rules
 
-hand_on_requires : tie.Need-hand-on-requires invariant-loop decreases-loop
-hand_on_requires c κs =
+hand_on-left-requires : tie.Need-hand_on-left-requires invariant-loop-k decreases-loop-k
+hand_on-left-requires c κs =
     let t = c.before.before.before.before.before in
     let p = (start t).requires in
-    let S = t.loop.invariant.1.square in
-    let u = c.before.before.next-step.ensures.0 in
-    record { below = omega (arith, u, p.few); inside = omega (arith, u, p.inside, S.rows); few = p.narrow; network = network_then p.network S; held = held_more (omega (arith, t.loop.invariant.0, p.room, p.few)) (t.loop.invariant.1.held p.level p.held); long = t.loop.invariant.2 }
+    let S = t.loop-k.invariant.1.square in
+    let u = c.before.before.next_step-u.ensures.0 in
+    record { below = omega (arith, u, p.few); inside = omega (arith, u, p.inside, S.rows); few = p.narrow; network = network_then p.network S; held = held_more (omega (arith, t.loop-k.invariant.0, p.room, p.few)) (t.loop-k.invariant.1.held p.level p.held); long = t.loop-k.invariant.2 }
 
-rest_of_requires : tie.Need-rest-of-requires invariant-loop decreases-loop
-rest_of_requires c κs = search rules
+rest_of-requires : tie.Need-rest_of-requires invariant-loop-k decreases-loop-k
+rest_of-requires c κs = search rules
 
-minus_requires : tie.Need-minus-requires invariant-loop decreases-loop
-minus_requires c κs = search rules
+minus-requires : tie.Need-minus-requires invariant-loop-k decreases-loop-k
+minus-requires c κs = search rules
 
-noted_requires : tie.Need-noted-requires invariant-loop decreases-loop
-noted_requires c κs = search rules
+noted-hint-requires : tie.Need-noted-hint-requires invariant-loop-k decreases-loop-k
+noted-hint-requires c κs = search rules
 
-sub_k : tie.Need-overflow-sub-k invariant-loop decreases-loop
-sub_k c = search rules
+overflow_sub-k : tie.Need-overflow_sub-k invariant-loop-k decreases-loop-k
+overflow_sub-k c = search rules
 
-loop_less : tie.Need-loop-smaller invariant-loop decreases-loop
-loop_less c = search rules
+loop-k-smaller : tie.Need-loop-k-smaller invariant-loop-k decreases-loop-k
+loop-k-smaller c = search rules
 
-loop_again : tie.Need-loop-preserved invariant-loop decreases-loop
-loop_again c =
+loop-k-preserved : tie.Need-loop-k-preserved invariant-loop-k decreases-loop-k
+loop-k-preserved c =
     let v = visited c in
     let t = turn v in
-    (omega arith, swept_down _ _ _ _ v.before.before.before.next-step.ensures.1 (omega arith) t.loop.inv.0 t.loop.inv.1 v.hand_on.ensures.0, v.hand_on.ensures.1)
+    (omega arith, swept_down _ _ _ _ v.before.before.before.next_step-u.ensures.1 (omega arith) t.loop-k.inv.0 t.loop-k.inv.1 v.hand_on-left.ensures.0, v.hand_on-left.ensures.1)
 
-same_length_2 : tie.Need-same-length-2 invariant-loop decreases-loop
-same_length_2 c = c.before.loop.invariant.1.square.rows
+shape_of-d : tie.Need-shape_of-d invariant-loop-k decreases-loop-k
+shape_of-d c = c.before.loop-k.invariant.1.square.rows
 
-returns_2 : tie.Need-returns-2 invariant-loop decreases-loop
-returns_2 c = swept_part (λ v x. (omega arith, x)) (omega arith) c.before.loop.invariant.1
+returns : tie.Need-returns invariant-loop-k decreases-loop-k
+returns-then-left-eq0 c = swept_part (λ v x. (omega arith, x)) (omega arith) c.before.loop-k.invariant.1
 
 pub sweep_spec : {M : Type 1} → statement M
 sweep_spec =
     tie.close
     (tie.spec
-    invariant-loop
-    decreases-loop
-    add_k
-    add_k_2
-    loop_holds
-    same_length
-    returns
-    next_step_requires
-    hand_on_requires
-    rest_of_requires
-    minus_requires
-    noted_requires
-    sub_k
-    loop_less
-    loop_again
-    same_length_2
-    returns_2)
+    invariant-loop-k
+    decreases-loop-k
+    overflow_add-k
+    overflow_add-k-2
+    loop-k-init
+    shape_of-d-then-left-eq0
+    returns-then-left-eq0
+    next_step-u-requires
+    hand_on-left-requires
+    rest_of-requires
+    minus-requires
+    noted-hint-requires
+    overflow_sub-k
+    loop-k-smaller
+    loop-k-preserved
+    shape_of-d
+    returns-then-left-eq0)

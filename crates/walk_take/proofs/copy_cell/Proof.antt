@@ -15,29 +15,29 @@ use Rattle.walk_take.proofs.Taking.{copied_cell}
 use Rattle.walk_take.proofs.copy_cell.Statement.{statement}
 use Rattle.walk_take.proofs.copy_cell.Tie as tie
 
-mul_clean : tie.Need-overflow-mul-clean
-mul_clean c = search rules
+offset_bounds-d-u : tie.Need-offset_bounds-d-u
+offset_bounds-d-u c = search rules
 
-mul_clean_2 : tie.Need-overflow-mul-clean-2
-mul_clean_2 c = search rules
+offset_bounds-d-k : tie.Need-offset_bounds-d-k
+offset_bounds-d-k c = search rules
 
-index_1_clean : tie.Need-bounds-1-clean
-index_1_clean c = search rules
+bounds-d-u : tie.Need-bounds-d-u
+bounds-d-u c = search rules
 
-index_2_clean : tie.Need-bounds-2-clean
-index_2_clean c = search rules
+bounds-d-k : tie.Need-bounds-d-k
+bounds-d-k c = search rules
 
-clean_requires : tie.Need-clean-requires
-clean_requires c κs = search rules
+clean-c-requires : tie.Need-clean-c-requires
+clean-c-requires c κs = search rules
 
-mul_c : tie.Need-overflow-mul-c
-mul_c c = search rules
+offset_bounds-row-k : tie.Need-offset_bounds-row-k
+offset_bounds-row-k c = search rules
 
-element_set_from_c : tie.Need-element-set-from-c
-element_set_from_c c = search rules
+bounds-row-k : tie.Need-bounds-row-k
+bounds-row-k c = search rules
 
-weight_requires : tie.Need-weight-requires
-weight_requires c κs = search rules
+weight-requires : tie.Need-weight-requires
+weight-requires c κs = search rules
 
 -- The row of the table.
 abbrev cells_of : tie.Start → List ℤ
@@ -50,21 +50,21 @@ returns c =
     let start = read.before in
     let p = start.requires in
     let k = start.args.k in
-    let fits : SFits w32 cleaned.clean.result = sfits_of cleaned.clean.type-inv in
+    let fits : SFits w32 cleaned.clean-c.result = sfits_of cleaned.clean-c.type_inv in
     let place = cell_in (cells_of start) k (omega (arith, p.target.few, p.target.square.cells start.args.u p.target.row)) in
-    let clear : Clear cleaned.clean.result × (value cleaned.clean.result ≡ value (cell_of (cells_of start) k)) = rw (to_z-of_z (sfits_of read.clean-arg.given), place) at cleaned.clean.ensures in
-    rw (to_z-of_z fits) (copied_cell (cells_of start) _ k p.long (omega (arith, p.target.few)) cleaned.clean.result (p.low k) clear.0 clear.1 (rw (to_z-of_z fits) at c.weight.ensures))
+    let clear : Clear cleaned.clean-c.result × (value cleaned.clean-c.result ≡ value (cell_of (cells_of start) k)) = rw (to_z-of_z (sfits_of read.clean-arg-1.given), place) at cleaned.clean-c.ensures in
+    rw (to_z-of_z fits) (copied_cell (cells_of start) _ k p.long (omega (arith, p.target.few)) cleaned.clean-c.result (p.low k) clear.0 clear.1 (rw (to_z-of_z fits) at c.weight.ensures))
 
 pub copy_cell_spec : {M : Type 1} → statement M
 copy_cell_spec =
     tie.close
     (tie.spec
-    mul_clean
-    mul_clean_2
-    index_1_clean
-    index_2_clean
-    clean_requires
-    mul_c
-    element_set_from_c
-    weight_requires
+    offset_bounds-d-u
+    offset_bounds-d-k
+    bounds-d-u
+    bounds-d-k
+    clean-c-requires
+    offset_bounds-row-k
+    bounds-row-k
+    weight-requires
     returns)

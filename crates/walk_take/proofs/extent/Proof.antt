@@ -4,16 +4,16 @@ use borrow.Author.Rules.{rules}
 use Rattle.walk_take.proofs.extent.Statement.{statement}
 use Rattle.walk_take.proofs.extent.Tie as tie
 
-trimmed_requires : tie.Need-trimmed-requires
-trimmed_requires c κs = search rules
+trimmed-w-requires : tie.Need-trimmed-w-requires
+trimmed-w-requires c κs = search rules
 
-fours_requires : tie.Need-fours-requires
-fours_requires c κs = search rules
+fours-requires : tie.Need-fours-requires
+fours-requires c κs = search rules
 
 returns : tie.Need-returns
 returns c =
-    let t = c.before.trimmed.ensures in
+    let t = c.before.trimmed-w.ensures in
     (record { fits = omega arith; none = λ k b l. t.none k (omega arith) l }, c.fours.ensures.2)
 
 pub extent_spec : {M : Type 1} → statement M
-extent_spec = tie.close (tie.spec trimmed_requires fours_requires returns)
+extent_spec = tie.close (tie.spec trimmed-w-requires fours-requires returns)

@@ -12,121 +12,121 @@ use Rattle.walk_take.proofs.Taking.{Bound, Copied, bound_turn, copied_start, cop
 use Rattle.walk_take.proofs.take.Statement.{statement}
 use Rattle.walk_take.proofs.take.Tie as tie
 
-abbrev invariant-loop : tie.invariant-loop
-invariant-loop d u row₀ width t0₀ t1₀ t2₀ t3₀ k₀ row t0 t1 t2 t3 k = (k ≤ width) × (k % 4 ≡ 0) × Copied (get_or d u []) row k × ((b : ℕ) → t0 ≤ b → t1 ≤ b → t2 ≤ b → t3 ≤ b → Bound (get_or d u []) k b)
+abbrev invariant-loop-k : tie.invariant-loop-k
+invariant-loop-k d u row₀ width t0₀ t1₀ t2₀ t3₀ k₀ row t0 t1 t2 t3 k = (k ≤ width) × (k % 4 ≡ 0) × Copied (get_or d u []) row k × ((b : ℕ) → t0 ≤ b → t1 ≤ b → t2 ≤ b → t3 ≤ b → Bound (get_or d u []) k b)
 
-abbrev decreases-loop : tie.decreases-loop
-decreases-loop d u row₀ width t0₀ t1₀ t2₀ t3₀ k₀ row t0 t1 t2 t3 k = width - k
+abbrev decreases-loop-k : tie.decreases-loop-k
+decreases-loop-k d u row₀ width t0₀ t1₀ t2₀ t3₀ k₀ row t0 t1 t2 t3 k = width - k
 
 -- The row of the table; that a turn has room for four cells; and that the next of them can be copied.
-abbrev cells_of : tie.At-loop invariant-loop decreases-loop → List ℤ
+abbrev cells_of : tie.At-loop-k invariant-loop-k decreases-loop-k → List ℤ
 cells_of s = get_or s.before.args.d.now s.before.args.u []
 
-four : (s : tie.In-loop invariant-loop decreases-loop) → s.before.loop.k + 4 ≤ s.before.before.args.width
-four s = omega (arith, s.loop-test.true, s.before.loop.invariant.0, s.before.loop.invariant.1, s.before.before.requires.1)
+four : (s : tie.In-loop-k invariant-loop-k decreases-loop-k) → s.before.loop-k.k + 4 ≤ s.before.before.args.width
+four s = omega (arith, s.loop-k-test.true, s.before.loop-k.invariant.0, s.before.loop-k.invariant.1, s.before.before.requires.1)
 
-ready : (s : tie.At-loop invariant-loop decreases-loop) {n : ℕ} {row : List ℤ} (k : ℕ) → k < s.before.args.width → Copied (cells_of s) row n → Takeable s.before.args.u (k + 1) s.before.args.d.now row
+ready : (s : tie.At-loop-k invariant-loop-k decreases-loop-k) {n : ℕ} {row : List ℤ} (k : ℕ) → k < s.before.args.width → Copied (cells_of s) row n → Takeable s.before.args.u (k + 1) s.before.args.d.now row
 ready s k b C =
     let p = s.before.requires.0 in
     record { target = record { row = p.target.row; few = omega (arith, p.target.few); square = p.target.square }; low = p.low; long = C.long }
 
 -- The turn, and what is copied, from where one, two, three and four of its cells are.
-abbrev turn : tie.After-copy-cell invariant-loop decreases-loop → tie.In-loop invariant-loop decreases-loop
+abbrev turn : tie.After-copy_cell-t0 invariant-loop-k decreases-loop-k → tie.In-loop-k invariant-loop-k decreases-loop-k
 turn s = s.before.before
 
-abbrev turn_2 : tie.After-copy-cell2 invariant-loop decreases-loop → tie.In-loop invariant-loop decreases-loop
+abbrev turn_2 : tie.After-copy_cell-t1 invariant-loop-k decreases-loop-k → tie.In-loop-k invariant-loop-k decreases-loop-k
 turn_2 s = turn s.before.before
 
-abbrev turn_3 : tie.After-copy-cell3 invariant-loop decreases-loop → tie.In-loop invariant-loop decreases-loop
+abbrev turn_3 : tie.After-copy_cell-t2 invariant-loop-k decreases-loop-k → tie.In-loop-k invariant-loop-k decreases-loop-k
 turn_3 s = turn_2 s.before.before
 
-abbrev turn_4 : tie.After-copy-cell4 invariant-loop decreases-loop → tie.In-loop invariant-loop decreases-loop
+abbrev turn_4 : tie.After-copy_cell-t3 invariant-loop-k decreases-loop-k → tie.In-loop-k invariant-loop-k decreases-loop-k
 turn_4 s = turn_3 s.before.before
 
-copied : (s : tie.After-copy-cell invariant-loop decreases-loop) → Copied (cells_of (turn s).before) s.copy-cell.new.1.1.0 ((turn s).before.loop.k + 1)
-copied s = copied_turn _ (omega arith) s.copy-cell.ensures (turn s).before.loop.invariant.2
+copied : (s : tie.After-copy_cell-t0 invariant-loop-k decreases-loop-k) → Copied (cells_of (turn s).before) s.copy_cell-t0.new.row ((turn s).before.loop-k.k + 1)
+copied s = copied_turn _ (omega arith) s.copy_cell-t0.ensures (turn s).before.loop-k.invariant.2
 
-copied_2 : (s : tie.After-copy-cell2 invariant-loop decreases-loop) → Copied (cells_of (turn_2 s).before) s.copy-cell2.new.1.1.0 ((turn_2 s).before.loop.k + 2)
-copied_2 s = copied_turn _ (omega arith) s.copy-cell2.ensures (copied s.before.before)
+copied_2 : (s : tie.After-copy_cell-t1 invariant-loop-k decreases-loop-k) → Copied (cells_of (turn_2 s).before) s.copy_cell-t1.new.row ((turn_2 s).before.loop-k.k + 2)
+copied_2 s = copied_turn _ (omega arith) s.copy_cell-t1.ensures (copied s.before.before)
 
-copied_3 : (s : tie.After-copy-cell3 invariant-loop decreases-loop) → Copied (cells_of (turn_3 s).before) s.copy-cell3.new.1.1.0 ((turn_3 s).before.loop.k + 3)
-copied_3 s = copied_turn _ (omega arith) s.copy-cell3.ensures (copied_2 s.before.before)
+copied_3 : (s : tie.After-copy_cell-t2 invariant-loop-k decreases-loop-k) → Copied (cells_of (turn_3 s).before) s.copy_cell-t2.new.row ((turn_3 s).before.loop-k.k + 3)
+copied_3 s = copied_turn _ (omega arith) s.copy_cell-t2.ensures (copied_2 s.before.before)
 
-copied_4 : (s : tie.After-copy-cell4 invariant-loop decreases-loop) → Copied (cells_of (turn_4 s).before) s.copy-cell4.new.1.1.0 ((turn_4 s).before.loop.k + 4)
-copied_4 s = copied_turn _ (omega arith) s.copy-cell4.ensures (copied_3 s.before.before)
+copied_4 : (s : tie.After-copy_cell-t3 invariant-loop-k decreases-loop-k) → Copied (cells_of (turn_4 s).before) s.copy_cell-t3.new.row ((turn_4 s).before.loop-k.k + 4)
+copied_4 s = copied_turn _ (omega arith) s.copy_cell-t3.ensures (copied_3 s.before.before)
 
-loop_holds : tie.Need-loop-init invariant-loop decreases-loop
-loop_holds c = (omega arith, omega arith, copied_start _ _ c.requires.0.long, λ b l₀ l₁ l₂ l₃ j q. absurd (omega arith))
+loop-k-init : tie.Need-loop-k-init invariant-loop-k decreases-loop-k
+loop-k-init c = (omega arith, omega arith, copied_start _ _ c.requires.0.long, λ b l₀ l₁ l₂ l₃ j q. absurd (omega arith))
 
-copy_cell_requires : tie.Need-copy-cell-requires invariant-loop decreases-loop
-copy_cell_requires c κs = let s = c.before in ready s.before _ (omega (arith, four s)) s.before.loop.invariant.2
+copy_cell-t0-requires : tie.Need-copy_cell-t0-requires invariant-loop-k decreases-loop-k
+copy_cell-t0-requires c κs = let s = c.before in ready s.before _ (omega (arith, four s)) s.before.loop-k.invariant.2
 
-add_copy_cell : tie.Need-overflow-add-copy-cell invariant-loop decreases-loop
-add_copy_cell c = search rules
+overflow_add-k : tie.Need-overflow_add-k invariant-loop-k decreases-loop-k
+overflow_add-k c = search rules
 
-copy_cell_requires_2 : tie.Need-copy-cell-requires-2 invariant-loop decreases-loop
-copy_cell_requires_2 c κs = let s = turn c.before in ready s.before _ (omega (arith, four s)) (copied c.before)
+copy_cell-t1-requires : tie.Need-copy_cell-t1-requires invariant-loop-k decreases-loop-k
+copy_cell-t1-requires c κs = let s = turn c.before in ready s.before _ (omega (arith, four s)) (copied c.before)
 
-add_copy_cell_2 : tie.Need-overflow-add-copy-cell-2 invariant-loop decreases-loop
-add_copy_cell_2 c = search rules
+overflow_add-k-in-loop-k : tie.Need-overflow_add-k-in-loop-k invariant-loop-k decreases-loop-k
+overflow_add-k-in-loop-k c = search rules
 
-copy_cell_requires_3 : tie.Need-copy-cell-requires-3 invariant-loop decreases-loop
-copy_cell_requires_3 c κs = let s = turn_2 c.before in ready s.before _ (omega (arith, four s)) (copied_2 c.before)
+copy_cell-t2-requires : tie.Need-copy_cell-t2-requires invariant-loop-k decreases-loop-k
+copy_cell-t2-requires c κs = let s = turn_2 c.before in ready s.before _ (omega (arith, four s)) (copied_2 c.before)
 
-add_copy_cell_3 : tie.Need-overflow-add-copy-cell-3 invariant-loop decreases-loop
-add_copy_cell_3 c = search rules
+overflow_add-k-in-loop-k-2 : tie.Need-overflow_add-k-in-loop-k-2 invariant-loop-k decreases-loop-k
+overflow_add-k-in-loop-k-2 c = search rules
 
-copy_cell_requires_4 : tie.Need-copy-cell-requires-4 invariant-loop decreases-loop
-copy_cell_requires_4 c κs = let s = turn_3 c.before in ready s.before _ (omega (arith, four s)) (copied_3 c.before)
+copy_cell-t3-requires : tie.Need-copy_cell-t3-requires invariant-loop-k decreases-loop-k
+copy_cell-t3-requires c κs = let s = turn_3 c.before in ready s.before _ (omega (arith, four s)) (copied_3 c.before)
 
-add_k : tie.Need-overflow-add-k invariant-loop decreases-loop
-add_k c = search rules
+overflow_add-k-in-loop-k-3 : tie.Need-overflow_add-k-in-loop-k-3 invariant-loop-k decreases-loop-k
+overflow_add-k-in-loop-k-3 c = search rules
 
-loop_less : tie.Need-loop-smaller invariant-loop decreases-loop
-loop_less c = search rules
+loop-k-smaller : tie.Need-loop-k-smaller invariant-loop-k decreases-loop-k
+loop-k-smaller c = search rules
 
-loop_again : tie.Need-loop-preserved invariant-loop decreases-loop
-loop_again c =
+loop-k-preserved : tie.Need-loop-k-preserved invariant-loop-k decreases-loop-k
+loop-k-preserved c =
     let third = c.before.before in
     let second = third.before.before in
     let first = second.before.before in
     let s = turn first in
-    let b = s.before.loop in (
+    let b = s.before.loop-k in (
       four s,
       omega (arith, b.inv.1),
       copied_4 c,
       λ most l₀ l₁ l₂ l₃.
-          let a₀ = or_above b.t0 first.copy-cell.result in
-          let a₁ = or_above b.t1 second.copy-cell2.result in
-          let a₂ = or_above b.t2 third.copy-cell3.result in
-          let a₃ = or_above b.t3 c.copy-cell4.result in
-          let b₀ = bound_turn (b.k + 1) (omega arith) first.copy-cell.ensures most (omega arith) (b.inv.3 most (omega arith) (omega arith) (omega arith) (omega arith)) in
-          let b₁ = bound_turn (b.k + 2) (omega arith) second.copy-cell2.ensures most (omega arith) b₀ in
-          let b₂ = bound_turn (b.k + 3) (omega arith) third.copy-cell3.ensures most (omega arith) b₁ in
-          bound_turn _ (omega arith) c.copy-cell4.ensures most (omega arith) b₂,
+          let a₀ = or_above b.t0 first.copy_cell-t0.result in
+          let a₁ = or_above b.t1 second.copy_cell-t1.result in
+          let a₂ = or_above b.t2 third.copy_cell-t2.result in
+          let a₃ = or_above b.t3 c.copy_cell-t3.result in
+          let b₀ = bound_turn (b.k + 1) (omega arith) first.copy_cell-t0.ensures most (omega arith) (b.inv.3 most (omega arith) (omega arith) (omega arith) (omega arith)) in
+          let b₁ = bound_turn (b.k + 2) (omega arith) second.copy_cell-t1.ensures most (omega arith) b₀ in
+          let b₂ = bound_turn (b.k + 3) (omega arith) third.copy_cell-t2.ensures most (omega arith) b₁ in
+          bound_turn _ (omega arith) c.copy_cell-t3.ensures most (omega arith) b₂,
     )
 
-returns : tie.Need-returns invariant-loop decreases-loop
+returns : tie.Need-returns invariant-loop-k decreases-loop-k
 returns c =
     let s = c.before in
-    let e : s.loop.k ≡ s.before.args.width = omega arith in
-    rw e at (taken_end _ _ _ _ s.loop.invariant.1 s.loop.invariant.2 s.loop.invariant.3)
+    let e : s.loop-k.k ≡ s.before.args.width = omega arith in
+    rw e at (taken_end _ _ _ _ s.loop-k.invariant.1 s.loop-k.invariant.2 s.loop-k.invariant.3)
 
 pub take_spec : {M : Type 1} → statement M
 take_spec =
     tie.close
     (tie.spec
-    invariant-loop
-    decreases-loop
-    loop_holds
-    copy_cell_requires
-    add_copy_cell
-    copy_cell_requires_2
-    add_copy_cell_2
-    copy_cell_requires_3
-    add_copy_cell_3
-    copy_cell_requires_4
-    add_k
-    loop_less
-    loop_again
+    invariant-loop-k
+    decreases-loop-k
+    loop-k-init
+    copy_cell-t0-requires
+    overflow_add-k
+    copy_cell-t1-requires
+    overflow_add-k-in-loop-k
+    copy_cell-t2-requires
+    overflow_add-k-in-loop-k-2
+    copy_cell-t3-requires
+    overflow_add-k-in-loop-k-3
+    loop-k-smaller
+    loop-k-preserved
     returns)

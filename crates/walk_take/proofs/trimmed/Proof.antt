@@ -14,63 +14,63 @@ use Rattle.walk_cells.proofs.Tables.{cell_in}
 use Rattle.walk_take.proofs.trimmed.Statement.{statement}
 use Rattle.walk_take.proofs.trimmed.Tie as tie
 
-abbrev invariant-loop : tie.invariant-loop
-invariant-loop cells width w₀ w = Trimmed cells width w
+abbrev invariant-loop-w : tie.invariant-loop-w
+invariant-loop-w cells width w₀ w = Trimmed cells width w
 
-abbrev decreases-loop : tie.decreases-loop
-decreases-loop cells width w₀ w = w
+abbrev decreases-loop-w : tie.decreases-loop-w
+decreases-loop-w cells width w₀ w = w
 
-loop_holds : tie.Need-loop-init invariant-loop decreases-loop
-loop_holds c = record { fits = omega arith; none = λ k b l. absurd (omega arith) }
+loop-w-init : tie.Need-loop-w-init invariant-loop-w decreases-loop-w
+loop-w-init c = record { fits = omega arith; none = λ k b l. absurd (omega arith) }
 
-sub_is_walk : tie.Need-overflow-sub-is-walk invariant-loop decreases-loop
-sub_is_walk c = search rules
+overflow_sub-w : tie.Need-overflow_sub-w invariant-loop-w decreases-loop-w
+overflow_sub-w c = search rules
 
-mul_is_walk : tie.Need-overflow-mul-is-walk invariant-loop decreases-loop
-mul_is_walk c = search rules
+offset_bounds-cells-w : tie.Need-offset_bounds-cells-w invariant-loop-w decreases-loop-w
+offset_bounds-cells-w c = search rules
 
-element_copy_out_is_walk : tie.Need-element-copy-out-is-walk invariant-loop decreases-loop
-element_copy_out_is_walk c = search rules
+bounds-cells-w : tie.Need-bounds-cells-w invariant-loop-w decreases-loop-w
+bounds-cells-w c = search rules
 
-is_walk_requires : tie.Need-is-walk-requires invariant-loop decreases-loop
-is_walk_requires c κs = search rules
+is_walk-requires : tie.Need-is_walk-requires invariant-loop-w decreases-loop-w
+is_walk-requires c κs = search rules
 
-returns : tie.Need-returns invariant-loop decreases-loop
-returns c = c.before.before.before.before.loop.invariant
+returns-then-is_walk : tie.Need-returns-then-is_walk invariant-loop-w decreases-loop-w
+returns-then-is_walk c = c.before.before.before.before.loop-w.invariant
 
-sub_w : tie.Need-overflow-sub-w invariant-loop decreases-loop
-sub_w c = search rules
+overflow_sub-w-in-loop-w : tie.Need-overflow_sub-w-in-loop-w invariant-loop-w decreases-loop-w
+overflow_sub-w-in-loop-w c = search rules
 
-loop_less : tie.Need-loop-smaller invariant-loop decreases-loop
-loop_less c = search rules
+loop-w-smaller : tie.Need-loop-w-smaller invariant-loop-w decreases-loop-w
+loop-w-smaller c = search rules
 
-loop_again : tie.Need-loop-preserved invariant-loop decreases-loop
-loop_again c =
+loop-w-preserved : tie.Need-loop-w-preserved invariant-loop-w decreases-loop-w
+loop-w-preserved c =
     let tested = c.before in
     let read = tested.before in
     let at-loop = read.before.before in
     let start = at-loop.before in
     let cells = start.args.cells.now in
-    let place = cell_in cells (at-loop.loop.w - 1) (omega (arith, at-loop.loop.invariant.fits, start.requires.long, read.before.loop-test.true)) in
-    let says : tested.is-walk.result ≡ ltb 0 (value (cell_of cells (at-loop.loop.w - 1))) = tested.is-walk.ensures ∙ ap (λ (x : ℤ). ltb 0 (value x)) (to_z-of_z (sfits_of read.is-walk-arg.given) ∙ place) in
-    trimmed_turn cells _ at-loop.loop.w at-loop.loop.invariant (omega (arith, read.before.loop-test.true)) (sym says ∙ c.if1.false)
+    let place = cell_in cells (at-loop.loop-w.w - 1) (omega (arith, at-loop.loop-w.invariant.fits, start.requires.long, read.before.loop-w-test.true)) in
+    let says : tested.is_walk.result ≡ ltb 0 (value (cell_of cells (at-loop.loop-w.w - 1))) = tested.is_walk.ensures ∙ ap (λ (x : ℤ). ltb 0 (value x)) (to_z-of_z (sfits_of read.is_walk-arg-1.given) ∙ place) in
+    trimmed_turn cells _ at-loop.loop-w.w at-loop.loop-w.invariant (omega (arith, read.before.loop-w-test.true)) (sym says ∙ c.if-is_walk.false)
 
-returns_2 : tie.Need-returns-2 invariant-loop decreases-loop
-returns_2 c = c.before.loop.invariant
+returns : tie.Need-returns invariant-loop-w decreases-loop-w
+returns-then-is_walk c = c.before.loop-w.invariant
 
 pub trimmed_spec : {M : Type 1} → statement M
 trimmed_spec =
     tie.close
     (tie.spec
-    invariant-loop
-    decreases-loop
-    loop_holds
-    sub_is_walk
-    mul_is_walk
-    element_copy_out_is_walk
-    is_walk_requires
-    returns
-    sub_w
-    loop_less
-    loop_again
-    returns_2)
+    invariant-loop-w
+    decreases-loop-w
+    loop-w-init
+    overflow_sub-w
+    offset_bounds-cells-w
+    bounds-cells-w
+    is_walk-requires
+    returns-then-is_walk
+    overflow_sub-w-in-loop-w
+    loop-w-smaller
+    loop-w-preserved
+    returns-then-is_walk)

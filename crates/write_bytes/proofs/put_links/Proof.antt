@@ -15,108 +15,108 @@ use Rattle.write_bytes.proofs.Texts.{link_text, links_listed}
 use Rattle.write_bytes.proofs.put_links.Statement.{statement}
 use Rattle.write_bytes.proofs.put_links.Tie as tie
 
-abbrev invariant-loop : tie.invariant-loop
-invariant-loop order r out₀ at links p₀ i₀ out p i = (i ≤ r) × Put (texts (link_text links order) i) at p out₀ out
+abbrev invariant-loop-i : tie.invariant-loop-i
+invariant-loop-i order r out₀ at links p₀ i₀ out p i = (i ≤ r) × Put (texts (link_text links order) i) at p out₀ out
 
-abbrev decreases-loop : tie.decreases-loop
-decreases-loop order r out₀ at links p₀ i₀ out p i = r - i
+abbrev decreases-loop-i : tie.decreases-loop-i
+decreases-loop-i order r out₀ at links p₀ i₀ out p i = r - i
 
 -- Places on the way: the start, from the head of the loop; and that, from where the next number has been read.
-abbrev start : tie.At-loop invariant-loop decreases-loop → tie.Start invariant-loop decreases-loop
+abbrev start : tie.At-loop-i invariant-loop-i decreases-loop-i → tie.Start invariant-loop-i decreases-loop-i
 start l = l.before.before.before
 
-abbrev head : tie.After-index invariant-loop decreases-loop → tie.At-loop invariant-loop decreases-loop
+abbrev head : tie.After-index-k invariant-loop-i decreases-loop-i → tie.At-loop-i invariant-loop-i decreases-loop-i
 head k = k.before.before.before
 
 -- There are 512 records, and each number is one of them.
-long : (s : tie.Start invariant-loop decreases-loop) → length s.args.t1 ≡ 512
+long : (s : tie.Start invariant-loop-i decreases-loop-i) → length s.args.t1 ≡ 512
 long s = s.well_formed.0.1.0.1
 
-inside : (k : tie.After-index invariant-loop decreases-loop) → k.index.result < 512
-inside k = omega (arith, k.index.ensures, (start (head k)).pre.ordered.inside (head k).loop.i k.before.before.loop-test.true)
+inside : (k : tie.After-index-k invariant-loop-i decreases-loop-i) → k.index-k.result < 512
+inside k = omega (arith, k.index-k.ensures, (start (head k)).pre.ordered.inside (head k).loop-i.i k.before.before.loop-i-test.true)
 
 -- The texts of the records with r numbers are what is to be put, and there is room for these.
-listed : (s : tie.Start invariant-loop decreases-loop) → texts (link_text s.args.t1 s.args.order.now) s.args.r ≡ links_text s.args.t1 s.args.order.now s.args.r
+listed : (s : tie.Start invariant-loop-i decreases-loop-i) → texts (link_text s.args.t1 s.args.order.now) s.args.r ≡ links_text s.args.t1 s.args.order.now s.args.r
 listed s = links_listed s.args.t1 s.args.order.now s.args.r s.requires.ordered.long
 
-room : (s : tie.Start invariant-loop decreases-loop) → s.args.at + length (texts (link_text s.args.t1 s.args.order.now) s.args.r) ≤ length s.args.out.now
+room : (s : tie.Start invariant-loop-i decreases-loop-i) → s.args.at + length (texts (link_text s.args.t1 s.args.order.now) s.args.r) ≤ length s.args.out-1.now
 room s = omega (arith, ap length (listed s), s.requires.room)
 
-loop_holds : tie.Need-loop-init invariant-loop decreases-loop
-loop_holds c = (omega arith, unfold texts in put_none _ _)
+loop-i-init : tie.Need-loop-i-init invariant-loop-i decreases-loop-i
+loop-i-init c = (omega arith, unfold texts in put_none _ _)
 
-mul_index : tie.Need-overflow-mul-index invariant-loop decreases-loop
-mul_index c = omega (arith, (start c.before).pre.ordered.long)
+offset_bounds-order-i : tie.Need-offset_bounds-order-i invariant-loop-i decreases-loop-i
+offset_bounds-order-i c = omega (arith, (start c.before).pre.ordered.long)
 
-shared_slice_read_index : tie.Need-shared-slice-read-index invariant-loop decreases-loop
-shared_slice_read_index c = omega (arith, (start c.before.before).pre.ordered.long)
+bounds-order-i : tie.Need-bounds-order-i invariant-loop-i decreases-loop-i
+bounds-order-i c = omega (arith, (start c.before.before).pre.ordered.long)
 
-index_requires : tie.Need-index-requires invariant-loop decreases-loop
-index_requires c κs = search rules
+index-k-requires : tie.Need-index-k-requires invariant-loop-i decreases-loop-i
+index-k-requires c κs = search rules
 
-mul_l : tie.Need-overflow-mul-l invariant-loop decreases-loop
-mul_l c = omega (arith, inside c, (start (head c)).pre.few)
+offset_bounds-links-k : tie.Need-offset_bounds-links-k invariant-loop-i decreases-loop-i
+offset_bounds-links-k c = omega (arith, inside c, (start (head c)).pre.few)
 
-array_copy_out_l : tie.Need-array-copy-out-l invariant-loop decreases-loop
-array_copy_out_l c = omega (arith, inside c, (start (head c)).pre.few)
+bounds-links-k : tie.Need-bounds-links-k invariant-loop-i decreases-loop-i
+bounds-links-k c = omega (arith, inside c, (start (head c)).pre.few)
 
-put_link_requires : tie.Need-put-link-requires invariant-loop decreases-loop
-put_link_requires c κs =
+put_link-p-requires : tie.Need-put_link-p-requires invariant-loop-i decreases-loop-i
+put_link-p-requires c κs =
     let k = c.before.before in
     let l = head k in
     let s = start l in
     let t = s.args.t1 in
     let order = s.args.order.now in
     subst
-    (λ (r : Link). l.loop.p + length (link_bytes r) ≤ length l.loop.out)
-    (ap (λ (x : ℕ). get_or t x blank_link) (sym k.index.ensures) ∙ inside_same t k.index.result blank_link _ (omega (arith, long s, inside k)))
-    (next_room (link_text t order) s.args.r l.loop.i l.loop.inv.1 (omega arith) (room s))
+    (λ (r : Link). l.loop-i.p + length (link_bytes r) ≤ length l.loop-i.out-1)
+    (ap (λ (x : ℕ). get_or t x blank_link) (sym k.index-k.ensures) ∙ inside_same t k.index-k.result blank_link _ (omega (arith, long s, inside k)))
+    (next_room (link_text t order) s.args.r l.loop-i.i l.loop-i.inv.1 (omega arith) (room s))
 
-add_i : tie.Need-overflow-add-i invariant-loop decreases-loop
-add_i c = search rules
+overflow_add-i : tie.Need-overflow_add-i invariant-loop-i decreases-loop-i
+overflow_add-i c = search rules
 
-loop_less : tie.Need-loop-smaller invariant-loop decreases-loop
-loop_less c = search rules
+loop-i-smaller : tie.Need-loop-i-smaller invariant-loop-i decreases-loop-i
+loop-i-smaller c = search rules
 
-loop_again : tie.Need-loop-preserved invariant-loop decreases-loop
-loop_again c =
+loop-i-preserved : tie.Need-loop-i-preserved invariant-loop-i decreases-loop-i
+loop-i-preserved c =
     let p = c.before.before in
     let k = p.before.before.before in
     let l = head k in
     let s = start l in
     let t = s.args.t1 in
     let order = s.args.order.now in
-    let here = inside_same t k.index.result _ blank_link (omega (arith, long s, inside k)) ∙ ap (λ (x : ℕ). get_or t x blank_link) k.index.ensures in
-    (omega arith, next_text (link_text t order) s.args.r l.loop.i l.loop.inv.1 (omega arith) (room s) (put_as (ap link_bytes here) p.put-link.ensures))
+    let here = inside_same t k.index-k.result _ blank_link (omega (arith, long s, inside k)) ∙ ap (λ (x : ℕ). get_or t x blank_link) k.index-k.ensures in
+    (omega arith, next_text (link_text t order) s.args.r l.loop-i.i l.loop-i.inv.1 (omega arith) (room s) (put_as (ap link_bytes here) p.put_link-p.ensures))
 
-same_length : tie.Need-same-length invariant-loop decreases-loop
-same_length c =
+shape_of-out : tie.Need-shape_of-out invariant-loop-i decreases-loop-i
+shape_of-out c =
     let l = c.before in
     let s = start l in
-    texts_length (link_text s.args.t1 s.args.order.now) s.args.r l.loop.i l.loop.invariant.1 l.loop.invariant.0 (room s)
+    texts_length (link_text s.args.t1 s.args.order.now) s.args.r l.loop-i.i l.loop-i.invariant.1 l.loop-i.invariant.0 (room s)
 
-returns : tie.Need-returns invariant-loop decreases-loop
+returns : tie.Need-returns invariant-loop-i decreases-loop-i
 returns c =
     let l = c.before in
     let s = start l in
-    let e : l.loop.i ≡ s.args.r = omega arith in
-    put_as (ap (texts (link_text s.args.t1 s.args.order.now)) e ∙ listed s) l.loop.invariant.1
+    let e : l.loop-i.i ≡ s.args.r = omega arith in
+    put_as (ap (texts (link_text s.args.t1 s.args.order.now)) e ∙ listed s) l.loop-i.invariant.1
 
 pub put_links_spec : {M : Type 1} → statement M
 put_links_spec =
     tie.close
     (tie.spec
-    invariant-loop
-    decreases-loop
-    loop_holds
-    mul_index
-    shared_slice_read_index
-    index_requires
-    mul_l
-    array_copy_out_l
-    put_link_requires
-    add_i
-    loop_less
-    loop_again
-    same_length
+    invariant-loop-i
+    decreases-loop-i
+    loop-i-init
+    offset_bounds-order-i
+    bounds-order-i
+    index-k-requires
+    offset_bounds-links-k
+    bounds-links-k
+    put_link-p-requires
+    overflow_add-i
+    loop-i-smaller
+    loop-i-preserved
+    shape_of-out
     returns)

@@ -15,82 +15,82 @@ use Rattle.write_bytes.proofs.Texts.{step_text, steps_listed}
 use Rattle.write_bytes.proofs.put_steps.Statement.{statement}
 use Rattle.write_bytes.proofs.put_steps.Tie as tie
 
-abbrev invariant-loop : tie.invariant-loop
-invariant-loop n out₀ at steps p₀ i₀ out p i = (i ≤ n) × Put (texts (step_text steps) i) at p out₀ out
+abbrev invariant-loop-i : tie.invariant-loop-i
+invariant-loop-i n out₀ at steps p₀ i₀ out p i = (i ≤ n) × Put (texts (step_text steps) i) at p out₀ out
 
-abbrev decreases-loop : tie.decreases-loop
-decreases-loop n out₀ at steps p₀ i₀ out p i = n - i
+abbrev decreases-loop-i : tie.decreases-loop-i
+decreases-loop-i n out₀ at steps p₀ i₀ out p i = n - i
 
 -- The start, from the head of the loop. There are 64 steps; the texts of n of them are what is to be put, and there is room for these.
-abbrev start : tie.At-loop invariant-loop decreases-loop → tie.Start invariant-loop decreases-loop
+abbrev start : tie.At-loop-i invariant-loop-i decreases-loop-i → tie.Start invariant-loop-i decreases-loop-i
 start l = l.before.before
 
-long : (s : tie.Start invariant-loop decreases-loop) → length s.args.t1 ≡ 64
+long : (s : tie.Start invariant-loop-i decreases-loop-i) → length s.args.t1 ≡ 64
 long s = s.well_formed.0.1.0.1
 
-listed : (s : tie.Start invariant-loop decreases-loop) → texts (step_text s.args.t1) s.args.n ≡ steps_text s.args.t1 s.args.n
+listed : (s : tie.Start invariant-loop-i decreases-loop-i) → texts (step_text s.args.t1) s.args.n ≡ steps_text s.args.t1 s.args.n
 listed s = steps_listed s.args.t1 s.args.n (omega (arith, long s, s.requires.few))
 
-room : (s : tie.Start invariant-loop decreases-loop) → s.args.at + length (texts (step_text s.args.t1) s.args.n) ≤ length s.args.out.now
+room : (s : tie.Start invariant-loop-i decreases-loop-i) → s.args.at + length (texts (step_text s.args.t1) s.args.n) ≤ length s.args.out-1.now
 room s = omega (arith, ap length (listed s), s.requires.room)
 
-loop_holds : tie.Need-loop-init invariant-loop decreases-loop
-loop_holds c = (omega arith, unfold texts in put_none _ _)
+loop-i-init : tie.Need-loop-i-init invariant-loop-i decreases-loop-i
+loop-i-init c = (omega arith, unfold texts in put_none _ _)
 
-mul_o : tie.Need-overflow-mul-o invariant-loop decreases-loop
-mul_o c = search rules
+offset_bounds-steps-i : tie.Need-offset_bounds-steps-i invariant-loop-i decreases-loop-i
+offset_bounds-steps-i c = search rules
 
-array_copy_out_o : tie.Need-array-copy-out-o invariant-loop decreases-loop
-array_copy_out_o c = search rules
+bounds-steps-i : tie.Need-bounds-steps-i invariant-loop-i decreases-loop-i
+bounds-steps-i c = search rules
 
-put_step_requires : tie.Need-put-step-requires invariant-loop decreases-loop
-put_step_requires c κs =
+put_step-p-requires : tie.Need-put_step-p-requires invariant-loop-i decreases-loop-i
+put_step-p-requires c κs =
     let l = c.before.before.before in
     let s = start l in
     subst
-    (λ (o : Operation). l.loop.p + length (operation_bytes o) ≤ length l.loop.out)
-    (inside_same s.args.t1 l.loop.i blank_operation _ (omega (arith, long s, s.pre.few)))
-    (next_room (step_text s.args.t1) s.args.n l.loop.i l.loop.invariant.1 (omega arith) (room s))
+    (λ (o : Operation). l.loop-i.p + length (operation_bytes o) ≤ length l.loop-i.out-1)
+    (inside_same s.args.t1 l.loop-i.i blank_operation _ (omega (arith, long s, s.pre.few)))
+    (next_room (step_text s.args.t1) s.args.n l.loop-i.i l.loop-i.invariant.1 (omega arith) (room s))
 
-add_i : tie.Need-overflow-add-i invariant-loop decreases-loop
-add_i c = search rules
+overflow_add-i : tie.Need-overflow_add-i invariant-loop-i decreases-loop-i
+overflow_add-i c = search rules
 
-loop_less : tie.Need-loop-smaller invariant-loop decreases-loop
-loop_less c = search rules
+loop-i-smaller : tie.Need-loop-i-smaller invariant-loop-i decreases-loop-i
+loop-i-smaller c = search rules
 
-loop_again : tie.Need-loop-preserved invariant-loop decreases-loop
-loop_again c =
+loop-i-preserved : tie.Need-loop-i-preserved invariant-loop-i decreases-loop-i
+loop-i-preserved c =
     let p = c.before.before in
     let l = p.before.before.before.before in
     let s = start l in
-    let here = inside_same s.args.t1 l.loop.i _ blank_operation (omega (arith, long s, s.pre.few)) in
-    (omega arith, next_text (step_text s.args.t1) s.args.n l.loop.i l.loop.invariant.1 (omega arith) (room s) (put_as (ap operation_bytes here) p.put_step.ensures))
+    let here = inside_same s.args.t1 l.loop-i.i _ blank_operation (omega (arith, long s, s.pre.few)) in
+    (omega arith, next_text (step_text s.args.t1) s.args.n l.loop-i.i l.loop-i.invariant.1 (omega arith) (room s) (put_as (ap operation_bytes here) p.put_step-p.ensures))
 
-same_length : tie.Need-same-length invariant-loop decreases-loop
-same_length c =
+shape_of-out : tie.Need-shape_of-out invariant-loop-i decreases-loop-i
+shape_of-out c =
     let l = c.before in
     let s = start l in
-    texts_length (step_text s.args.t1) s.args.n l.loop.i l.loop.invariant.1 l.loop.invariant.0 (room s)
+    texts_length (step_text s.args.t1) s.args.n l.loop-i.i l.loop-i.invariant.1 l.loop-i.invariant.0 (room s)
 
-returns : tie.Need-returns invariant-loop decreases-loop
+returns : tie.Need-returns invariant-loop-i decreases-loop-i
 returns c =
     let l = c.before in
     let s = start l in
-    let e : l.loop.i ≡ s.args.n = omega arith in
-    put_as (ap (texts (step_text s.args.t1)) e ∙ listed s) l.loop.invariant.1
+    let e : l.loop-i.i ≡ s.args.n = omega arith in
+    put_as (ap (texts (step_text s.args.t1)) e ∙ listed s) l.loop-i.invariant.1
 
 pub put_steps_spec : {M : Type 1} → statement M
 put_steps_spec =
     tie.close
     (tie.spec
-    invariant-loop
-    decreases-loop
-    loop_holds
-    mul_o
-    array_copy_out_o
-    put_step_requires
-    add_i
-    loop_less
-    loop_again
-    same_length
+    invariant-loop-i
+    decreases-loop-i
+    loop-i-init
+    offset_bounds-steps-i
+    bounds-steps-i
+    put_step-p-requires
+    overflow_add-i
+    loop-i-smaller
+    loop-i-preserved
+    shape_of-out
     returns)

@@ -4,17 +4,17 @@ use borrow.Author.Rules.{rules}
 use Rattle.write_fields.proofs.bound_bit.Statement.{statement}
 use Rattle.write_fields.proofs.bound_bit.Tie as tie
 
-enum_told : tie.Need-enum-told
-enum_told c = search rules
+enum_told-1 : tie.Need-enum_told-1
+enum_told-1 c = search rules
 
-enum_told_2 : tie.Need-enum-told-2
-enum_told_2 c = search rules
+enum_told-in-Ticks : tie.Need-enum_told-in-Ticks
+enum_told-1-in-Ticks c = search rules
 
-returns : tie.Need-returns
-returns c = bit_absent c.enum_told.given.1
+returns-in-Absent : tie.Need-returns-in-Absent
+returns-in-Absent c = bit_absent c.enum_told-1.given.1
 
-returns_2 : tie.Need-returns-2
-returns_2 c = bit_there c.enum-told2.given.1
+returns-in-Ticks : tie.Need-returns-in-Ticks
+returns-in-Absent-in-Ticks c = bit_there c.enum_told-in-Ticks-1.given.1
 
 pub bound_bit_spec : {M : Type 1} → statement M
-bound_bit_spec = tie.close (tie.spec enum_told enum_told_2 returns returns_2)
+bound_bit_spec = tie.close (tie.spec enum_told-1 enum_told-1-in-Ticks returns-in-Absent returns-in-Absent-in-Ticks)

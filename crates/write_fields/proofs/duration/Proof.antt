@@ -4,20 +4,20 @@ use borrow.Author.Rules.{rules}
 use Rattle.write_fields.proofs.duration.Statement.{statement}
 use Rattle.write_fields.proofs.duration.Tie as tie
 
-enum_told : tie.Need-enum-told
-enum_told c = search rules
+enum_told-1 : tie.Need-enum_told-1
+enum_told-1 c = search rules
 
-enum_known_d : tie.Need-enum-known-d
-enum_known_d c = search rules
+enum_known-d : tie.Need-enum_known-d
+enum_known-d c = search rules
 
-returns : tie.Need-returns
-returns c = duration_none c.before.before.d.given.1 c.if1.true
+returns-then-x-eq0 : tie.Need-returns-then-x-eq0
+returns-then-x-eq0 c = duration_none c.before.before.d-1.given.1 c.if-x-eq0.true
 
-returns_2 : tie.Need-returns-2
-returns_2 c = duration_open c.enum_told.given.1
+returns-in-Open : tie.Need-returns-in-Open
+returns-then-x-eq0-in-Open c = duration_open c.enum_told-1.given.1
 
-returns_3 : tie.Need-returns-3
-returns_3 c = duration_there c.before.before.d.given.1 c.if1.false
+returns-else-x-eq0 : tie.Need-returns-else-x-eq0
+returns-then-x-eq0-else-x-eq0 c = duration_there c.before.before.d-1.given.1 c.if-x-eq0.false
 
 pub duration_spec : {M : Type 1} → statement M
-duration_spec = tie.close (tie.spec enum_told enum_known_d returns returns_2 returns_3)
+duration_spec = tie.close (tie.spec enum_told-1 enum_known-d returns-then-x-eq0 returns-then-x-eq0-in-Open returns-then-x-eq0-else-x-eq0)

@@ -4,43 +4,43 @@ use borrow.Author.Rules.{rules}
 use Rattle.write_fields.proofs.link_size.Statement.{statement}
 use Rattle.write_fields.proofs.link_size.Tie as tie
 
-field_size_requires : tie.Need-field-size-requires
-field_size_requires c κs = search rules
+field_size-requires : tie.Need-field_size-requires
+field_size-requires c κs = search rules
 
-add_result : tie.Need-overflow-add-result
-add_result c = search rules
+overflow_add-result : tie.Need-overflow_add-result
+overflow_add-result c = search rules
 
-field_size_requires_2 : tie.Need-field-size-requires-2
-field_size_requires_2 c κs = search rules
+field_size-requires-2 : tie.Need-field_size-requires-2
+field_size-requires-2 c κs = search rules
 
-add_result_2 : tie.Need-overflow-add-result-2
-add_result_2 c = search rules
+overflow_add-result-2 : tie.Need-overflow_add-result-2
+overflow_add-result-2 c = search rules
 
-field_size_requires_3 : tie.Need-field-size-requires-3
-field_size_requires_3 c κs = search rules
+field_size-requires-3 : tie.Need-field_size-requires-3
+field_size-requires-3 c κs = search rules
 
-add_result_3 : tie.Need-overflow-add-result-3
-add_result_3 c = search rules
+overflow_add-result-3 : tie.Need-overflow_add-result-3
+overflow_add-result-3 c = search rules
 
-field_size_requires_4 : tie.Need-field-size-requires-4
-field_size_requires_4 c κs = search rules
+field_size-requires-4 : tie.Need-field_size-requires-4
+field_size-requires-4 c κs = search rules
 
-add_result_4 : tie.Need-overflow-add-result-4
-add_result_4 c = search rules
+overflow_add-result-4 : tie.Need-overflow_add-result-4
+overflow_add-result-4 c = search rules
 
 returns : tie.Need-returns
-returns c = link_sized _ c.before.before.before.field-size.ensures c.before.before.field-size2.ensures c.before.field-size3.ensures c.field-size4.ensures
+returns c = link_sized _ c.before.before.before.field_size.ensures c.before.before.field_size-2.ensures c.before.field_size-3.ensures c.field_size-4.ensures
 
 pub link_size_spec : {M : Type 1} → statement M
 link_size_spec =
     tie.close
     (tie.spec
-    field_size_requires
-    add_result
-    field_size_requires_2
-    add_result_2
-    field_size_requires_3
-    add_result_3
-    field_size_requires_4
-    add_result_4
+    field_size-requires
+    overflow_add-result
+    field_size-requires-2
+    overflow_add-result-2
+    field_size-requires-3
+    overflow_add-result-3
+    field_size-requires-4
+    overflow_add-result-4
     returns)

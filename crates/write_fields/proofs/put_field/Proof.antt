@@ -6,26 +6,26 @@ use borrow.Author.Rules.{rules}
 use Rattle.write_fields.proofs.put_field.Statement.{statement}
 use Rattle.write_fields.proofs.put_field.Tie as tie
 
-enum_told : tie.Need-enum-told
-enum_told c = search rules
+enum_told-1 : tie.Need-enum_told-1
+enum_told-1 c = search rules
 
-enum_known_b : tie.Need-enum-known-b
-enum_known_b c = search rules
+enum_known-b : tie.Need-enum_known-b
+enum_known-b c = search rules
 
-put_number_requires : tie.Need-put-number-requires
-put_number_requires c κs =
+put_number-requires : tie.Need-put_number-requires
+put_number-requires c κs =
     let s = c.before.before.before.before.before in
-    omega (arith, s.requires, (size_there c.before.before.b.given.1).same)
+    omega (arith, s.requires, (size_there c.before.before.b-1.given.1).same)
 
-returns : tie.Need-returns
-returns c = put_as (field_absent c.enum_told.given.1) (put_none _ _)
+returns-in-Absent : tie.Need-returns-in-Absent
+returns-in-Absent c = put_as (field_absent c.enum_told-1.given.1) (put_none _ _)
 
-same_length : tie.Need-same-length
-same_length c = search rules
+shape_of-out : tie.Need-shape_of-out
+shape_of-out c = search rules
 
-returns_2 : tie.Need-returns-2
-returns_2 c = put_as (field_there c.before.before.before.before.before.b.given.1) c.before.before.put-number.ensures
+returns-in-Ticks : tie.Need-returns-in-Ticks
+returns-in-Absent-in-Ticks c = put_as (field_there c.before.before.before.before.before.b-1.given.1) c.before.before.put_number.ensures
 
 pub put_field_spec : {M : Type 1} → statement M
 put_field_spec =
-    tie.close (tie.spec enum_told enum_known_b put_number_requires returns same_length returns_2)
+    tie.close (tie.spec enum_told-1 enum_known-b put_number-requires returns-in-Absent shape_of-out returns-in-Absent-in-Ticks)

@@ -4,17 +4,17 @@ use borrow.Author.Rules.{rules}
 use Rattle.write_fields.proofs.put_number.Statement.{statement}
 use Rattle.write_fields.proofs.put_number.Tie as tie
 
-cast_put_two : tie.Need-overflow-cast-put-two
-cast_put_two c = search rules
+overflow_cast-x : tie.Need-overflow_cast-x
+overflow_cast-x c = search rules
 
-cast_put_two_2 : tie.Need-overflow-cast-put-two-2
-cast_put_two_2 c = search rules
+overflow_cast-x-2 : tie.Need-overflow_cast-x-2
+overflow_cast-x-2 c = search rules
 
-put_two_requires : tie.Need-put-two-requires
-put_two_requires c κs = search rules
+put_two-requires : tie.Need-put_two-requires
+put_two-requires c κs = search rules
 
-same_length : tie.Need-same-length
-same_length c = search rules
+shape_of-out : tie.Need-shape_of-out
+shape_of-out c = search rules
 
 returns : tie.Need-returns
 unfolding two_bytes_of
@@ -22,4 +22,4 @@ returns c = c.before.before.put_two.ensures
 
 pub put_number_spec : {M : Type 1} → statement M
 put_number_spec =
-    tie.close (tie.spec cast_put_two cast_put_two_2 put_two_requires same_length returns)
+    tie.close (tie.spec overflow_cast-x overflow_cast-x-2 put_two-requires shape_of-out returns)

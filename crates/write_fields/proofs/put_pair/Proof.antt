@@ -8,26 +8,26 @@ use borrow.Author.Rules.{rules}
 use Rattle.write_fields.proofs.put_pair.Statement.{statement}
 use Rattle.write_fields.proofs.put_pair.Tie as tie
 
-link_map_requires : tie.Need-link-map-requires
-link_map_requires c κs = search rules
+link_map-requires : tie.Need-link_map-requires
+link_map-requires c κs = search rules
 
-put_byte_requires : tie.Need-put-byte-requires
-put_byte_requires c κs = search rules
+put_byte-p-requires : tie.Need-put_byte-p-requires
+put_byte-p-requires c κs = search rules
 
-put_two_requires : tie.Need-put-two-requires
-put_two_requires c κs = search rules
+put_two-requires : tie.Need-put_two-requires
+put_two-requires c κs = search rules
 
-same_length : tie.Need-same-length
-same_length c = search rules
+shape_of-out : tie.Need-shape_of-out
+shape_of-out c = search rules
 
 returns : tie.Need-returns
 returns c =
     let last = c.before.before in
     let p = last.before.before.before.before in
-    let mapped = put_as (ap (λ m. m ∷ []) p.before.before.link_map.ensures) p.put_byte.ensures in
+    let mapped = put_as (ap (λ m. m ∷ []) p.before.before.link_map.ensures) p.put_byte-p.ensures in
     put_as (front_parts _) (put_then mapped last.put_two.ensures (omega arith))
 
 pub put_pair_spec : {M : Type 1} → statement M
 put_pair_spec =
     tie.close
-    (tie.spec link_map_requires put_byte_requires put_two_requires same_length returns)
+    (tie.spec link_map-requires put_byte-p-requires put_two-requires shape_of-out returns)

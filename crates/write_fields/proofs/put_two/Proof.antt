@@ -5,20 +5,20 @@ use borrow.Author.Rules.{rules}
 use Rattle.write_fields.proofs.put_two.Statement.{statement}
 use Rattle.write_fields.proofs.put_two.Tie as tie
 
-put_byte_requires : tie.Need-put-byte-requires
-put_byte_requires c κs = search rules
+put_byte-p-requires : tie.Need-put_byte-p-requires
+put_byte-p-requires c κs = search rules
 
-put_byte_requires_2 : tie.Need-put-byte-requires-2
-put_byte_requires_2 c κs = search rules
+put_byte-requires : tie.Need-put_byte-requires
+put_byte-requires c κs = search rules
 
-same_length : tie.Need-same-length
-same_length c = search rules
+shape_of-out : tie.Need-shape_of-out
+shape_of-out c = search rules
 
 returns : tie.Need-returns
 returns c =
     let last = c.before.before in
     let p = last.before.before.before.before in
-    put_then p.put_byte.ensures last.put-byte2.ensures (omega arith)
+    put_then p.put_byte-p.ensures last.put_byte.ensures (omega arith)
 
 pub put_two_spec : {M : Type 1} → statement M
-put_two_spec = tie.close (tie.spec put_byte_requires put_byte_requires_2 same_length returns)
+put_two_spec = tie.close (tie.spec put_byte-p-requires put_byte-requires shape_of-out returns)

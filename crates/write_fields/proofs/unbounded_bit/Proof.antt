@@ -4,17 +4,17 @@ use borrow.Author.Rules.{rules}
 use Rattle.write_fields.proofs.unbounded_bit.Statement.{statement}
 use Rattle.write_fields.proofs.unbounded_bit.Tie as tie
 
-enum_told : tie.Need-enum-told
-enum_told c = search rules
+enum_told-1 : tie.Need-enum_told-1
+enum_told-1 c = search rules
 
-enum_told_2 : tie.Need-enum-told-2
-enum_told_2 c = search rules
+enum_told-in-Fixed : tie.Need-enum_told-in-Fixed
+enum_told-1-in-Fixed c = search rules
 
-returns : tie.Need-returns
-returns c = open_there c.enum_told.given.1
+returns-in-Open : tie.Need-returns-in-Open
+returns-in-Open c = open_there c.enum_told-1.given.1
 
-returns_2 : tie.Need-returns-2
-returns_2 c = open_absent c.enum-told2.given.1
+returns-in-Fixed : tie.Need-returns-in-Fixed
+returns-in-Open-in-Fixed c = open_absent c.enum_told-in-Fixed-1.given.1
 
 pub unbounded_bit_spec : {M : Type 1} → statement M
-unbounded_bit_spec = tie.close (tie.spec enum_told enum_told_2 returns returns_2)
+unbounded_bit_spec = tie.close (tie.spec enum_told-1 enum_told-1-in-Fixed returns-in-Open returns-in-Open-in-Fixed)

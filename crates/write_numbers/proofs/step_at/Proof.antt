@@ -4,26 +4,26 @@ use borrow.Author.Rules.{rules}
 use Rattle.write_numbers.proofs.step_at.Statement.{statement}
 use Rattle.write_numbers.proofs.step_at.Tie as tie
 
-mul_at : tie.Need-overflow-mul-at
-mul_at c = search rules
+overflow_mul-at : tie.Need-overflow_mul-at
+overflow_mul-at c = search rules
 
-mul_step_from : tie.Need-overflow-mul-step-from
-mul_step_from c = search rules
+offset_bounds-numbers-at : tie.Need-offset_bounds-numbers-at
+offset_bounds-numbers-at c = search rules
 
-shared_slice_read_step_from : tie.Need-shared-slice-read-step-from
-shared_slice_read_step_from c = search rules
+bounds-numbers-at : tie.Need-bounds-numbers-at
+bounds-numbers-at c = search rules
 
-add_step_from : tie.Need-overflow-add-step-from
-add_step_from c = search rules
+overflow_add-at : tie.Need-overflow_add-at
+overflow_add-at c = search rules
 
-mul_step_from_2 : tie.Need-overflow-mul-step-from-2
-mul_step_from_2 c = search rules
+offset_bounds-numbers-at-2 : tie.Need-offset_bounds-numbers-at-2
+offset_bounds-numbers-at-2 c = search rules
 
-shared_slice_read_step_from_2 : tie.Need-shared-slice-read-step-from-2
-shared_slice_read_step_from_2 c = search rules
+bounds-numbers-at-2 : tie.Need-bounds-numbers-at-2
+bounds-numbers-at-2 c = search rules
 
-step_from_requires : tie.Need-step-from-requires
-step_from_requires c κs = search rules
+step_from-requires : tie.Need-step_from-requires
+step_from-requires c κs = search rules
 
 returns : tie.Need-returns
 unfolding step_at
@@ -33,11 +33,11 @@ pub step_at_spec : {M : Type 1} → statement M
 step_at_spec =
     tie.close
     (tie.spec
-    mul_at
-    mul_step_from
-    shared_slice_read_step_from
-    add_step_from
-    mul_step_from_2
-    shared_slice_read_step_from_2
-    step_from_requires
+    overflow_mul-at
+    offset_bounds-numbers-at
+    bounds-numbers-at
+    overflow_add-at
+    offset_bounds-numbers-at-2
+    bounds-numbers-at-2
+    step_from-requires
     returns)

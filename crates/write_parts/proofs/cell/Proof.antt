@@ -4,21 +4,21 @@ use borrow.Author.Rules.{rules}
 use Rattle.write_parts.proofs.cell.Statement.{statement}
 use Rattle.write_parts.proofs.cell.Tie as tie
 
-cast_result : tie.Need-overflow-cast-result
-cast_result c = search rules
+overflow_cast-result : tie.Need-overflow_cast-result
+overflow_cast-result c = search rules
 
-mul_result : tie.Need-overflow-mul-result
-mul_result c = search rules
+overflow_mul-result : tie.Need-overflow_mul-result
+overflow_mul-result c = search rules
 
-cast_result_2 : tie.Need-overflow-cast-result-2
-cast_result_2 c = search rules
+overflow_cast-result-2 : tie.Need-overflow_cast-result-2
+overflow_cast-result-2 c = search rules
 
-add_result : tie.Need-overflow-add-result
-add_result c = search rules
+overflow_add-result : tie.Need-overflow_add-result
+overflow_add-result c = search rules
 
 returns : tie.Need-returns
 unfolding cell_of
 returns c = search rules
 
 pub cell_spec : {M : Type 1} → statement M
-cell_spec = tie.close (tie.spec cast_result mul_result cast_result_2 add_result returns)
+cell_spec = tie.close (tie.spec overflow_cast-result overflow_mul-result overflow_cast-result-2 overflow_add-result returns)

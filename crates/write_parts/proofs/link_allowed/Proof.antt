@@ -6,26 +6,26 @@ use borrow.Author.Rules.{rules}
 use Rattle.write_parts.proofs.link_allowed.Statement.{statement}
 use Rattle.write_parts.proofs.link_allowed.Tie as tie
 
+returns-then-m-lt1 : tie.Need-returns-then-m-lt1
+returns-then-m-lt1 c = link_empty c.if-m-lt1.true
+
+returns-then-m-gt31 : tie.Need-returns-then-m-gt31
+returns-then-m-lt1-then-m-gt31 c = link_unknown c.if-m-gt31.true
+
+has-requires : tie.Need-has-requires
+has-requires c κs = search rules
+
+has-requires-2 : tie.Need-has-requires-2
+has-requires-2 c κs = search rules
+
+unless-requires : tie.Need-unless-requires
+unless-requires c κs = search rules
+
 returns : tie.Need-returns
-returns c = link_empty c.if1.true
-
-returns_2 : tie.Need-returns-2
-returns_2 c = link_unknown c.if2.true
-
-has_requires : tie.Need-has-requires
-has_requires c κs = search rules
-
-has_requires_2 : tie.Need-has-requires-2
-has_requires_2 c κs = search rules
-
-unless_requires : tie.Need-unless-requires
-unless_requires c κs = search rules
-
-returns_3 : tie.Need-returns-3
-returns_3 c =
+returns-then-m-lt1 c =
     let known = c.before.before.before in
-    link_known known.before.if1.false known.if2.false (c.unless.ensures ∙ ap₂ (λ (x y : Bool). x || not y) c.before.before.has.ensures c.before.has2.ensures)
+    link_known known.before.if-m-lt1.false known.if-m-gt31.false (c.unless.ensures ∙ ap₂ (λ (x y : Bool). x || not y) c.before.before.has.ensures c.before.has-2.ensures)
 
 pub link_allowed_spec : {M : Type 1} → statement M
 link_allowed_spec =
-    tie.close (tie.spec returns returns_2 has_requires has_requires_2 unless_requires returns_3)
+    tie.close (tie.spec returns-then-m-lt1 returns-then-m-lt1-then-m-gt31 has-requires has-requires-2 unless-requires returns-then-m-lt1)

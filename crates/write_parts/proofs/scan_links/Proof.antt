@@ -10,85 +10,85 @@ use Rattle.write_parts.specs.Parts.{LinksScanned}
 use Rattle.write_parts.proofs.scan_links.Statement.{statement}
 use Rattle.write_parts.proofs.scan_links.Tie as tie
 
-abbrev invariant-loop : tie.invariant-loop
-invariant-loop r n cells₀ links seen₀ i₀ cells seen i = (i ≤ r) × LinksScanned n (take i links) cells₀ seen cells
+abbrev invariant-loop-i : tie.invariant-loop-i
+invariant-loop-i r n cells₀ links seen₀ i₀ cells seen i = (i ≤ r) × LinksScanned n (take i links) cells₀ seen cells
 
-abbrev decreases-loop : tie.decreases-loop
-decreases-loop r n cells₀ links seen₀ i₀ cells seen i = r - i
+abbrev decreases-loop-i : tie.decreases-loop-i
+decreases-loop-i r n cells₀ links seen₀ i₀ cells seen i = r - i
 
 -- The start, from the head of the loop. There are 512 records; those that have been seen are few; and the list of cells is as long as it was lent.
-abbrev start : tie.At-loop invariant-loop decreases-loop → tie.Start invariant-loop decreases-loop
+abbrev start : tie.At-loop-i invariant-loop-i decreases-loop-i → tie.Start invariant-loop-i decreases-loop-i
 start l = l.before.before
 
-long : (s : tie.Start invariant-loop decreases-loop) → length s.args.t1 ≡ 512
+long : (s : tie.Start invariant-loop-i decreases-loop-i) → length s.args.t1 ≡ 512
 long s = s.well_formed.0.1.0.1
 
-seen_few : (l : tie.At-loop invariant-loop decreases-loop) → l.loop.seen.size ≤ longest_record * most_records
-seen_few l = omega (arith, l.loop.invariant.1.shown.small, length-take l.loop.i (start l).args.t1, long (start l))
+seen_few : (l : tie.At-loop-i invariant-loop-i decreases-loop-i) → l.loop-i.seen.size ≤ longest_record * most_records
+seen_few l = omega (arith, l.loop-i.invariant.1.shown.small, length-take l.loop-i.i (start l).args.t1, long (start l))
 
-kept : (l : tie.At-loop invariant-loop decreases-loop) → length l.loop.cells ≡ length (start l).args.cells.now
-kept l = cells_kept l.loop.invariant.1 (omega (arith, l.loop.invariant.0, (start l).requires.room, length-take l.loop.i (start l).args.t1))
+kept : (l : tie.At-loop-i invariant-loop-i decreases-loop-i) → length l.loop-i.cells ≡ length (start l).args.cells.now
+kept l = cells_kept l.loop-i.invariant.1 (omega (arith, l.loop-i.invariant.0, (start l).requires.room, length-take l.loop-i.i (start l).args.t1))
 
-loop_holds : tie.Need-loop-init invariant-loop decreases-loop
-loop_holds c = (omega arith, links_none _ _)
+loop-i-init : tie.Need-loop-i-init invariant-loop-i decreases-loop-i
+loop-i-init c = (omega arith, links_none _ _)
 
-mul_l : tie.Need-overflow-mul-l invariant-loop decreases-loop
-mul_l c = search rules
+offset_bounds-links-i : tie.Need-offset_bounds-links-i invariant-loop-i decreases-loop-i
+offset_bounds-links-i c = search rules
 
-array_copy_out_l : tie.Need-array-copy-out-l invariant-loop decreases-loop
-array_copy_out_l c = search rules
+bounds-links-i : tie.Need-bounds-links-i invariant-loop-i decreases-loop-i
+bounds-links-i c = search rules
 
-see_link_requires : tie.Need-see-link-requires invariant-loop decreases-loop
-see_link_requires c κs = record { small = omega (arith, seen_few c.before.before) }
+see_link-more-requires : tie.Need-see_link-more-requires invariant-loop-i decreases-loop-i
+see_link-more-requires c κs = record { small = omega (arith, seen_few c.before.before) }
 
-cell_requires : tie.Need-cell-requires invariant-loop decreases-loop
-cell_requires c κs = search rules
+cell-requires : tie.Need-cell-requires invariant-loop-i decreases-loop-i
+cell-requires c κs = search rules
 
-mul_cells : tie.Need-overflow-mul-cells invariant-loop decreases-loop
-mul_cells c = omega (arith, (start c.before.before.before.before).pre.room)
+offset_bounds-cells-i : tie.Need-offset_bounds-cells-i invariant-loop-i decreases-loop-i
+offset_bounds-cells-i c = omega (arith, (start c.before.before.before.before).pre.room)
 
-slice_write_cells : tie.Need-slice-write-cells invariant-loop decreases-loop
-slice_write_cells c =
+bounds-cells-i : tie.Need-bounds-cells-i invariant-loop-i decreases-loop-i
+bounds-cells-i c =
     let l = c.before.before.before.before in
     omega (arith, kept l, (start l).requires.room)
 
-add_i : tie.Need-overflow-add-i invariant-loop decreases-loop
-add_i c = search rules
+overflow_add-i : tie.Need-overflow_add-i invariant-loop-i decreases-loop-i
+overflow_add-i c = search rules
 
-loop_less : tie.Need-loop-smaller invariant-loop decreases-loop
-loop_less c = search rules
+loop-i-smaller : tie.Need-loop-i-smaller invariant-loop-i decreases-loop-i
+loop-i-smaller c = search rules
 
-loop_again : tie.Need-loop-preserved invariant-loop decreases-loop
-loop_again c =
+loop-i-preserved : tie.Need-loop-i-preserved invariant-loop-i decreases-loop-i
+loop-i-preserved c =
     let l = c.before.before.before.before in
     let s = start l in
-    (omega arith, links_more s.args.t1 _ _ l.loop.i (omega (arith, long s, s.pre.few)) l.loop.invariant.1 c.before.see-link.ensures _ c.cell.ensures (omega (arith, s.pre.room)))
+    (omega arith, links_more s.args.t1 _ _ l.loop-i.i (omega (arith, long s, s.pre.few)) l.loop-i.invariant.1 c.before.see_link-more.ensures _ c.cell.ensures (omega (arith, s.pre.room)))
 
-same_length : tie.Need-same-length invariant-loop decreases-loop
-same_length c = kept c.before
+shape_of-cells : tie.Need-shape_of-cells invariant-loop-i decreases-loop-i
+shape_of-cells c = kept c.before
 
-returns : tie.Need-returns invariant-loop decreases-loop
+returns : tie.Need-returns invariant-loop-i decreases-loop-i
 returns c =
     let l = c.before in
     let s = start l in
-    let e : l.loop.i ≡ s.args.r = omega arith in
-    subst (λ (k : ℕ). LinksScanned s.args.n (take k s.args.t1) s.args.cells.now l.loop.seen l.loop.cells) e l.loop.invariant.1
+    let e : l.loop-i.i ≡ s.args.r = omega arith in
+    subst (λ (k : ℕ). LinksScanned s.args.n (take k s.args.t1) s.args.cells.now l.loop-i.seen l.loop-i.cells) e l.loop-i.invariant.1
 
 pub scan_links_spec : {M : Type 1} → statement M
 scan_links_spec =
     tie.close
     (tie.spec
-    invariant-loop
-    decreases-loop
-    loop_holds
-    mul_l
-    array_copy_out_l
-    see_link_requires
-    cell_requires
-    mul_cells
-    slice_write_cells
-    add_i
-    loop_less
-    loop_again
-    same_length
+    invariant-loop-i
+    decreases-loop-i
+    loop-i-init
+    offset_bounds-links-i
+    bounds-links-i
+    see_link-more-requires
+    cell-requires
+    offset_bounds-cells-i
+    bounds-cells-i
+    overflow_add-i
+    loop-i-smaller
+    loop-i-preserved
+    shape_of-cells
     returns)

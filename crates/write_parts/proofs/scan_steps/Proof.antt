@@ -11,59 +11,59 @@ use Rattle.write_parts.specs.Parts.{StepsScanned}
 use Rattle.write_parts.proofs.scan_steps.Statement.{statement}
 use Rattle.write_parts.proofs.scan_steps.Tie as tie
 
-abbrev invariant-loop : tie.invariant-loop
-invariant-loop n steps seen₀ i₀ seen i = (i ≤ n) × StepsScanned (take i steps) seen
+abbrev invariant-loop-i : tie.invariant-loop-i
+invariant-loop-i n steps seen₀ i₀ seen i = (i ≤ n) × StepsScanned (take i steps) seen
 
-abbrev decreases-loop : tie.decreases-loop
-decreases-loop n steps seen₀ i₀ seen i = n - i
+abbrev decreases-loop-i : tie.decreases-loop-i
+decreases-loop-i n steps seen₀ i₀ seen i = n - i
 
 -- There are 64 steps; and those that have been seen are few.
-long : (s : tie.Start invariant-loop decreases-loop) → length s.args.t1 ≡ 64
+long : (s : tie.Start invariant-loop-i decreases-loop-i) → length s.args.t1 ≡ 64
 long s = s.well_formed.0.1.0.1
 
-seen_few : (l : tie.At-loop invariant-loop decreases-loop) → l.loop.seen.size ≤ largest_step * most_steps
-seen_few l = omega (arith, l.loop.invariant.1.small, length-take l.loop.i l.before.args.t1, long l.before)
+seen_few : (l : tie.At-loop-i invariant-loop-i decreases-loop-i) → l.loop-i.seen.size ≤ largest_step * most_steps
+seen_few l = omega (arith, l.loop-i.invariant.1.small, length-take l.loop-i.i l.before.args.t1, long l.before)
 
-loop_holds : tie.Need-loop-init invariant-loop decreases-loop
-loop_holds c = (omega arith, steps_none)
+loop-i-init : tie.Need-loop-i-init invariant-loop-i decreases-loop-i
+loop-i-init c = (omega arith, steps_none)
 
-mul_o : tie.Need-overflow-mul-o invariant-loop decreases-loop
-mul_o c = search rules
+offset_bounds-steps-i : tie.Need-offset_bounds-steps-i invariant-loop-i decreases-loop-i
+offset_bounds-steps-i c = search rules
 
-array_copy_out_o : tie.Need-array-copy-out-o invariant-loop decreases-loop
-array_copy_out_o c = search rules
+bounds-steps-i : tie.Need-bounds-steps-i invariant-loop-i decreases-loop-i
+bounds-steps-i c = search rules
 
-see_step_requires : tie.Need-see-step-requires invariant-loop decreases-loop
-see_step_requires c κs = record { small = omega (arith, seen_few c.before.before) }
+see_step-more-requires : tie.Need-see_step-more-requires invariant-loop-i decreases-loop-i
+see_step-more-requires c κs = record { small = omega (arith, seen_few c.before.before) }
 
-add_i : tie.Need-overflow-add-i invariant-loop decreases-loop
-add_i c = search rules
+overflow_add-i : tie.Need-overflow_add-i invariant-loop-i decreases-loop-i
+overflow_add-i c = search rules
 
-loop_less : tie.Need-loop-smaller invariant-loop decreases-loop
-loop_less c = search rules
+loop-i-smaller : tie.Need-loop-i-smaller invariant-loop-i decreases-loop-i
+loop-i-smaller c = search rules
 
-loop_again : tie.Need-loop-preserved invariant-loop decreases-loop
-loop_again c =
+loop-i-preserved : tie.Need-loop-i-preserved invariant-loop-i decreases-loop-i
+loop-i-preserved c =
     let l = c.before.before.before in
-    (omega arith, steps_more _ _ l.loop.i (omega (arith, long l.before)) l.loop.invariant.1 c.see-step.ensures)
+    (omega arith, steps_more _ _ l.loop-i.i (omega (arith, long l.before)) l.loop-i.invariant.1 c.see_step-more.ensures)
 
-returns : tie.Need-returns invariant-loop decreases-loop
+returns : tie.Need-returns invariant-loop-i decreases-loop-i
 returns c =
     let l = c.before in
-    let e : l.loop.i ≡ l.before.args.n = omega arith in
-    subst (λ (k : ℕ). StepsScanned (take k l.before.args.t1) l.loop.seen) e l.loop.invariant.1
+    let e : l.loop-i.i ≡ l.before.args.n = omega arith in
+    subst (λ (k : ℕ). StepsScanned (take k l.before.args.t1) l.loop-i.seen) e l.loop-i.invariant.1
 
 pub scan_steps_spec : {M : Type 1} → statement M
 scan_steps_spec =
     tie.close
     (tie.spec
-    invariant-loop
-    decreases-loop
-    loop_holds
-    mul_o
-    array_copy_out_o
-    see_step_requires
-    add_i
-    loop_less
-    loop_again
+    invariant-loop-i
+    decreases-loop-i
+    loop-i-init
+    offset_bounds-steps-i
+    bounds-steps-i
+    see_step-more-requires
+    overflow_add-i
+    loop-i-smaller
+    loop-i-preserved
     returns)

@@ -7,32 +7,32 @@ use borrow.Author.Rules.{rules}
 use Rattle.write_parts.proofs.see_link.Statement.{statement}
 use Rattle.write_parts.proofs.see_link.Tie as tie
 
-link_map_requires : tie.Need-link-map-requires
-link_map_requires c κs = search rules
+link_map-m-requires : tie.Need-link_map-m-requires
+link_map-m-requires c κs = search rules
 
-link_allowed_requires : tie.Need-link-allowed-requires
-link_allowed_requires c κs = search rules
+link_allowed-requires : tie.Need-link_allowed-requires
+link_allowed-requires c κs = search rules
 
-unless_requires : tie.Need-unless-requires
-unless_requires c κs = search rules
+unless-requires : tie.Need-unless-requires
+unless-requires c κs = search rules
 
-is_sequenced_requires : tie.Need-is-sequenced-requires
-is_sequenced_requires c κs = search rules
+is_sequenced-requires : tie.Need-is_sequenced-requires
+is_sequenced-requires c κs = search rules
 
-unless_requires_2 : tie.Need-unless-requires-2
-unless_requires_2 c κs = search rules
+unless-requires-2 : tie.Need-unless-requires-2
+unless-requires-2 c κs = search rules
 
-endpoints_allowed_requires : tie.Need-endpoints-allowed-requires
-endpoints_allowed_requires c κs = search rules
+endpoints_allowed-requires : tie.Need-endpoints_allowed-requires
+endpoints_allowed-requires c κs = search rules
 
-unless_requires_3 : tie.Need-unless-requires-3
-unless_requires_3 c κs = search rules
+unless-requires-3 : tie.Need-unless-requires-3
+unless-requires-3 c κs = search rules
 
-link_size_requires : tie.Need-link-size-requires
-link_size_requires c κs = search rules
+link_size-requires : tie.Need-link_size-requires
+link_size-requires c κs = search rules
 
-add_t12 : tie.Need-overflow-add-t12
-add_t12 c = search rules
+overflow_add-result : tie.Need-overflow_add-result
+overflow_add-result c = search rules
 
 returns : tie.Need-returns
 returns c =
@@ -41,27 +41,27 @@ returns c =
     let limits = ends.before.before in
     let maps = limits.before.before in
     let read = maps.before.before in
-    let mapped = read.link_map.ensures in
+    let mapped = read.link_map-m.ensures in
     let seen = read.before.args.seen in
     record {
-      maps = maps.unless.ensures ∙ ap (λ (x : Bool). seen.unmapped || not x) (maps.before.link-allowed.ensures ∙ ap link_map mapped);
-      limits = limits.unless2.ensures ∙ ap (λ (x : Bool). seen.unsequenced || not x) (limits.before.is-sequenced.ensures ∙ ap sequenced mapped);
-      ends = ends.unless3.ensures ∙ ap (λ (x : Bool). seen.misplaced || not x) ends.before.endpoints-allowed.ensures;
-      size = omega (arith, sized.link-size.ensures.same);
-      small = omega (arith, sized.link-size.ensures.small);
+      maps = maps.unless.ensures ∙ ap (λ (x : Bool). seen.unmapped || not x) (maps.before.link_allowed.ensures ∙ ap link_map mapped);
+      limits = limits.unless-2.ensures ∙ ap (λ (x : Bool). seen.unsequenced || not x) (limits.before.is_sequenced.ensures ∙ ap sequenced mapped);
+      ends = ends.unless-3.ensures ∙ ap (λ (x : Bool). seen.misplaced || not x) ends.before.endpoints_allowed.ensures;
+      size = omega (arith, sized.link_size.ensures.same);
+      small = omega (arith, sized.link_size.ensures.small);
     }
 
 pub see_link_spec : {M : Type 1} → statement M
 see_link_spec =
     tie.close
     (tie.spec
-    link_map_requires
-    link_allowed_requires
-    unless_requires
-    is_sequenced_requires
-    unless_requires_2
-    endpoints_allowed_requires
-    unless_requires_3
-    link_size_requires
-    add_t12
+    link_map-m-requires
+    link_allowed-requires
+    unless-requires
+    is_sequenced-requires
+    unless-requires-2
+    endpoints_allowed-requires
+    unless-requires-3
+    link_size-requires
+    overflow_add-result
     returns)

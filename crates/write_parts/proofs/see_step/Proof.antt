@@ -7,20 +7,20 @@ use borrow.Author.Rules.{rules}
 use Rattle.write_parts.proofs.see_step.Statement.{statement}
 use Rattle.write_parts.proofs.see_step.Tie as tie
 
-step_map_requires : tie.Need-step-map-requires
-step_map_requires c κs = search rules
+step_map-requires : tie.Need-step_map-requires
+step_map-requires c κs = search rules
 
-step_allowed_requires : tie.Need-step-allowed-requires
-step_allowed_requires c κs = search rules
+step_allowed-allowed-requires : tie.Need-step_allowed-allowed-requires
+step_allowed-allowed-requires c κs = search rules
 
-both_requires : tie.Need-both-requires
-both_requires c κs = search rules
+both-requires : tie.Need-both-requires
+both-requires c κs = search rules
 
-step_size_requires : tie.Need-step-size-requires
-step_size_requires c κs = search rules
+step_size-requires : tie.Need-step_size-requires
+step_size-requires c κs = search rules
 
-add_t8 : tie.Need-overflow-add-t8
-add_t8 c = search rules
+overflow_add-result : tie.Need-overflow_add-result
+overflow_add-result c = search rules
 
 returns : tie.Need-returns
 returns c =
@@ -29,18 +29,18 @@ returns c =
     let allowed = joined.before in
     let s = allowed.before.before in
     record {
-      mapped = joined.both.ensures ∙ ap (λ (x : Bool). s.args.seen.mapped && x) (allowed.step-allowed.ensures ∙ ap (operation_map s.args.first) allowed.before.step_map.ensures);
-      size = omega (arith, sized.step-size.ensures.same);
-      small = omega (arith, sized.step-size.ensures.small);
+      mapped = joined.both.ensures ∙ ap (λ (x : Bool). s.args.seen.mapped && x) (allowed.step_allowed-allowed.ensures ∙ ap (operation_map s.args.first) allowed.before.step_map.ensures);
+      size = omega (arith, sized.step_size.ensures.same);
+      small = omega (arith, sized.step_size.ensures.small);
     }
 
 pub see_step_spec : {M : Type 1} → statement M
 see_step_spec =
     tie.close
     (tie.spec
-    step_map_requires
-    step_allowed_requires
-    both_requires
-    step_size_requires
-    add_t8
+    step_map-requires
+    step_allowed-allowed-requires
+    both-requires
+    step_size-requires
+    overflow_add-result
     returns)

@@ -3,14 +3,14 @@ use Rattle.write_parts.proofs.Seeing.{step_first, step_low, step_high}
 use Rattle.write_parts.proofs.step_allowed.Statement.{statement}
 use Rattle.write_parts.proofs.step_allowed.Tie as tie
 
+returns-then-first : tie.Need-returns-then-first
+returns-then-first c = step_first _ c.if-first.true
+
+returns-then-m-le2 : tie.Need-returns-then-m-le2
+returns-then-first-then-m-le2 c = step_low c.before.if-first.false c.if-m-le2.true
+
 returns : tie.Need-returns
-returns c = step_first _ c.if1.true
-
-returns_2 : tie.Need-returns-2
-returns_2 c = step_low c.before.if1.false c.if2.true
-
-returns_3 : tie.Need-returns-3
-returns_3 c = step_high c.before.if1.false c.if2.false
+returns-then-first c = step_high c.before.if-first.false c.if-m-le2.false
 
 pub step_allowed_spec : {M : Type 1} → statement M
-step_allowed_spec = tie.close (tie.spec returns returns_2 returns_3)
+step_allowed_spec = tie.close (tie.spec returns-then-first returns-then-first-then-m-le2 returns-then-first)

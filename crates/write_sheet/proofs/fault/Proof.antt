@@ -4,20 +4,20 @@ use borrow.Author.Rules.{rules}
 use Rattle.write_sheet.proofs.fault.Statement.{statement}
 use Rattle.write_sheet.proofs.fault.Tie as tie
 
-unmapped_requires : tie.Need-unmapped-requires
-unmapped_requires c κs = search rules
+unmapped-wrong-requires : tie.Need-unmapped-wrong-requires
+unmapped-wrong-requires c κs = search rules
+
+returns-then-wrong : tie.Need-returns-then-wrong
+returns-then-wrong c = fault_maps _ _ c.before.unmapped-wrong.ensures c.if-wrong.true
+
+returns-then-seen : tie.Need-returns-then-seen
+returns-then-wrong-then-seen c = fault_limits _ _ c.before.before.unmapped-wrong.ensures c.before.if-wrong.false c.if-seen.true
+
+returns-then-seen-2 : tie.Need-returns-then-seen-2
+returns-then-wrong-then-seen-2 c = fault_ends _ _ c.before.before.before.unmapped-wrong.ensures c.before.before.if-wrong.false c.before.if-seen.false c.if-seen-2.true
 
 returns : tie.Need-returns
-returns c = fault_maps _ _ c.before.unmapped.ensures c.if1.true
-
-returns_2 : tie.Need-returns-2
-returns_2 c = fault_limits _ _ c.before.before.unmapped.ensures c.before.if1.false c.if2.true
-
-returns_3 : tie.Need-returns-3
-returns_3 c = fault_ends _ _ c.before.before.before.unmapped.ensures c.before.before.if1.false c.before.if2.false c.if3.true
-
-returns_4 : tie.Need-returns-4
-returns_4 c = fault_none _ _ c.before.before.before.unmapped.ensures c.before.before.if1.false c.before.if2.false c.if3.false
+returns-then-wrong c = fault_none _ _ c.before.before.before.unmapped-wrong.ensures c.before.before.if-wrong.false c.before.if-seen.false c.if-seen-2.false
 
 pub fault_spec : {M : Type 1} → statement M
-fault_spec = tie.close (tie.spec unmapped_requires returns returns_2 returns_3 returns_4)
+fault_spec = tie.close (tie.spec unmapped-wrong-requires returns-then-wrong returns-then-wrong-then-seen returns-then-wrong-then-seen-2 returns-then-wrong)

@@ -6,11 +6,11 @@ use borrow.Author.Rules.{rules}
 use Rattle.write_sheet.proofs.write.Statement.{statement}
 use Rattle.write_sheet.proofs.write.Tie as tie
 
-write_given_requires : tie.Need-write-given-requires
-write_given_requires c κs = search rules
+write_given-requires : tie.Need-write_given-requires
+write_given-requires c κs = search rules
 
-same_length : tie.Need-same-length
-same_length c = search rules
+shape_of-out : tie.Need-shape_of-out
+shape_of-out c = search rules
 
 returns : tie.Need-returns
 returns c =
@@ -19,9 +19,9 @@ returns c =
     let all_steps = take_all 64 s.args.steps (omega (arith, s.well_formed.1.0.1.0.1)) in
     let all_links = take_all 512 s.args.links (omega (arith, s.well_formed.1.1.1.0.1.0.1)) in
     record {
-      returned = rw (all_steps, all_links) at w.write-given.ensures;
+      returned = rw (all_steps, all_links) at w.write_given.ensures;
       numbers = parts_fit s.args.n s.args.r 64 512 s.args.steps s.args.links _ _ s.well_formed.1.0 s.well_formed.1.1.1.0;
     }
 
 pub write_spec : {M : Type 1} → statement M
-write_spec = tie.close (tie.spec write_given_requires same_length returns)
+write_spec = tie.close (tie.spec write_given-requires shape_of-out returns)

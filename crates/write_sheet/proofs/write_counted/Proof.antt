@@ -10,30 +10,30 @@ use Rattle.write_sheet.proofs.write_counted.Statement.{statement}
 use Rattle.write_sheet.proofs.write_counted.Tie as tie
 
 -- Places on the way. From where the faults have been looked for: where the link records and the steps have been seen, and the start.
-abbrev links_scanned : tie.After-fault → tie.After-scan-links
+abbrev links_scanned : tie.After-fault-status → tie.After-scan_links-seen
 links_scanned f = f.before.before
 
-abbrev steps_scanned : tie.After-fault → tie.After-scan-steps
+abbrev steps_scanned : tie.After-fault-status → tie.After-scan_steps-found
 steps_scanned f = (links_scanned f).before.before
 
-abbrev start : tie.After-fault → tie.Start
+abbrev start : tie.After-fault-status → tie.Start
 start f = (steps_scanned f).before.before
 
 -- That, from where there was none; that again, from where the cells have been ordered; and that, from where none came twice.
-abbrev looked : tie.After-enum-told → tie.After-fault
+abbrev looked : tie.In_default → tie.After-fault-status
 looked p = p.before.before
 
-abbrev passed : tie.After-order-cells → tie.After-enum-told
+abbrev passed : tie.After-order_cells → tie.In_default
 passed o = o.before.before.before
 
-abbrev ordered : tie.Else1 → tie.After-order-cells
+abbrev ordered : tie.Else-order_cells → tie.After-order_cells
 ordered m = m.before.before
 
 -- No fault before 6.
-faultless : (p : tie.After-enum-told) →
+faultless : (p : tie.In_default) →
     let f = looked p in
     let s = start f in
-    Faultless s.args.n s.args.a s.args.r s.args.b s.args.steps s.args.links (links_scanned f).scan-links.last.1.1.1.0 (steps_scanned f).scan_steps.result (links_scanned f).scan-links.result
+    Faultless s.args.n s.args.a s.args.r s.args.b s.args.steps s.args.links (links_scanned f).scan_links-seen.last.1.1.1.0 (steps_scanned f).scan_steps-found.result (links_scanned f).scan_links-seen.result
 faultless p =
     let f = looked p in
     let s = start f in
@@ -42,111 +42,111 @@ faultless p =
       all_steps = s.good.1.0.1.0.1;
       all_links = s.good.1.1.1.1.0.1.0.1;
       blank = replicate 512 0;
-      steps_seen = (steps_scanned f).scan_steps.ensures;
-      links_seen = (links_scanned f).scan-links.ensures;
-      none = subst (Faults (steps_scanned f).scan_steps.result (links_scanned f).scan-links.result) p.enum_told.given.1 f.fault.ensures;
+      steps_seen = (steps_scanned f).scan_steps-found.ensures;
+      links_seen = (links_scanned f).scan_links-seen.ensures;
+      none = subst (Faults (steps_scanned f).scan_steps-found.result (links_scanned f).scan_links-seen.result) p.enum_told-1.given.1 f.fault-status.ensures;
     }
 
-scan_steps_requires : tie.Need-scan-steps-requires
-scan_steps_requires c κs = search rules
+scan_steps-found-requires : tie.Need-scan_steps-found-requires
+scan_steps-found-requires c κs = search rules
 
-slice_aggregate_scan_links : tie.Need-slice-aggregate-scan-links
-slice_aggregate_scan_links c = search rules
+slice_bounds-scan_links-end : tie.Need-slice_bounds-scan_links-end
+slice_bounds-scan_links-end c = search rules
 
-scan_links_requires : tie.Need-scan-links-requires
-scan_links_requires c κs = search rules
+scan_links-seen-requires : tie.Need-scan_links-seen-requires
+scan_links-seen-requires c κs = search rules
 
-fault_requires : tie.Need-fault-requires
-fault_requires c κs = search rules
+fault-status-requires : tie.Need-fault-status-requires
+fault-status-requires c κs = search rules
 
-enum_known_status : tie.Need-enum-known-status
-enum_known_status c = search rules
+enum_known-status : tie.Need-enum_known-status
+enum_known-status c = search rules
 
-returns : tie.Need-returns
-returns c =
+returns-in-Refused : tie.Need-returns-in-Refused
+returns-in-Refused c =
     let f = c.before.before.before in
-    leaves_refused (parts_refused _ _ _ (steps_scanned f).scan_steps.ensures (links_scanned f).scan-links.ensures.shown (subst (Faults (steps_scanned f).scan_steps.result (links_scanned f).scan-links.result) c.before.status.given.1 f.fault.ensures))
+    leaves_refused (parts_refused _ _ _ (steps_scanned f).scan_steps-found.ensures (links_scanned f).scan_links-seen.ensures.shown (subst (Faults (steps_scanned f).scan_steps-found.result (links_scanned f).scan_links-seen.result) c.before.status-1.given.1 f.fault-status.ensures))
 
-enum_told : tie.Need-enum-told
-enum_told c = search rules
+enum_told-1 : tie.Need-enum_told-1
+enum_told-1 c = search rules
 
-array_share_prefix_cells : tie.Need-array-share-prefix-cells
-array_share_prefix_cells c = search rules
+slice_bounds-cells-end : tie.Need-slice_bounds-cells-end
+slice_bounds-cells-end c = search rules
 
-slice_aggregate_order_cells : tie.Need-slice-aggregate-order-cells
-slice_aggregate_order_cells c = cells_counted (faultless c.before)
+slice_bounds-order_cells-end : tie.Need-slice_bounds-order_cells-end
+slice_bounds-order_cells-end c = cells_counted (faultless c.before)
 
-slice_aggregate_order_cells_2 : tie.Need-slice-aggregate-order-cells-2
-slice_aggregate_order_cells_2 c = search rules
+slice_bounds-order_cells-end-2 : tie.Need-slice_bounds-order_cells-end-2
+slice_bounds-order_cells-end-2 c = search rules
 
-order_cells_requires : tie.Need-order-cells-requires
-order_cells_requires c κs = ready (faultless c.before.before) refl
+order_cells-requires : tie.Need-order_cells-requires
+order_cells-requires c κs = ready (faultless c.before.before) refl
 
-returns_2 : tie.Need-returns-2
-returns_2 c =
+returns-then-order_cells : tie.Need-returns-then-order_cells
+returns-in-Refused-then-order_cells c =
     let o = c.before.before in
-    leaves_refused (verdict_twice (faultless (passed o)) o.order-cells.ensures _ c.if1.true)
+    leaves_refused (verdict_twice (faultless (passed o)) o.order_cells.ensures _ c.if-order_cells.true)
 
-returns_3 : tie.Need-returns-3
-returns_3 c =
+returns-then-a-n : tie.Need-returns-then-a-n
+returns-in-Refused-then-a-n c =
     let m = c.before in
     let o = ordered m in
-    leaves_refused (verdict_fewer_steps (faultless (passed o)) o.order-cells.ensures m.if1.false _ c.if2.true)
+    leaves_refused (verdict_fewer_steps (faultless (passed o)) o.order_cells.ensures m.if-order_cells.false _ c.if-a-n.true)
 
-returns_4 : tie.Need-returns-4
-returns_4 c =
+returns-then-b-r : tie.Need-returns-then-b-r
+returns-in-Refused-then-b-r c =
     let m = c.before.before in
     let o = ordered m in
-    leaves_refused (verdict_fewer_links (faultless (passed o)) o.order-cells.ensures m.if1.false _ c.if3.true)
+    leaves_refused (verdict_fewer_links (faultless (passed o)) o.order_cells.ensures m.if-order_cells.false _ c.if-b-r.true)
 
-slice_aggregate_write_whole : tie.Need-slice-aggregate-write-whole
-slice_aggregate_write_whole c = search rules
+slice_bounds-write_whole-end : tie.Need-slice_bounds-write_whole-end
+slice_bounds-write_whole-end c = search rules
 
-add_write_whole : tie.Need-overflow-add-write-whole
-add_write_whole c = omega (arith, sizes_small (faultless (passed (ordered c.before.before.before.before))))
+overflow_add-found : tie.Need-overflow_add-found
+overflow_add-found c = omega (arith, sizes_small (faultless (passed (ordered c.before.before.before.before))))
 
-add_write_whole_2 : tie.Need-overflow-add-write-whole-2
-add_write_whole_2 c = omega (arith, sizes_small (faultless (passed (ordered c.before.before.before.before.before))))
+overflow_add-found-2 : tie.Need-overflow_add-found-2
+overflow_add-found-2 c = omega (arith, sizes_small (faultless (passed (ordered c.before.before.before.before.before))))
 
-write_whole_requires : tie.Need-write-whole-requires
-write_whole_requires c κs =
+write_whole-requires : tie.Need-write_whole-requires
+write_whole-requires c κs =
     let w = c.before.before.before.before in
     let m = w.before.before in
     let o = ordered m in
-    whole_ready (faultless (passed o)) o.order-cells.ensures m.if1.false w.before.if2.false w.if3.false refl
+    whole_ready (faultless (passed o)) o.order_cells.ensures m.if-order_cells.false w.before.if-a-n.false w.if-b-r.false refl
 
-same_length : tie.Need-same-length
-same_length c = search rules
+shape_of-out : tie.Need-shape_of-out
+shape_of-out c = search rules
 
-returns_5 : tie.Need-returns-5
-returns_5 c =
+returns : tie.Need-returns
+returns-in-Refused c =
     let l = c.before.before in
     let w = l.before.before.before.before.before in
     let m = w.before.before in
     let o = ordered m in
-    whole_left (faultless (passed o)) o.order-cells.ensures m.if1.false w.before.if2.false w.if3.false l.write-whole.ensures
+    whole_left (faultless (passed o)) o.order_cells.ensures m.if-order_cells.false w.before.if-a-n.false w.if-b-r.false l.write_whole.ensures
 
 pub write_counted_spec : {M : Type 1} → statement M
 write_counted_spec =
     tie.close
     (tie.spec
-    scan_steps_requires
-    slice_aggregate_scan_links
-    scan_links_requires
-    fault_requires
-    enum_known_status
-    returns
-    enum_told
-    array_share_prefix_cells
-    slice_aggregate_order_cells
-    slice_aggregate_order_cells_2
-    order_cells_requires
-    returns_2
-    returns_3
-    returns_4
-    slice_aggregate_write_whole
-    add_write_whole
-    add_write_whole_2
-    write_whole_requires
-    same_length
-    returns_5)
+    scan_steps-found-requires
+    slice_bounds-scan_links-end
+    scan_links-seen-requires
+    fault-status-requires
+    enum_known-status
+    returns-in-Refused
+    enum_told-1
+    slice_bounds-cells-end
+    slice_bounds-order_cells-end
+    slice_bounds-order_cells-end-2
+    order_cells-requires
+    returns-in-Refused-then-order_cells
+    returns-in-Refused-then-a-n
+    returns-in-Refused-then-b-r
+    slice_bounds-write_whole-end
+    overflow_add-found
+    overflow_add-found-2
+    write_whole-requires
+    shape_of-out
+    returns-in-Refused)

@@ -5,23 +5,23 @@ use borrow.Author.Rules.{rules}
 use Rattle.write_sheet.proofs.write_whole.Statement.{statement}
 use Rattle.write_sheet.proofs.write_whole.Tie as tie
 
-returns : tie.Need-returns
-returns c =
+returns-then-out-size : tie.Need-returns-then-out-size
+returns-then-out-size c =
     let s = c.before.before.before in
-    leaves_refused (room_short _ _ (omega (arith, c.if1.true, s.requires.long)))
+    leaves_refused (room_short _ _ (omega (arith, c.if-out-size.true, s.requires.long)))
 
-put_sheet_requires : tie.Need-put-sheet-requires
-put_sheet_requires c κs = search rules
+put_sheet-requires : tie.Need-put_sheet-requires
+put_sheet-requires c κs = search rules
 
-same_length : tie.Need-same-length
-same_length c = search rules
+shape_of-out : tie.Need-shape_of-out
+shape_of-out c = search rules
 
-returns_2 : tie.Need-returns-2
-returns_2 c =
+returns : tie.Need-returns
+returns-then-out-size c =
     let p = c.before.before in
     let fits = p.before.before in
     let s = fits.before.before.before in
-    leaves_given s.requires.long (omega (arith, fits.if1.false, s.requires.long)) p.put-sheet.ensures
+    leaves_given s.requires.long (omega (arith, fits.if-out-size.false, s.requires.long)) p.put_sheet.ensures
 
 pub write_whole_spec : {M : Type 1} → statement M
-write_whole_spec = tie.close (tie.spec returns put_sheet_requires same_length returns_2)
+write_whole_spec = tie.close (tie.spec returns-then-out-size put_sheet-requires shape_of-out returns-then-out-size)
