@@ -110,12 +110,30 @@ def turned(text, it, where):
         return m.group()
 
     text = re.sub(r"\.(%s)\.(new|auto|same)((?:\.1)*\.0)(?!\d)" % WORD, argument, text)
-    text = re.sub(r"(?<=[\w')\]₀-₉])\.([a-z_][\w'-]*)", field, text)
+    # What a match knows of its value stands with the arm now.
+    of_arms = {}
+    for arm in it["arms"]:
+        for name, step, path in arm[2] if arm else []:
+            if path:
+                of_arms.setdefault((plain(step), ".".join(path)), set()).add(f"{arm[0]}.{name}")
+
+    def in_arm(m):
+        now = of_arms.get((plain(m.group(1)), m.group(2)[1:]))
+        if now and len(now) == 1:
+            return "." + min(now)
+        if now:
+            print(f"left: {where}: {m.group()} is one of {sorted(now)}")
+        return m.group()
+
+    text = re.sub(r"\.([a-z_][\w'-]*)(\.given(?:\.[01])*)(?![\w.])", in_arm, text)
+    text = re.sub(r"(?<=[\w')\]₀-₉])(?<!\bargs)\.([a-z_][\w'-]*)", field, text)
+    # A step is reached without what came before it: its name is its own in the function.
+    known = set(steps.values()) | {arm[0] for arm in it["arms"] if arm} | {"args", "requires", "ranges", "well_formed"}
+    text = re.sub(r"(?:\.before)+\.([a-z_][\w'-]*)(?![\w'-])", lambda m: "." + m.group(1) if m.group(1) in known else m.group(), text)
     # The answers, as heads and in the last line.
-    for old, new in sorted(local.items(), key=lambda x: -len(x[0])):
-        if old != new:
-            text = re.sub(r"(?m)(?<![\w'.-])%s(?![\w'-])(?! :)" % re.escape(old), "\0" + new.replace("-", "\1") + "\2", text)
-    text = text.replace("\0", "").replace("\1", "-").replace("\2", "")
+    heads = sorted((old for old, new in local.items() if old != new), key=len, reverse=True)
+    if heads:
+        text = re.sub(r"(?<![\w'.-])(%s)(?![\w'-])(?! : *(?:\{[^}]*\} → )?tie\.Need)" % "|".join(map(re.escape, heads)), lambda m: local[m.group(1)], text)
     return text
 
 

@@ -18,7 +18,7 @@ use Rattle.theory.proofs.Usables.{carries_list, dec_late_into, usable_list_shape
 use Rattle.theory.proofs.Walks.{join, walk_edge, walk_mono, walk_to}
 
 -- Sweeps never lower a cell; and once every edge has handed on, any number of sweeps changes nothing.
-pub sweeps_up : {E : Graph} {k : ℕ} {r s : ℕ → ℕ} → Sweeps E r k s → (v : ℕ) → r v ≤ s v
+pub sweeps_up : {E : Graph} {r : ℕ → ℕ} {k : ℕ} {s : ℕ → ℕ} → Sweeps E r k s → (v : ℕ) → r v ≤ s v
 sweeps_up (none h up) v = up v
 sweeps_up (more m w h) v = omega (arith, sweeps_up m v, w.up v)
 

@@ -20,8 +20,8 @@ shape_of-numbers-in-Count c = search rules
 returns-in-Count : tie.Need-returns-in-Count
 returns-in-Count c =
     let called = c.before.before.before.before.before in
-    let lent = called.before.before.before.before.args.count.now in
-    let answer = sym (ap tally_of c.before.tally-1.given.1) ∙ called.clashes-tally.ensures.tally-1 in
+    let lent = called.args.count.now in
+    let answer = sym (ap tally_of c.in-Count.is) ∙ called.clashes-tally.ensures.tally-1 in
     record { verdict = ap tally_code answer; numbers = called.clashes-tally.ensures.numbers-1; count = ap (λ (o : Outcome ℕ). count_left o lent) answer }
 
 enum_told-1 : tie.Need-enum_told-1
@@ -34,10 +34,10 @@ shape_of-numbers : tie.Need-shape_of-numbers
 shape_of-numbers c = search rules
 
 returns : tie.Need-returns
-returns-in-Count c =
+returns c =
     let called = c.before.before.before.before.before in
-    let lent = called.before.before.before.before.args.count.now in
-    let answer = sym (ap tally_of c.before.enum_told-1.given.1) ∙ called.clashes-tally.ensures.tally-1 in
+    let lent = called.args.count.now in
+    let answer = sym (ap tally_of c.in_default.is) ∙ called.clashes-tally.ensures.tally-1 in
     record { verdict = c.tally_code.ensures ∙ ap tally_code called.clashes-tally.ensures.tally-1; numbers = called.clashes-tally.ensures.numbers-1; count = ap (λ (o : Outcome ℕ). count_left o lent) answer }
 
 pub standplan_clashes_spec : {M : Type 1} → statement M
@@ -51,4 +51,4 @@ standplan_clashes_spec =
     enum_told-1
     tally_code-requires
     shape_of-numbers
-    returns-in-Count)
+    returns)

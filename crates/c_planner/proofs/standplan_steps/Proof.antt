@@ -14,7 +14,7 @@ shape_of-leasts : tie.Need-shape_of-leasts
 shape_of-leasts c = search rules
 
 returns : tie.Need-returns
-returns c = begins_into c.before.before.before.steps.ensures c.status_code.ensures
+returns c = begins_into c.steps.ensures c.status_code.ensures
 
 pub standplan_steps_spec : {M : Type 1} → statement M
 standplan_steps_spec =

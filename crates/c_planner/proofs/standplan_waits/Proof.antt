@@ -18,12 +18,12 @@ verdict_code-code-requires c κs = search rules
 returns-then-code-ge-REFUSALS_PAST : tie.Need-returns-then-code-ge-REFUSALS_PAST
 returns-then-code-ge-REFUSALS_PAST c =
     let p = c.before in
-    lists_as_lent (start p).args.maps.now (start p).args.count.now p.before.waits-found.ensures p.verdict_code-code.ensures (omega arith)
+    lists_as_lent (start p).args.maps.now (start p).args.count.now p.waits-found.ensures p.verdict_code-code.ensures (omega arith)
 
 returns : tie.Need-returns
-returns-then-code-ge-REFUSALS_PAST c =
+returns c =
     let p = c.before.before in
-    lists_stored (start p).args.maps.now (start p).args.count.now p.before.waits-found.ensures p.verdict_code-code.ensures (omega arith)
+    lists_stored (start p).args.maps.now (start p).args.count.now p.waits-found.ensures p.verdict_code-code.ensures (omega arith)
 
 pub standplan_waits_spec : {M : Type 1} → statement M
-standplan_waits_spec = tie.close (tie.spec waits-found-requires verdict_code-code-requires returns-then-code-ge-REFUSALS_PAST returns-then-code-ge-REFUSALS_PAST)
+standplan_waits_spec = tie.close (tie.spec waits-found-requires verdict_code-code-requires returns-then-code-ge-REFUSALS_PAST returns)

@@ -12,7 +12,7 @@ abbrev priced : tie.After-verdict_code-code → tie.After-price-priced
 priced s = s.before.before.before.before.before
 
 abbrev lent : tie.After-verdict_code-code → List ℕ
-lent s = (priced s).before.before.before.before.before.before.args.totals-1.now
+lent s = (priced s).args.totals.now
 
 price-priced-requires : tie.Need-price-priced-requires
 price-priced-requires c κs = search rules
@@ -36,7 +36,7 @@ shape_of-comparisons : tie.Need-shape_of-comparisons
 shape_of-comparisons c = search rules
 
 returns : tie.Need-returns
-returns-then-code-ge-REFUSALS_PAST c = let p = c.before.before in prices_stored (lent p) (priced p).price-priced.ensures p.verdict_code-code.ensures (omega arith)
+returns c = let p = c.before.before in prices_stored (lent p) (priced p).price-priced.ensures p.verdict_code-code.ensures (omega arith)
 
 pub standplan_price_spec : {M : Type 1} → statement M
 standplan_price_spec =
@@ -49,4 +49,4 @@ standplan_price_spec =
     returns-then-code-ge-REFUSALS_PAST
     shape_of-registers
     shape_of-comparisons
-    returns-then-code-ge-REFUSALS_PAST)
+    returns)

@@ -24,15 +24,15 @@ finish-requires c κs = search rules
 
 returns-in-Begin : tie.Need-returns-in-Begin
 unfolding called
-returns-in-Begin c = rw c.before.before.call-1.given.1 c.begin.ensures
+returns-in-Begin c = rw c.in-Begin.is c.begin.ensures
 
 returns-in-Tick : tie.Need-returns-in-Tick
 unfolding called
-returns-in-Begin-in-Tick c = rw c.before.enum_told-1.given.1 c.tick.ensures
+returns-in-Tick c = rw c.in-Tick.is c.tick.ensures
 
 returns-in-Finish : tie.Need-returns-in-Finish
 unfolding called
-returns-in-Begin-in-Finish c = rw c.before.before.call-in-Finish-1.given.1 c.finish.ensures
+returns-in-Finish c = rw c.in-Finish.is c.finish.ensures
 
 pub called_spec : {M : Type 1} → statement M
 called_spec =
@@ -45,5 +45,5 @@ called_spec =
     enum_known-call-in-Finish-1
     finish-requires
     returns-in-Begin
-    returns-in-Begin-in-Tick
-    returns-in-Begin-in-Finish)
+    returns-in-Tick
+    returns-in-Finish)

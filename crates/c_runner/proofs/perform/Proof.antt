@@ -40,13 +40,13 @@ words_of-new_words-requires c κs = search rules
 returns-then-code-gt0 : tie.Need-returns-then-code-gt0
 returns-then-code-gt0 c =
     let p = c.before in
-    leaves_as_lent (call_on p) (lent p) p.status_code-code.ensures (held p).state_in-lent.ensures p.before.called-done.ensures (omega arith)
+    leaves_as_lent (call_on p) (lent p) p.status_code-code.ensures (held p).state_in-lent.ensures p.called-done.ensures (omega arith)
 
 returns : tie.Need-returns
-returns-then-code-gt0 c =
+returns c =
     let w = c.before.before.before in
     let p = w.before.before.before in
-    leaves_stored (call_on p) (lent p) p.status_code-code.ensures (held p).state_in-lent.ensures p.before.called-done.ensures (omega arith) w.words_of-new_words.ensures
+    leaves_stored (call_on p) (lent p) p.status_code-code.ensures (held p).state_in-lent.ensures p.called-done.ensures (omega arith) w.words_of-new_words.ensures
 
 pub perform_spec : {M : Type 1} → statement M
 perform_spec =
@@ -57,4 +57,4 @@ perform_spec =
     status_code-code-requires
     returns-then-code-gt0
     words_of-new_words-requires
-    returns-then-code-gt0)
+    returns)

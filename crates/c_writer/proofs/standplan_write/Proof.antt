@@ -37,7 +37,7 @@ parts_fit w =
 -- What was returned is the answer for all parts that the numbers stand for.
 answered : (w : tie.After-write_given-tally) →
     let s = start w in
-    WriteReturned s.args.n s.args.r (steps_in s.args.steps.now) (records_in s.args.records.now) s.args.buffer-1.now w.write_given-tally.result w.write_given-tally.new.out
+    WriteReturned s.args.n s.args.r (steps_in s.args.steps.now) (records_in s.args.records.now) s.args.buffer.now w.write_given-tally.result w.write_given-tally.new.out
 answered w =
     let links = w.before.before in
     let steps = links.before in
@@ -50,8 +50,8 @@ answered w =
     w.write_given-tally.ensures
     steps.steps_from.ensures
     links.records_from.ensures
-    (omega (arith, a.smaller-a.ensures, a.before.smaller.ensures, steps_length s.args.steps.now))
-    (omega (arith, b.smaller-b.ensures, b.before.smaller-2.ensures, records_length s.args.records.now))
+    (omega (arith, a.smaller-a.ensures, a.smaller.ensures, steps_length s.args.steps.now))
+    (omega (arith, b.smaller-b.ensures, b.smaller-2.ensures, records_length s.args.records.now))
 
 smaller-requires : tie.Need-smaller-requires
 smaller-requires c κs = search rules
@@ -84,7 +84,7 @@ returns-in-Count : tie.Need-returns-in-Count
 returns-in-Count c =
     let w = c.before.before.before.before.before in
     let lent = (start w).args.length.now in
-    let answer = sym (ap tally_of c.before.tally-1.given.1) ∙ (answered w).verdict in
+    let answer = sym (ap tally_of c.in-Count.is) ∙ (answered w).verdict in
     record {
       counted = record { verdict = ap tally_code answer; numbers = (answered w).numbers; count = ap (λ (o : Outcome ℕ). count_left o lent) answer };
       numbers = parts_fit w;
@@ -100,10 +100,10 @@ shape_of-buffer : tie.Need-shape_of-buffer
 shape_of-buffer c = search rules
 
 returns : tie.Need-returns
-returns-in-Count c =
+returns c =
     let w = c.before.before.before.before.before in
     let lent = (start w).args.length.now in
-    let answer = sym (ap tally_of c.before.enum_told-1.given.1) ∙ (answered w).verdict in
+    let answer = sym (ap tally_of c.in_default.is) ∙ (answered w).verdict in
     record {
       counted = record { verdict = c.tally_code.ensures ∙ ap tally_code (answered w).verdict; numbers = (answered w).numbers; count = ap (λ (o : Outcome ℕ). count_left o lent) answer };
       numbers = parts_fit w;
@@ -126,4 +126,4 @@ standplan_write_spec =
     enum_told-1
     tally_code-requires
     shape_of-buffer
-    returns-in-Count)
+    returns)

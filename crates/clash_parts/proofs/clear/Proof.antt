@@ -30,13 +30,13 @@ loop-u-smaller c = search rules
 loop-u-preserved : tie.Need-loop-u-preserved invariant-loop-u decreases-loop-u
 loop-u-preserved c =
     let l = c.before in
-    clearing_more _ _ _ l.before.requires (omega arith) l.loop-u.invariant
+    clearing_more _ _ _ l.requires (omega arith) l.loop-u.invariant
 
 shape_of-lists : tie.Need-shape_of-lists invariant-loop-u decreases-loop-u
 shape_of-lists c = search rules
 
 returns : tie.Need-returns invariant-loop-u decreases-loop-u
-returns c u b = c.before.loop-u.invariant.each u (omega arith)
+returns c u b = c.loop-u.invariant.each u (omega arith)
 
 pub clear_spec : {M : Type 1} → statement M
 clear_spec =

@@ -11,7 +11,7 @@ slice_bounds-entered-end : tie.Need-slice_bounds-entered-end
 slice_bounds-entered-end c = search rules
 
 slice_bounds-entered-end-2 : tie.Need-slice_bounds-entered-end-2
-slice_bounds-entered-end-2 c = sym (length-take-le _ _ (omega (arith, c.before.before.requires.room)))
+slice_bounds-entered-end-2 c = sym (length-take-le _ _ (omega (arith, c.requires.room)))
 
 entered-map-requires : tie.Need-entered-map-requires
 entered-map-requires c κs = search rules
@@ -25,7 +25,7 @@ shape_of-es c = search rules
 returns : tie.Need-returns
 returns c =
     let s = c.before.before in
-    part_completes _ _ _ _ _ _ s.before.before.entered-map.ensures s.complete.ensures
+    part_completes _ _ _ _ _ _ s.entered-map.ensures s.complete.ensures
 
 pub complete_part_spec : {M : Type 1} → statement M
 complete_part_spec =

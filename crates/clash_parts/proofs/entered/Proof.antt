@@ -45,7 +45,7 @@ loop-i-preserved c =
     entering_more _ _ l.loop-i.i l.loop-i.invariant _ _ _ (omega arith) t.edge_to.ensures.0 b.is_back.ensures c.insert_if-m.ensures
 
 returns : tie.Need-returns invariant-loop-i decreases-loop-i
-returns c = entering_all _ _ _ c.before.loop-i.invariant (omega arith)
+returns c = entering_all _ _ _ c.loop-i.invariant (omega arith)
 
 pub entered_spec : {M : Type 1} → statement M
 entered_spec =

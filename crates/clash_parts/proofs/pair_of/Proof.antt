@@ -25,7 +25,7 @@ unfolding pair_rank
 returns-then-is_back c =
     let t = c.before in
     let b = t.before.before in
-    rw (sym b.is_back.ensures ∙ t.before.if-is_back.true, t.edge_to.ensures.0, c.edge_from.ensures.0)
+    rw (sym b.is_back.ensures ∙ t.if-is_back.true, t.edge_to.ensures.0, c.edge_from.ensures.0)
 
 edge_from-requires-2 : tie.Need-edge_from-requires-2
 edge_from-requires-2 c κs = search rules
@@ -41,10 +41,10 @@ overflow_add-result-2 c = search rules
 
 returns : tie.Need-returns
 unfolding pair_rank
-returns-then-is_back c =
+returns c =
     let f = c.before in
     let b = f.before.before in
-    rw (sym b.is_back.ensures ∙ f.before.if-is_back.false, f.edge_from-2.ensures.0, c.edge_to-2.ensures.0)
+    rw (sym b.is_back.ensures ∙ f.if-is_back.false, f.edge_from-2.ensures.0, c.edge_to-2.ensures.0)
 
 pub pair_of_spec : {M : Type 1} → statement M
 pair_of_spec =
@@ -60,4 +60,4 @@ pair_of_spec =
     overflow_mul-result-2
     edge_to-requires-2
     overflow_add-result-2
-    returns-then-is_back)
+    returns)

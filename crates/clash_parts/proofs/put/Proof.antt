@@ -29,7 +29,7 @@ offset_bounds-words-at : tie.Need-offset_bounds-words-at invariant-loop-i decrea
 offset_bounds-words-at c = search rules
 
 bounds-words-at : tie.Need-bounds-words-at invariant-loop-i decreases-loop-i
-bounds-words-at c = let l = c.before.before in omega (arith, l.loop-i.invariant.long, l.before.requires.room)
+bounds-words-at c = let l = c.before.before in omega (arith, l.loop-i.invariant.long, l.requires.room)
 
 overflow_add-i : tie.Need-overflow_add-i invariant-loop-i decreases-loop-i
 overflow_add-i c = search rules
@@ -40,13 +40,13 @@ loop-i-smaller c = search rules
 loop-i-preserved : tie.Need-loop-i-preserved invariant-loop-i decreases-loop-i
 loop-i-preserved c =
     let l = c.before.before in
-    putting_more _ _ _ _ l.loop-i.i l.loop-i.invariant l.before.requires (omega arith)
+    putting_more _ _ _ _ l.loop-i.i l.loop-i.invariant l.requires (omega arith)
 
 shape_of-words : tie.Need-shape_of-words invariant-loop-i decreases-loop-i
-shape_of-words c = c.before.loop-i.invariant.long
+shape_of-words c = c.loop-i.invariant.long
 
 returns : tie.Need-returns invariant-loop-i decreases-loop-i
-returns c = putting_all _ _ _ _ _ c.before.loop-i.invariant (omega arith)
+returns c = putting_all _ _ _ _ _ c.loop-i.invariant (omega arith)
 
 pub put_spec : {M : Type 1} → statement M
 put_spec =

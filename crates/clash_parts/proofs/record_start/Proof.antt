@@ -48,7 +48,7 @@ pair_of-requires c κs = search rules
 returns-then-pair_of-pair : tie.Need-returns-then-pair_of-pair invariant-loop-first decreases-loop-first
 returns-then-pair_of-pair c =
     let l = turn c in
-    going_stops _ _ _ _ l.loop-first.inv (omega arith) _ c.before.pair_of.ensures c.if-pair_of-pair.true
+    going_stops _ _ _ _ l.loop-first.inv (omega arith) _ c.pair_of.ensures c.if-pair_of-pair.true
 
 overflow_sub-first-in-loop-first-2 : tie.Need-overflow_sub-first-in-loop-first-2 invariant-loop-first decreases-loop-first
 overflow_sub-first-in-loop-first-2 c = search rules
@@ -59,10 +59,10 @@ loop-first-smaller c = search rules
 loop-first-preserved : tie.Need-loop-first-preserved invariant-loop-first decreases-loop-first
 loop-first-preserved c =
     let l = c.before.before.before.before in
-    going_more _ _ _ _ l.loop-first.invariant (omega arith) _ c.before.pair_of.ensures c.if-pair_of-pair.false
+    going_more _ _ _ _ l.loop-first.invariant (omega arith) _ c.pair_of.ensures c.if-pair_of-pair.false
 
 returns : tie.Need-returns invariant-loop-first decreases-loop-first
-returns-then-pair_of-pair c = going_ends _ _ _ _ c.before.loop-first.invariant (omega arith)
+returns c = going_ends _ _ _ _ c.loop-first.invariant (omega arith)
 
 pub record_start_spec : {M : Type 1} → statement M
 record_start_spec =
@@ -83,4 +83,4 @@ record_start_spec =
     overflow_sub-first-in-loop-first-2
     loop-first-smaller
     loop-first-preserved
-    returns-then-pair_of-pair)
+    returns)

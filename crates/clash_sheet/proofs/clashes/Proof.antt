@@ -18,7 +18,7 @@ reported s = s.before.before.before
 read_whole : (s : tie.In_default) → let r = reported s in Whole (start r).args.s.now r.read-report.last.1.0 r.read-report.last.1.1.0 r.read-report.result
 read_whole s =
     let r = reported s in
-    whole (start r).args.s.now _ _ _ (λ i. (r.before.before.before.before.shared_slice_known-1.given i).fits) r.read-report.ensures s.enum_told-1.given.1
+    whole (start r).args.s.now _ _ _ (λ i. (r.shared_slice_known-1.given i).fits) r.read-report.ensures s.in_default.is
 
 slice_bounds-read-end : tie.Need-slice_bounds-read-end
 slice_bounds-read-end c = search rules
@@ -32,7 +32,7 @@ enum_known-reading c = search rules
 returns-in-Refused : tie.Need-returns-in-Refused
 returns-in-Refused c =
     let r = c.before.before.before.before in
-    few_unread (start r).args.s.now (start r).args.list-1.now _ (report_refused _ _ _ _ _ r.read-report.ensures c.before.reading-1.given.1)
+    few_unread (start r).args.s.now (start r).args.list.now _ (report_refused _ _ _ _ _ r.read-report.ensures c.in-Refused.is)
 
 enum_told-1 : tie.Need-enum_told-1
 enum_told-1 c = search rules
@@ -47,7 +47,7 @@ shape_of-list : tie.Need-shape_of-list
 shape_of-list c = search rules
 
 returns : tie.Need-returns
-returns-in-Refused c =
+returns c =
     let called = c.before.before in
     let w = read_whole called.before.before.before in
     few_whole w _ (called.clashes_of.ensures w.found.whole (whole_holding w))
@@ -64,4 +64,4 @@ clashes_spec =
     slice_bounds-clashes_of-end
     clashes_of-requires
     shape_of-list
-    returns-in-Refused)
+    returns)

@@ -21,14 +21,14 @@ abbrev stopped : tie.In-Refused-2 → tie.After-judge
 stopped s = s.before.before
 
 -- The status, as a refusal is told.
-told : (s : tie.In-Refused-2) (q : Records) → (let a = (stopped s).before.before.before.before.args in Holding q a.words.now a.count a.linked a.records a.n) → status_of (Statuses.Refused s.k-1.given.0.0) tt ≡ judge_possible (count_of q) (edges_of q)
-told s q H = ap (λ (st : Status). status_of st tt) (sym s.k-1.given.1) ∙ (stopped s).judge.ensures q H.completed
+told : (s : tie.In-Refused-2) (q : Records) → (let a = (stopped s).args in Holding q a.words.now a.count a.linked a.records a.n) → status_of (Statuses.Refused s.in-Refused.k-1) tt ≡ judge_possible (count_of q) (edges_of q)
+told s q H = ap (λ (st : Status). status_of st tt) (sym s.in-Refused.is) ∙ (stopped s).judge.ensures q H.completed
 
 slice_bounds-judge-end : tie.Need-slice_bounds-judge-end
-slice_bounds-judge-end c = sym (length-take-le _ _ c.before.before.before.requires.within)
+slice_bounds-judge-end c = sym (length-take-le _ _ c.requires.within)
 
 judge-requires : tie.Need-judge-requires
-judge-requires c κs = held_edges c.before.before.before.requires
+judge-requires c κs = held_edges c.requires
 
 enum_told-1 : tie.Need-enum_told-1
 enum_told-1 c = search rules
@@ -42,26 +42,26 @@ is_circle-requires c κs = search rules
 returns-then-is_circle : tie.Need-returns-then-is_circle
 returns-then-is_circle c q H =
     let s = c.before.before.before in
-    answered_circle q _ s.k-1.given.0.0 (told s q H) (sym c.before.is_circle.ensures ∙ c.if-is_circle.true)
+    answered_circle q _ s.in-Refused.k-1 (told s q H) (sym c.is_circle.ensures ∙ c.if-is_circle.true)
 
 slice_bounds-report-end : tie.Need-slice_bounds-report-end
-slice_bounds-report-end c = sym (length-take-le _ _ c.before.before.before.before.before.before.before.before.before.before.requires.linked_within)
+slice_bounds-report-end c = sym (length-take-le _ _ c.requires.linked_within)
 
 report-requires : tie.Need-report-requires
-report-requires c κs = held_records c.before.before.before.before.before.before.before.before.before.before.before.requires
+report-requires c κs = held_records c.requires
 
 returns-in-Done : tie.Need-returns-in-Done
-returns-then-is_circle-in-Done c q H = answered_done q _ (ap (λ (st : Status). status_of st tt) (sym c.enum_told-1.given.1) ∙ (passed c).judge.ensures q H.completed)
+returns-in-Done c q H = answered_done q _ (ap (λ (st : Status). status_of st tt) (sym c.in-Done.is) ∙ (passed c).judge.ensures q H.completed)
 
 shape_of-list : tie.Need-shape_of-list
 shape_of-list c = search rules
 
 returns-else-is_circle : tie.Need-returns-else-is_circle
-returns-then-is_circle-else-is_circle c q H =
+returns-else-is_circle c q H =
     let called = c.before.before in
     let other = called.before.before.before in
     let s = other.before.before.before in
-    answered_report q _ s.k-1.given.0.0 (told s q H) (sym other.before.is_circle.ensures ∙ other.if-is_circle.false) (called.report.ensures q H.recorded)
+    answered_report q _ s.in-Refused.k-1 (told s q H) (sym other.is_circle.ensures ∙ other.if-is_circle.false) (called.report.ensures q H.recorded)
 
 pub clashes_of_spec : {M : Type 1} → statement M
 clashes_of_spec =
@@ -75,6 +75,6 @@ clashes_of_spec =
     returns-then-is_circle
     slice_bounds-report-end
     report-requires
-    returns-then-is_circle-in-Done
+    returns-in-Done
     shape_of-list
-    returns-then-is_circle-else-is_circle)
+    returns-else-is_circle)

@@ -46,9 +46,9 @@ shape_of-list c = search rules
 
 returns : tie.Need-returns invariant-loop-i decreases-loop-i
 returns c =
-    let numbers = c.before.before.args.numbers.now in
-    let all : c.before.loop-i.i ≡ length numbers = omega arith in
-    rw all at c.before.loop-i.invariant.2 ∙ ap (λ (l : List ℕ). l ++ drop (length numbers) c.before.before.args.list.now) (tabulate_list numbers (λ k. get_or numbers k 0) (length numbers) 0 refl (λ i b. refl))
+    let numbers = c.args.numbers.now in
+    let all : c.loop-i.i ≡ length numbers = omega arith in
+    rw all at c.loop-i.invariant.2 ∙ ap (λ (l : List ℕ). l ++ drop (length numbers) c.args.list.now) (tabulate_list numbers (λ k. get_or numbers k 0) (length numbers) 0 refl (λ i b. refl))
 
 pub copy_spec : {M : Type 1} → statement M
 copy_spec =

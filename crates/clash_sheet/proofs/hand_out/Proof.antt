@@ -26,7 +26,7 @@ unfolding written
 returns-then-list-count c =
     let s = c.before.before.before in
     let numbers = s.args.numbers.now in
-    let list = s.args.list-1.now in
+    let list = s.args.list.now in
     let e = short numbers list c.if-list-count.true in
     record { tally = sym e; numbers = ap (λ (o : Outcome ℕ). written o numbers list) (sym e) }
 
@@ -38,14 +38,14 @@ shape_of-list c = search rules
 
 returns : tie.Need-returns
 unfolding written
-returns-then-list-count c =
+returns c =
     let called = c.before.before in
     let longer = called.before.before in
     let s = longer.before.before.before in
     let numbers = s.args.numbers.now in
-    let list = s.args.list-1.now in
+    let list = s.args.list.now in
     let e = long numbers list longer.if-list-count.false in
     record { tally = sym e; numbers = called.copy.ensures ∙ ap (λ (o : Outcome ℕ). written o numbers list) (sym e) }
 
 pub hand_out_spec : {M : Type 1} → statement M
-hand_out_spec = tie.close (tie.spec returns-then-list-count copy-requires shape_of-list returns-then-list-count)
+hand_out_spec = tie.close (tie.spec returns-then-list-count copy-requires shape_of-list returns)

@@ -15,7 +15,7 @@ slice_bounds-list-end c = search rules
 
 list-requires : tie.Need-list-requires
 list-requires c κs =
-    let p = c.before.before.requires in
+    let p = c.requires in
     sheet_unlisted _ _ _ (judgeable p) _ (simp length-replicate (omega arith)) (zeros_empty most_listed (omega arith))
 
 slice_bounds-judge_possible-end : tie.Need-slice_bounds-judge_possible-end

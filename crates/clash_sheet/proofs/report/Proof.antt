@@ -24,7 +24,7 @@ within : (c : tie.After-clash-at) → c.clash-at.result ≤ 512
 within c = (reported c).within
 
 clash-at-requires : tie.Need-clash-at-requires
-clash-at-requires c κs = filterable c.before.before.before.requires
+clash-at-requires c κs = filterable c.requires
 
 offset_bounds-numbers-at : tie.Need-offset_bounds-numbers-at
 offset_bounds-numbers-at c = let b = within c in search rules
@@ -52,7 +52,7 @@ returns c q R =
     let at = s.clash-at.result in
     let report = s.clash-at.ensures q R in
     let all : take (512 - at) (drop at numbers) ≡ drop at numbers = take_all (512 - at) (drop at numbers) (omega (arith, report.long, length-drop at numbers)) in
-    subst (λ (l : List ℕ). Handed l (start s).args.list-1.now called.hand_out.result called.hand_out.new.list-1) (all ∙ report.same) called.hand_out.ensures
+    subst (λ (l : List ℕ). Handed l (start s).args.list.now called.hand_out.result called.hand_out.new.list-1) (all ∙ report.same) called.hand_out.ensures
 
 pub report_spec : {M : Type 1} → statement M
 report_spec =

@@ -12,13 +12,13 @@ insert-requires c κs = search rules
 
 returns-then-wanted : tie.Need-returns-then-wanted
 returns-then-wanted c j =
-    let a = c.before.before.args in
-    c.insert.ensures j ∙ ap (λ (b : Bool). test_bit a.m j || (b && eqb j a.k)) (sym c.before.if-wanted.true)
+    let a = c.args in
+    c.insert.ensures j ∙ ap (λ (b : Bool). test_bit a.m j || (b && eqb j a.k)) (sym c.if-wanted.true)
 
 returns : tie.Need-returns
-returns-then-wanted c j =
-    let a = c.before.args in
+returns c j =
+    let a = c.args in
     sym (or-false (test_bit a.m j)) ∙ ap (λ (b : Bool). test_bit a.m j || (b && eqb j a.k)) (sym c.if-wanted.false)
 
 pub insert_if_spec : {M : Type 1} → statement M
-insert_if_spec = tie.close (tie.spec insert-requires returns-then-wanted returns-then-wanted)
+insert_if_spec = tie.close (tie.spec insert-requires returns-then-wanted returns)

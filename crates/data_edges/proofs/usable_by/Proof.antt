@@ -17,14 +17,14 @@ remove-requires c κs = search rules
 
 returns-then-is_late : tie.Need-returns-then-is_late
 returns-then-is_late c =
-    users_late _ _ _ (unpack c.before.before.before.before.args.w)
-    (sym c.before.before.before.is_late.ensures ∙ c.before.before.if-is_late.true)
-    c.before.edge_to.ensures.0
+    users_late _ _ _ (unpack c.args.w)
+    (sym c.is_late.ensures ∙ c.if-is_late.true)
+    c.edge_to.ensures.0
     c.remove.ensures
 
 returns : tie.Need-returns
-returns-then-is_late c = users_timely _ (unpack c.before.before.args.w) (sym c.before.is_late.ensures ∙ c.if-is_late.false)
+returns c = users_timely _ (unpack c.args.w) (sym c.is_late.ensures ∙ c.if-is_late.false)
 
 pub usable_by_spec : {M : Type 1} → statement M
 usable_by_spec =
-    tie.close (tie.spec is_late-requires edge_to-requires remove-requires returns-then-is_late returns-then-is_late)
+    tie.close (tie.spec is_late-requires edge_to-requires remove-requires returns-then-is_late returns)

@@ -30,15 +30,15 @@ shape_of-lists-then-is_back c = search rules
 returns-then-is_back : tie.Need-returns-then-is_back
 returns-then-is_back c =
     let s = c.before in
-    record { put = refl; next = sym (cond_true (s.before.before.args.at + 1) s.before.before.args.at (sym s.is_back.ensures ∙ c.if-is_back.true)) }
+    record { put = refl; next = sym (cond_true (s.args.at + 1) s.args.at (sym s.is_back.ensures ∙ c.if-is_back.true)) }
 
 shape_of-lists : tie.Need-shape_of-lists
 shape_of-lists c = search rules
 
 returns : tie.Need-returns
-returns-then-is_back c =
+returns c =
     let s = c.before in
-    record { put = refl; next = sym (cond_false (s.before.before.args.at + 1) s.before.before.args.at (sym s.is_back.ensures ∙ c.if-is_back.false)) }
+    record { put = refl; next = sym (cond_false (s.args.at + 1) s.args.at (sym s.is_back.ensures ∙ c.if-is_back.false)) }
 
 pub append_spec : {M : Type 1} → statement M
 append_spec =
@@ -53,4 +53,4 @@ append_spec =
     shape_of-lists-then-is_back
     returns-then-is_back
     shape_of-lists
-    returns-then-is_back)
+    returns)

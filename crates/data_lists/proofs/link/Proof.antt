@@ -42,7 +42,7 @@ shape_of-lists c = search rules
 
 returns : tie.Need-returns
 unfolding put_first
-returns c = rw c.before.edge_from-from.ensures.0 refl
+returns c = rw c.edge_from-from.ensures.0 refl
 
 pub link_spec : {M : Type 1} → statement M
 link_spec =

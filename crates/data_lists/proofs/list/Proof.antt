@@ -29,10 +29,10 @@ kept : (s : tie.After-link invariant-loop-k decreases-loop-k) → length s.link.
 kept s = ap length s.link.ensures ∙ first_length _ _ (turn s).loop-k.k
 
 overflow_add-at : tie.Need-overflow_add-at invariant-loop-k decreases-loop-k
-overflow_add-at c = omega (arith, c.before.before.requires.few)
+overflow_add-at c = omega (arith, c.requires.few)
 
 loop-k-init : tie.Need-loop-k-init invariant-loop-k decreases-loop-k
-loop-k-init c = (omega arith, refl, listing_none c.before.before.requires)
+loop-k-init c = (omega arith, refl, listing_none c.requires)
 
 offset_bounds-es-k : tie.Need-offset_bounds-es-k invariant-loop-k decreases-loop-k
 offset_bounds-es-k c = search rules
@@ -80,10 +80,10 @@ offset_bounds-lists-at c =
     omega (arith, t.loop-k.invariant.2.next, before_few (start t).args.es.now t.loop-k.k, (start t).requires.few)
 
 bounds-lists-at : tie.Need-bounds-lists-at invariant-loop-k decreases-loop-k
-bounds-lists-at c = listing_room c.before.loop-k.invariant.0 c.before.loop-k.invariant.2
+bounds-lists-at c = listing_room c.loop-k.invariant.0 c.loop-k.invariant.2
 
 shape_of-lists : tie.Need-shape_of-lists invariant-loop-k decreases-loop-k
-shape_of-lists c = length-set {A = ℕ} c.before.loop-k.lists-1 c.before.loop-k.at 0 ∙ c.before.loop-k.invariant.1
+shape_of-lists c = length-set {A = ℕ} c.loop-k.lists-1 c.loop-k.at 0 ∙ c.loop-k.invariant.1
 
 returns : tie.Need-returns invariant-loop-k decreases-loop-k
 returns c =

@@ -21,13 +21,13 @@ overflow_add-result : tie.Need-overflow_add-result
 overflow_add-result c = search rules
 
 returns-in-Done : tie.Need-returns-in-Done
-returns-in-Done c g = sym (ap (λ (x : Status). call_code (status_of x g)) c.enum_told-1.given.1)
+returns-in-Done c g = sym (ap (λ (x : Status). call_code (status_of x g)) c.in-Done.is)
 
 returns-in-Refused : tie.Need-returns-in-Refused
-returns-in-Done-in-Refused c g =
-    ap (λ (x : ℕ). refusals_past + x) c.refusal_number.ensures.0 ∙ sym (ap (λ (x : Status). call_code (status_of x g)) c.before.before.status-1.given.1)
+returns-in-Refused c g =
+    ap (λ (x : ℕ). refusals_past + x) c.refusal_number.ensures.0 ∙ sym (ap (λ (x : Status). call_code (status_of x g)) c.in-Refused.is)
 
 pub status_code_spec : {M : Type 1} → statement M
 status_code_spec =
     tie.close
-    (tie.spec enum_told-1 enum_known-status refusal_number-requires overflow_add-result returns-in-Done returns-in-Done-in-Refused)
+    (tie.spec enum_told-1 enum_known-status refusal_number-requires overflow_add-result returns-in-Done returns-in-Refused)

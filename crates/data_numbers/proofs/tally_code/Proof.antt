@@ -21,13 +21,13 @@ overflow_add-result : tie.Need-overflow_add-result
 overflow_add-result c = search rules
 
 returns-in-Count : tie.Need-returns-in-Count
-returns-in-Count c = sym (ap (λ (t : Tally). tally_code (tally_of t)) c.enum_told-1.given.1)
+returns-in-Count c = sym (ap (λ (t : Tally). tally_code (tally_of t)) c.in-Count.is)
 
 returns-in-Refused : tie.Need-returns-in-Refused
-returns-in-Count-in-Refused c =
-    ap (λ (x : ℕ). refusals_past + x) c.refusal_number.ensures.0 ∙ sym (ap (λ (t : Tally). tally_code (tally_of t)) c.before.before.tally-1.given.1)
+returns-in-Refused c =
+    ap (λ (x : ℕ). refusals_past + x) c.refusal_number.ensures.0 ∙ sym (ap (λ (t : Tally). tally_code (tally_of t)) c.in-Refused.is)
 
 pub tally_code_spec : {M : Type 1} → statement M
 tally_code_spec =
     tie.close
-    (tie.spec enum_told-1 enum_known-tally refusal_number-requires overflow_add-result returns-in-Count returns-in-Count-in-Refused)
+    (tie.spec enum_told-1 enum_known-tally refusal_number-requires overflow_add-result returns-in-Count returns-in-Refused)

@@ -12,7 +12,7 @@ enum_told-1 : tie.Need-enum_told-1
 enum_told-1 c = search rules
 
 enum_told-in-Serialized : tie.Need-enum_told-in-Serialized
-enum_told-1-in-Serialized c = search rules
+enum_told-in-Serialized c = search rules
 
 enum_known-verdict : tie.Need-enum_known-verdict
 enum_known-verdict c = search rules
@@ -27,21 +27,21 @@ returns-in-WellPosed : tie.Need-returns-in-WellPosed
 returns-in-WellPosed c = search rules
 
 returns-in-Serialized : tie.Need-returns-in-Serialized
-returns-in-WellPosed-in-Serialized c = search rules
+returns-in-Serialized c = search rules
 
 returns-in-Refused : tie.Need-returns-in-Refused
-returns-in-WellPosed-in-Refused c =
-    ap (λ (x : ℕ). refusals_past + x) c.refusal_number.ensures.0 ∙ sym (ap (λ (v : Verdict). code (verdict_of v)) c.before.before.verdict-1.given.1)
+returns-in-Refused c =
+    ap (λ (x : ℕ). refusals_past + x) c.refusal_number.ensures.0 ∙ sym (ap (λ (v : Verdict). code (verdict_of v)) c.in-Refused.is)
 
 pub verdict_code_spec : {M : Type 1} → statement M
 verdict_code_spec =
     tie.close
     (tie.spec
     enum_told-1
-    enum_told-1-in-Serialized
+    enum_told-in-Serialized
     enum_known-verdict
     refusal_number-requires
     overflow_add-result
     returns-in-WellPosed
-    returns-in-WellPosed-in-Serialized
-    returns-in-WellPosed-in-Refused)
+    returns-in-Serialized
+    returns-in-Refused)

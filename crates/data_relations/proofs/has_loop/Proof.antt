@@ -30,7 +30,7 @@ has-requires : tie.Need-has-requires invariant-loop-v decreases-loop-v
 has-requires c κs = search rules
 
 returns-then-has : tie.Need-returns-then-has invariant-loop-v decreases-loop-v
-returns-then-has c = sym (any_below_by _ _ {k = c.before.before.before.before.loop-v.v} (search rules) (sym c.before.has.ensures ∙ c.if-has.true))
+returns-then-has c = sym (any_below_by _ _ {k = c.loop-v.v} (search rules) (sym c.has.ensures ∙ c.if-has.true))
 
 overflow_add-v : tie.Need-overflow_add-v invariant-loop-v decreases-loop-v
 overflow_add-v c = search rules
@@ -39,12 +39,12 @@ loop-v-smaller : tie.Need-loop-v-smaller invariant-loop-v decreases-loop-v
 loop-v-smaller c = search rules
 
 loop-v-preserved : tie.Need-loop-v-preserved invariant-loop-v decreases-loop-v
-loop-v-preserved c = (omega arith, any_below_more _ _ c.before.before.before.before.loop-v.invariant.1 (sym c.before.has.ensures ∙ c.if-has.false))
+loop-v-preserved c = (omega arith, any_below_more _ _ c.loop-v.invariant.1 (sym c.has.ensures ∙ c.if-has.false))
 
 returns : tie.Need-returns invariant-loop-v decreases-loop-v
-returns-then-has c =
-    let e : c.before.loop-v.v ≡ c.before.before.args.n = omega arith in
-    sym (rw e at c.before.loop-v.invariant.1)
+returns c =
+    let e : c.loop-v.v ≡ c.args.n = omega arith in
+    sym (rw e at c.loop-v.invariant.1)
 
 pub has_loop_spec : {M : Type 1} → statement M
 has_loop_spec =
@@ -60,4 +60,4 @@ has_loop_spec =
     overflow_add-v
     loop-v-smaller
     loop-v-preserved
-    returns-then-has)
+    returns)

@@ -37,19 +37,19 @@ without_lowest-left-requires : tie.Need-without_lowest-left-requires invariant-l
 without_lowest-left-requires c κs = omega arith
 
 loop-left-smaller : tie.Need-loop-left-smaller invariant-loop-left decreases-loop-left
-loop-left-smaller c = removed_lt _ _ _ c.before.before.before.lowest-k.ensures.member (c.without_lowest-left.ensures _ c.before.before.before.lowest-k.ensures)
+loop-left-smaller c = removed_lt _ _ _ c.lowest-k.ensures.member (c.without_lowest-left.ensures _ c.lowest-k.ensures)
 
 loop-left-preserved : tie.Need-loop-left-preserved invariant-loop-left decreases-loop-left
 loop-left-preserved c =
     let s = c.before.before.before.before.before in
-    let L = c.before.before.before.lowest-k.ensures in
-    spreading_more _ _ _ _ _ _ _ _ (omega (arith, L.below, s.loop-left.invariant.long, s.before.before.requires.1)) L.member c.before.insert-row.ensures (c.without_lowest-left.ensures _ L) s.loop-left.invariant
+    let L = c.lowest-k.ensures in
+    spreading_more _ _ _ _ _ _ _ _ (omega (arith, L.below, s.loop-left.invariant.long, s.requires.1)) L.member c.insert-row.ensures (c.without_lowest-left.ensures _ L) s.loop-left.invariant
 
 shape_of-out : tie.Need-shape_of-out invariant-loop-left decreases-loop-left
 shape_of-out c = search rules
 
 returns : tie.Need-returns invariant-loop-left decreases-loop-left
-returns c = spreading_all _ _ c.before.loop-left.left _ _ (omega arith) c.before.loop-left.invariant
+returns c = spreading_all _ _ c.loop-left.left _ _ (omega arith) c.loop-left.invariant
 
 pub spread_spec : {M : Type 1} → statement M
 spread_spec =

@@ -23,7 +23,7 @@ bounds-rows-i : tie.Need-bounds-rows-i invariant-loop-i decreases-loop-i
 bounds-rows-i c = search rules
 
 spread-requires : tie.Need-spread-requires invariant-loop-i decreases-loop-i
-spread-requires c κs = (omega arith, c.before.before.before.loop-i.invariant.1.long)
+spread-requires c κs = (omega arith, c.loop-i.invariant.1.long)
 
 overflow_add-i : tie.Need-overflow_add-i invariant-loop-i decreases-loop-i
 overflow_add-i c = search rules
@@ -32,12 +32,12 @@ loop-i-smaller : tie.Need-loop-i-smaller invariant-loop-i decreases-loop-i
 loop-i-smaller c = search rules
 
 loop-i-preserved : tie.Need-loop-i-preserved invariant-loop-i decreases-loop-i
-loop-i-preserved c = (omega arith, turned_more _ _ _ _ c.before.before.before.before.loop-i.invariant.1 c.spread.ensures)
+loop-i-preserved c = (omega arith, turned_more _ _ _ _ c.loop-i.invariant.1 c.spread.ensures)
 
 returns : tie.Need-returns invariant-loop-i decreases-loop-i
 returns c =
-    let e : c.before.loop-i.i ≡ c.before.before.args.n = omega arith in
-    rw e at c.before.loop-i.invariant.1.bits
+    let e : c.loop-i.i ≡ c.args.n = omega arith in
+    rw e at c.loop-i.invariant.1.bits
 
 pub transpose_spec : {M : Type 1} → statement M
 transpose_spec =

@@ -17,15 +17,15 @@ overflow_shl-result : tie.Need-overflow_shl-result
 overflow_shl-result c = search rules
 
 overflow_sub-result : tie.Need-overflow_sub-result
-overflow_sub-result c = omega (arith, one_shl c.before.args.n c.if-n-lt64.true, below_pow c.before.args.n)
+overflow_sub-result c = omega (arith, one_shl c.args.n c.if-n-lt64.true, below_pow c.args.n)
 
 returns-then-n-lt64 : tie.Need-returns-then-n-lt64
-returns-then-n-lt64 c v = all_bits c.before.args.n _ v (omega (arith, one_shl c.before.args.n c.if-n-lt64.true, below_pow c.before.args.n))
+returns-then-n-lt64 c v = all_bits c.args.n _ v (omega (arith, one_shl c.args.n c.if-n-lt64.true, below_pow c.args.n))
 
 returns-else-n-lt64 : tie.Need-returns-else-n-lt64
-returns-then-n-lt64-else-n-lt64 c v =
-    let e : 64 ≡ c.before.args.n = omega arith in
+returns-else-n-lt64 c v =
+    let e : 64 ≡ c.args.n = omega arith in
     all_bits 64 18446744073709551615 v (omega arith) ∙ ap (ltb v) e
 
 pub below_spec : {M : Type 1} → statement M
-below_spec = tie.close (tie.spec overflow_shl-result overflow_sub-result returns-then-n-lt64 returns-then-n-lt64-else-n-lt64)
+below_spec = tie.close (tie.spec overflow_shl-result overflow_sub-result returns-then-n-lt64 returns-else-n-lt64)

@@ -21,19 +21,19 @@ returns-then-not-sort : tie.Need-returns-then-not-sort
 returns-then-not-sort c sheet =
     let u = c.refused.ensures in
     let s = c.before.before in
-    presumed_refused _ _ _ _ _ _ _ _ _ 8 (sorting_order _ _ (s.sort.ensures sheet.shape sheet.entered) (not-true _ c.before.if-not-sort.true)) u.1.sorts (ap verdict_of u.0) (start s).requires.1.rows.no_maps u.1.none
+    presumed_refused _ _ _ _ _ _ _ _ _ 8 (sorting_order _ _ (s.sort.ensures sheet.shape sheet.entered) (not-true _ c.if-not-sort.true)) u.1.sorts (ap verdict_of u.0) (start s).requires.1.rows.no_maps u.1.none
 
 serialize-requires : tie.Need-serialize-requires
 serialize-requires c κs = search rules
 
 returns : tie.Need-returns
-returns-then-not-sort c sheet =
+returns c sheet =
     let f = c.before.before.before.before.before in
-    let s = f.before.sort.ensures sheet.shape sheet.entered in
+    let s = f.sort.ensures sheet.shape sheet.entered in
     let passes = not-false _ f.if-not-sort.false in
     let passed = sorting_order _ _ s passes in
     presumed_rest _ _ _ _ _ _ _ _ _ passed c.serialize.ensures.0 (c.serialize.ensures.1 (record { sheet = sheet; anchors = s.found passes; passes = passed }))
 
 pub judge_assuming_feasible_spec : {M : Type 1} → statement M
 judge_assuming_feasible_spec =
-    tie.close (tie.spec sort-requires refused-requires returns-then-not-sort serialize-requires returns-then-not-sort)
+    tie.close (tie.spec sort-requires refused-requires returns-then-not-sort serialize-requires returns)

@@ -27,7 +27,7 @@ returns-then-not-sort : tie.Need-returns-then-not-sort
 returns-then-not-sort c sheet =
     let u = c.refused.ensures in
     let s = c.before.before in
-    edges_refuse _ _ _ _ _ _ _ 8 (first_refused _ _ _ (sorting_order _ _ (s.sort.ensures sheet.shape sheet.entered) (not-true _ c.before.if-not-sort.true))) (ap verdict_of u.0) (start s).requires.1 u.1.none
+    edges_refuse _ _ _ _ _ _ _ 8 (first_refused _ _ _ (sorting_order _ _ (s.sort.ensures sheet.shape sheet.entered) (not-true _ c.if-not-sort.true))) (ap verdict_of u.0) (start s).requires.1 u.1.none
 
 feasible-requires : tie.Need-feasible-requires
 feasible-requires c κs = search rules
@@ -36,20 +36,20 @@ refused-requires-then-not-feasible : tie.Need-refused-requires-then-not-feasible
 refused-requires-then-not-feasible c κs = search rules
 
 returns-then-not-feasible : tie.Need-returns-then-not-feasible
-returns-then-not-sort-then-not-feasible c sheet =
+returns-then-not-feasible c sheet =
     let f = c.before.before in
     let s = sorted (passing f) in
     let p = (start s).pre in
     let u = c.refused-then-not-feasible.ensures in
     let passed = sorting_order _ _ (s.sort.ensures sheet.shape sheet.entered) (not-false _ (passing f).if-not-sort.false) in
     let settles = f.feasible.ensures sheet.shape (all_rooted _ _ passed p.0.some sheet.shape sheet.entered) in
-    edges_refuse _ _ _ _ _ _ _ 10 (first_10 _ _ passed (sym settles ∙ not-true _ c.before.if-not-feasible.true)) (ap verdict_of u.0) p.1 u.1.none
+    edges_refuse _ _ _ _ _ _ _ 10 (first_10 _ _ passed (sym settles ∙ not-true _ c.if-not-feasible.true)) (ap verdict_of u.0) p.1 u.1.none
 
 serialize-requires : tie.Need-serialize-requires
 serialize-requires c κs = search rules
 
 returns : tie.Need-returns
-returns-then-not-sort c sheet =
+returns c sheet =
     let t = c.before.before.before.before.before in
     let f = t.before in
     let s = sorted (passing f) in
@@ -70,6 +70,6 @@ judge_edges_spec =
     returns-then-not-sort
     feasible-requires
     refused-requires-then-not-feasible
-    returns-then-not-sort-then-not-feasible
+    returns-then-not-feasible
     serialize-requires
-    returns-then-not-sort)
+    returns)

@@ -26,20 +26,20 @@ returns-then-waits_clash c =
       u.1.sorts,
       λ w.
           let count = t.count_waits-count.ensures.1 _ w.waits in
-          serial_refused _ _ _ _ _ _ _ (sym (c.before.before.before.waits_clash.ensures w count) ∙ c.before.before.if-waits_clash.true) (ap verdict_of u.0) refl u.1.none,
+          serial_refused _ _ _ _ _ _ _ (sym (c.waits_clash.ensures w count) ∙ c.if-waits_clash.true) (ap verdict_of u.0) refl u.1.none,
     )
 
 waits_counted-requires : tie.Need-waits_counted-requires
 waits_counted-requires c κs = search rules
 
 returns : tie.Need-returns
-returns-then-waits_clash c =
+returns c =
     let f = c.waits_counted.ensures in
     let t = tried c.before.before in (
       f.sorts,
       λ w.
           let count = t.count_waits-count.ensures.1 _ w.waits in
-          serial_found _ _ _ _ _ _ _ (sym (c.before.before.waits_clash.ensures w count) ∙ c.before.if-waits_clash.false) (f.judges _ _ count) w.waits (f.counts ∙ count),
+          serial_found _ _ _ _ _ _ _ (sym (c.waits_clash.ensures w count) ∙ c.if-waits_clash.false) (f.judges _ _ count) w.waits (f.counts ∙ count),
     )
 
 pub put_in_spec : {M : Type 1} → statement M
@@ -51,4 +51,4 @@ put_in_spec =
     refused-requires
     returns-then-waits_clash
     waits_counted-requires
-    returns-then-waits_clash)
+    returns)

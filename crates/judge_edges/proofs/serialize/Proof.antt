@@ -25,7 +25,7 @@ returns-then-not-reach c =
     let r = c.before.before in
     let p = (start r).requires in
     let w = c.waits_counted.ensures in
-    (w.sorts, λ h. unweighed_posed _ _ _ _ _ _ _ h.sheet.shape (r.reach.ensures.0 h.anchors) p.0.some p.0.few h.sheet.entered h.anchors h.passes (r.reach.ensures.1 (not-true _ c.before.if-not-reach.true)) p.1.no_maps w.counts (λ e. w.judges _ _ (sym w.counts ∙ e)))
+    (w.sorts, λ h. unweighed_posed _ _ _ _ _ _ _ h.sheet.shape (r.reach.ensures.0 h.anchors) p.0.some p.0.few h.sheet.entered h.anchors h.passes (r.reach.ensures.1 (not-true _ c.if-not-reach.true)) p.1.no_maps w.counts (λ e. w.judges _ _ (sym w.counts ∙ e)))
 
 is_inconsistent-requires : tie.Need-is_inconsistent-requires
 is_inconsistent-requires c κs = search rules
@@ -34,14 +34,14 @@ refused-requires : tie.Need-refused-requires
 refused-requires c κs = search rules
 
 returns-then-is_inconsistent : tie.Need-returns-then-is_inconsistent
-returns-then-not-reach-then-is_inconsistent c =
+returns-then-is_inconsistent c =
     let u = c.refused.ensures in
     let i = c.before.before in
     let r = reached i in (
       u.1.sorts,
       λ h.
           let R = r.reach.ensures.0 h.anchors in
-          let own = sym (i.is_inconsistent.ensures.1 _ (reached_reaches h.sheet.shape R)) ∙ c.before.if-is_inconsistent.true in
+          let own = sym (i.is_inconsistent.ensures.1 _ (reached_reaches h.sheet.shape R)) ∙ c.if-is_inconsistent.true in
           unweighed_11 _ _ _ _ _ _ _ h.sheet.shape R own (ap verdict_of u.0) (start r).pre.1.no_maps u.1.none,
     )
 
@@ -52,7 +52,7 @@ put_in-requires : tie.Need-put_in-requires
 put_in-requires c κs = search rules
 
 returns : tie.Need-returns
-returns-then-not-reach c =
+returns c =
     let m = c.before.before in
     let i = m.before.before.before.before in
     let r = reached i in (
@@ -60,7 +60,7 @@ returns-then-not-reach c =
       λ h.
           let R = r.reach.ensures.0 h.anchors in
           let reaches = reached_reaches h.sheet.shape R in
-          let consistent = sym (i.is_inconsistent.ensures.1 _ reaches) ∙ m.before.before.before.if-is_inconsistent.false in
+          let consistent = sym (i.is_inconsistent.ensures.1 _ reaches) ∙ m.if-is_inconsistent.false in
           let maps = m.wait_maps.ensures.1 _ (record { shape = h.sheet.shape; reaches = reaches; anchors = h.anchors }) in
           let some = (start r).pre.0.some in
           unweighed_rest _ _ _ _ _ _ _ h.sheet.shape R consistent (λ first.
@@ -76,7 +76,7 @@ serialize_spec =
     returns-then-not-reach
     is_inconsistent-requires
     refused-requires
-    returns-then-not-reach-then-is_inconsistent
+    returns-then-is_inconsistent
     wait_maps-requires
     put_in-requires
-    returns-then-not-reach)
+    returns)

@@ -16,7 +16,7 @@ can_serialize-requires : tie.Need-can_serialize-requires
 can_serialize-requires c κs = search rules
 
 returns : tie.Need-returns
-returns-then-count-eq0 c w count = ap not (c.can_serialize.ensures w) ∙ not-not _
+returns c w count = ap not (c.can_serialize.ensures w) ∙ not-not _
 
 pub waits_clash_spec : {M : Type 1} → statement M
-waits_clash_spec = tie.close (tie.spec returns-then-count-eq0 can_serialize-requires returns-then-count-eq0)
+waits_clash_spec = tie.close (tie.spec returns-then-count-eq0 can_serialize-requires returns)

@@ -11,10 +11,10 @@ returns-then-count-eq0 : tie.Need-returns-then-count-eq0
 returns-then-count-eq0 c n g e = sym (waits_none n g (sym e ∙ c.if-count-eq0.true) _)
 
 returns-then-allow : tie.Need-returns-then-allow
-returns-then-count-eq0-then-allow c n g e = rw c.if-allow.true (sym (waits_allowed n g (omega arith)))
+returns-then-allow c n g e = rw c.if-allow.true (sym (waits_allowed n g (omega arith)))
 
 returns : tie.Need-returns
-returns-then-count-eq0 c n g e = rw c.if-allow.false (sym (waits_refused n g (omega arith)))
+returns c n g e = rw c.if-allow.false (sym (waits_refused n g (omega arith)))
 
 pub waits_verdict_spec : {M : Type 1} → statement M
-waits_verdict_spec = tie.close (tie.spec returns-then-count-eq0 returns-then-count-eq0-then-allow returns-then-count-eq0)
+waits_verdict_spec = tie.close (tie.spec returns-then-count-eq0 returns-then-allow returns)

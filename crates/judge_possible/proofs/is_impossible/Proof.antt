@@ -27,14 +27,14 @@ means_impossible-requires c κs = search rules
 returns-in-Done : tie.Need-returns-in-Done
 unfolding is_impossible
 returns-in-Done c shape entered least =
-    let j = c.before.before.judge_possible in
-    sym (ap said c.enum_told-1.given.1) ∙ impossible_by _ _ least j.result (j.ensures shape entered)
+    let j = c.judge_possible in
+    sym (ap said c.in-Done.is) ∙ impossible_by _ _ least j.result (j.ensures shape entered)
 
 returns-in-Refused : tie.Need-returns-in-Refused
-returns-in-Done-in-Refused c shape entered least =
+returns-in-Refused c shape entered least =
     let k = c.before.before in
-    let j = k.before.before.judge_possible in
-    c.means_impossible.ensures ∙ sym (ap said k.k-1.given.1) ∙ impossible_by _ _ least j.result (j.ensures shape entered)
+    let j = k.judge_possible in
+    c.means_impossible.ensures ∙ sym (ap said k.in-Refused.is) ∙ impossible_by _ _ least j.result (j.ensures shape entered)
 
 pub is_impossible_spec : {M : Type 1} → statement M
 is_impossible_spec =
@@ -45,4 +45,4 @@ is_impossible_spec =
     enum_known-k
     means_impossible-requires
     returns-in-Done
-    returns-in-Done-in-Refused)
+    returns-in-Refused)

@@ -38,7 +38,7 @@ Sheet s = Shape (count s) (members (graph (words s))) × Entered (count s) (memb
 
 -- What is known where 10 is tested: they pass 8, and the test is that of the definition.
 passed : (f : tie.After-feasible) → let s = (passing f).before in Sheet s → judge_order (count s) (graph (words s)) ≡ given tt
-passed f sheet = sorting_order _ _ ((passing f).before.sort.ensures sheet.0 sheet.1) (not-false _ (passing f).if-not-sort.false)
+passed f sheet = sorting_order _ _ ((passing f).sort.ensures sheet.0 sheet.1) (not-false _ (passing f).if-not-sort.false)
 
 settles : (f : tie.After-feasible) → let s = (passing f).before in Sheet s → f.feasible.result ≡ rests (count s) (words s)
 settles f sheet = f.feasible.ensures sheet.0 (all_rooted _ _ (passed f sheet) (start (passing f).before).requires.some sheet.0 sheet.1)
@@ -50,20 +50,20 @@ first w sheet = let f = (keeping w).before in first_done _ _ (passed f sheet) (s
 waits : (w : tie.After-waits_for_itself) → let s = (passing (keeping w).before).before in Sheet s → w.waits_for_itself.result ≡ inconsistent (count s) (graph (words s))
 waits w sheet =
     let f = (keeping w).before in
-    let found = (passing f).before.sort.ensures sheet.0 sheet.1 in
+    let found = (passing f).sort.ensures sheet.0 sheet.1 in
     w.waits_for_itself.ensures (record { shape = sheet.0; anchors = found.found (not-false _ (passing f).if-not-sort.left); passes = passed f sheet })
 
 sort-requires : tie.Need-sort-requires
 sort-requires c κs = search rules
 
 returns-then-not-sort : tie.Need-returns-then-not-sort
-returns-then-not-sort c shape entered = sym (possible_refused _ _ 8 (first_refused _ _ _ (sorting_order _ _ (c.before.sort.ensures shape entered) (not-true _ c.if-not-sort.true))))
+returns-then-not-sort c shape entered = sym (possible_refused _ _ 8 (first_refused _ _ _ (sorting_order _ _ (c.sort.ensures shape entered) (not-true _ c.if-not-sort.true))))
 
 feasible-requires : tie.Need-feasible-requires
 feasible-requires c κs = search rules
 
 returns-then-not-feasible : tie.Need-returns-then-not-feasible
-returns-then-not-sort-then-not-feasible c shape entered =
+returns-then-not-feasible c shape entered =
     let f = c.before in
     let sheet : Sheet (passing f).before = (shape, entered) in
     sym (possible_refused _ _ 10 (first_10 _ _ (passed f sheet) (sym (settles f sheet) ∙ not-true _ c.if-not-feasible.true)))
@@ -72,10 +72,10 @@ waits_for_itself-requires : tie.Need-waits_for_itself-requires
 waits_for_itself-requires c κs = search rules
 
 returns-then-waits_for_itself : tie.Need-returns-then-waits_for_itself
-returns-then-not-sort-then-waits_for_itself c shape entered = let w = c.before in sym (possible_11 _ _ (first w (shape, entered)) (sym (waits w (shape, entered)) ∙ c.if-waits_for_itself.true))
+returns-then-waits_for_itself c shape entered = let w = c.before in sym (possible_11 _ _ (first w (shape, entered)) (sym (waits w (shape, entered)) ∙ c.if-waits_for_itself.true))
 
 returns : tie.Need-returns
-returns-then-not-sort c shape entered = let w = c.before in sym (possible_done _ _ (first w (shape, entered)) (sym (waits w (shape, entered)) ∙ c.if-waits_for_itself.false))
+returns c shape entered = let w = c.before in sym (possible_done _ _ (first w (shape, entered)) (sym (waits w (shape, entered)) ∙ c.if-waits_for_itself.false))
 
 pub judge_possible_spec : {M : Type 1} → statement M
 judge_possible_spec =
@@ -84,7 +84,7 @@ judge_possible_spec =
     sort-requires
     returns-then-not-sort
     feasible-requires
-    returns-then-not-sort-then-not-feasible
+    returns-then-not-feasible
     waits_for_itself-requires
-    returns-then-not-sort-then-waits_for_itself
-    returns-then-not-sort)
+    returns-then-waits_for_itself
+    returns)

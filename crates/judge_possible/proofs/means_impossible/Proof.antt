@@ -10,11 +10,11 @@ refusal_number-number-requires c κs = search rules
 
 returns-then-number-eq10 : tie.Need-returns-then-number-eq10
 unfolding is_impossible
-returns-then-number-eq10 c = rw (← c.before.refusal_number-number.ensures.0, eq-eqb c.before.refusal_number-number.result 10 c.if-number-eq10.true)
+returns-then-number-eq10 c = rw (← c.refusal_number-number.ensures.0, eq-eqb c.refusal_number-number.result 10 c.if-number-eq10.true)
 
 returns-else-number-eq10 : tie.Need-returns-else-number-eq10
 unfolding is_impossible
-returns-then-number-eq10-else-number-eq10 c = rw (← c.before.refusal_number-number.ensures.0, ne_eqb c.before.refusal_number-number.result 10 c.if-number-eq10.false)
+returns-else-number-eq10 c = rw (← c.refusal_number-number.ensures.0, ne_eqb c.refusal_number-number.result 10 c.if-number-eq10.false)
 
 pub means_impossible_spec : {M : Type 1} → statement M
-means_impossible_spec = tie.close (tie.spec refusal_number-number-requires returns-then-number-eq10 returns-then-number-eq10-else-number-eq10)
+means_impossible_spec = tie.close (tie.spec refusal_number-number-requires returns-then-number-eq10 returns-else-number-eq10)

@@ -25,8 +25,8 @@ is_inconsistent-requires : tie.Need-is_inconsistent-requires
 is_inconsistent-requires c κs = search rules
 
 returns : tie.Need-returns
-returns-then-not-reach c p = c.is_inconsistent.ensures.1 _ (reached_reaches p.shape ((reached c).reach.ensures.0 p.anchors))
+returns c p = c.is_inconsistent.ensures.1 _ (reached_reaches p.shape ((reached c).reach.ensures.0 p.anchors))
 
 pub waits_for_itself_spec : {M : Type 1} → statement M
 waits_for_itself_spec =
-    tie.close (tie.spec reach-requires returns-then-not-reach is_inconsistent-requires returns-then-not-reach)
+    tie.close (tie.spec reach-requires returns-then-not-reach is_inconsistent-requires returns)

@@ -19,23 +19,23 @@ has_late-requires : tie.Need-has_late-requires
 has_late-requires c κs = search rules
 
 returns-then-not-has_late : tie.Need-returns-then-not-has_late
-returns-then-not-has_late c w = timely_passes (least c.before) (start c.before).requires.few w.well w.acyclic (sym c.before.has_late.ensures ∙ not-true _ c.if-not-has_late.true)
+returns-then-not-has_late c w = timely_passes (least c.before) (start c.before).requires.few w.well w.acyclic (sym c.has_late.ensures ∙ not-true _ c.if-not-has_late.true)
 
 closes_circle-requires : tie.Need-closes_circle-requires
 closes_circle-requires c κs = search rules
 
 returns-then-closes_circle : tie.Need-returns-then-closes_circle
-returns-then-not-has_late-then-closes_circle c w =
+returns-then-closes_circle c w =
     let s = c.before.before.before in
-    circle_refused (least s) (start s).requires.few w.well (sym (c.before.closes_circle.ensures (least s) w.well.shape w.waits) ∙ c.if-closes_circle.true)
+    circle_refused (least s) (start s).requires.few w.well (sym (c.closes_circle.ensures (least s) w.well.shape w.waits) ∙ c.if-closes_circle.true)
 
 leaves_times-requires : tie.Need-leaves_times-requires
 leaves_times-requires c κs = search rules
 
 returns : tie.Need-returns
-returns-then-not-has_late c w =
+returns c w =
     let s = c.before.before.before.before in
-    let no_circle = sym (c.before.before.closes_circle.ensures (least s) w.well.shape w.waits) ∙ c.before.if-closes_circle.false in
+    let no_circle = sym (c.closes_circle.ensures (least s) w.well.shape w.waits) ∙ c.if-closes_circle.false in
     c.leaves_times.ensures w.well w.gains w.leasts w.waits no_circle ∙ times_refused (least s) (start s).requires.few w.well no_circle
 
 pub can_serialize_spec : {M : Type 1} → statement M
@@ -45,6 +45,6 @@ can_serialize_spec =
     has_late-requires
     returns-then-not-has_late
     closes_circle-requires
-    returns-then-not-has_late-then-closes_circle
+    returns-then-closes_circle
     leaves_times-requires
-    returns-then-not-has_late)
+    returns)

@@ -15,7 +15,7 @@ abbrev decreases-loop-k : tie.decreases-loop-k
 decreases-loop-k es seen₀ k₀ seen k = length es - k
 
 loop-k-init : tie.Need-loop-k-init invariant-loop-k decreases-loop-k
-loop-k-init c = (omega arith, seen_none c.before.args.es.now)
+loop-k-init c = (omega arith, seen_none c.args.es.now)
 
 offset_bounds-es-k : tie.Need-offset_bounds-es-k invariant-loop-k decreases-loop-k
 offset_bounds-es-k c = search rules
@@ -35,13 +35,13 @@ loop-k-smaller c = search rules
 loop-k-preserved : tie.Need-loop-k-preserved invariant-loop-k decreases-loop-k
 loop-k-preserved c =
     let s = c.before.before.before in
-    (search rules, seen_more s.before.before.args.es.now s.loop-k.k _ _ (search rules) s.loop-k.invariant.1 c.union-seen.ensures)
+    (search rules, seen_more s.args.es.now s.loop-k.k _ _ (search rules) s.loop-k.invariant.1 c.union-seen.ensures)
 
 is_late-requires : tie.Need-is_late-requires invariant-loop-k decreases-loop-k
 is_late-requires c κs = search rules
 
 returns : tie.Need-returns invariant-loop-k decreases-loop-k
-returns c = c.is_late.ensures ∙ seen_all _ _ _ c.before.loop-k-test.false c.before.before.loop-k.invariant.1
+returns c = c.is_late.ensures ∙ seen_all _ _ _ c.loop-k-test.false c.loop-k.invariant.1
 
 pub has_late_spec : {M : Type 1} → statement M
 has_late_spec =

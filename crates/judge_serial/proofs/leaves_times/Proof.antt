@@ -57,7 +57,7 @@ none_told : (s : tie.After-is_none) → s.is_none.result ≡ eqb (entry (table s
 none_told s =
     let w = walked s.before.before in
     let square : Square 64 w.walks_if_possible.last.0 = w.walks_if_possible.ensures.square in
-    rw (read_says w.walks_if_possible.last.0 square {v = 0} {k = 0} (search rules) (search rules) s.before.is_none-arg-1.given) at s.is_none.ensures
+    rw (read_says w.walks_if_possible.last.0 square {v = 0} {k = 0} (search rules) (search rules) s.is_none-arg-1.given) at s.is_none.ensures
 
 slice_bounds-walks_if_possible-end : tie.Need-slice_bounds-walks_if_possible-end
 slice_bounds-walks_if_possible-end c = search rules
@@ -85,7 +85,7 @@ is_none-requires : tie.Need-is_none-requires
 is_none-requires c κs = search rules
 
 returns-then-is_none : tie.Need-returns-then-is_none
-returns-then-not-walks_if_possible-then-is_none c = λ well gains leasts waits no_circle.
+returns-then-is_none c = λ well gains leasts waits no_circle.
     let e = c.before.before.before in
     let none = eqb-true (entry (table e) 0 0) 0 (sym (none_told c.before) ∙ c.if-is_none.true) in
     untried_infeasible (least e) (start (walked e)).requires.few well gains leasts.leasts no_circle (table e) (offsets e well leasts waits) (λ T. omega (arith, T.source, none))
@@ -94,11 +94,11 @@ settled-requires : tie.Need-settled-requires
 settled-requires c κs = search rules
 
 returns : tie.Need-returns
-returns-then-not-walks_if_possible c = λ well gains leasts waits no_circle.
+returns c = λ well gains leasts waits no_circle.
     let n = c.before.before.before in
     let e = n.before.before in
     let few = (start (walked e)).requires.few in
-    let some = eqb-false (entry (table e) 0 0) 0 (sym (none_told n) ∙ c.before.before.if-is_none.false) in
+    let some = eqb-false (entry (table e) 0 0) 0 (sym (none_told n) ∙ c.if-is_none.false) in
     c.settled.ensures (maps_within (least e) few well.shape waits)
     ∙ ap (λ (l : List Edge). all (handed_on (table e)) l) (edges_waited (least e) few well.shape waits)
     ∙ settled_feasible (least e) few well gains leasts.leasts no_circle (table e) (offsets e well leasts waits) (omega (arith, some))
@@ -113,6 +113,6 @@ leaves_times_spec =
     bounds-d-0
     bounds-d-0-else-not-walks_if_possible
     is_none-requires
-    returns-then-not-walks_if_possible-then-is_none
+    returns-then-is_none
     settled-requires
-    returns-then-not-walks_if_possible)
+    returns)

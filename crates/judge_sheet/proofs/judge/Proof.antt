@@ -13,7 +13,7 @@ answer-found-requires : tie.Need-answer-found-requires
 answer-found-requires c κs = search rules
 
 returns : tie.Need-returns
-returns c = record { verdict = c.before.answer-found.ensures.verdict }
+returns c = record { verdict = c.answer-found.ensures.verdict }
 
 pub judge_spec : {M : Type 1} → statement M
 judge_spec = tie.close (tie.spec slice_bounds-answer-end slice_bounds-answer-end-2 answer-found-requires returns)

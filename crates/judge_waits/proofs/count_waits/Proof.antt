@@ -39,7 +39,7 @@ count-total-requires c κs = search rules
 overflow_add-total : tie.Need-overflow_add-total invariant-loop-i decreases-loop-i
 overflow_add-total c =
     let s = c.before.before.before in
-    let maps = s.before.args.maps.now in
+    let maps = s.args.maps.now in
     omega (arith, s.loop-i.invariant.1, sum_small maps s.loop-i.i, c.count-total.ensures, select_length_bound (test_bit (get_or maps s.loop-i.i 0)) 64)
 
 overflow_add-i : tie.Need-overflow_add-i invariant-loop-i decreases-loop-i
@@ -51,17 +51,17 @@ loop-i-smaller c = search rules
 loop-i-preserved : tie.Need-loop-i-preserved invariant-loop-i decreases-loop-i
 loop-i-preserved c =
     let s = c.before.before.before in
-    let maps = s.before.args.maps.now in
+    let maps = s.args.maps.now in
     (omega arith, omega (arith, s.loop-i.invariant.1, c.count-total.ensures, sum_below_more (members_of maps) s.loop-i.i))
 
 returns : tie.Need-returns invariant-loop-i decreases-loop-i
 returns c =
     let s = c.before in
-    let e : s.loop-i.i ≡ s.before.args.n = omega arith in
-    let few : s.before.args.n ≤ 64 = search rules in
-    let maps = s.before.args.maps.now in
+    let e : s.loop-i.i ≡ s.args.n = omega arith in
+    let few : s.args.n ≤ 64 = search rules in
+    let maps = s.args.maps.now in
     let total = s.loop-i.invariant.1 ∙ ap (sum_below (members_of maps)) e in
-    (total ∙ sym (flatMap_length (λ i. select_below (test_bit (get_or maps i 0)) 64) s.before.args.n), λ g h. total ∙ count_by s.before.args.n g s.before.args.maps.now few h)
+    (total ∙ sym (flatMap_length (λ i. select_below (test_bit (get_or maps i 0)) 64) s.args.n), λ g h. total ∙ count_by s.args.n g s.args.maps.now few h)
 
 pub count_waits_spec : {M : Type 1} → statement M
 count_waits_spec =

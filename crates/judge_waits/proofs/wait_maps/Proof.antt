@@ -37,13 +37,13 @@ below : (s : tie.After-hold_up invariant-loop-k decreases-loop-k) → (turn s).l
 below s = returning_below (some s) (turn s).loop-k.invariant
 
 overflow_add-at : tie.Need-overflow_add-at invariant-loop-k decreases-loop-k
-overflow_add-at c = omega (arith, c.before.before.requires.0.few)
+overflow_add-at c = omega (arith, c.requires.0.few)
 
 offset_bounds-lists-at : tie.Need-offset_bounds-lists-at invariant-loop-k decreases-loop-k
-offset_bounds-lists-at c = omega (arith, c.before.before.requires.0.few)
+offset_bounds-lists-at c = omega (arith, c.requires.0.few)
 
 bounds-lists-at : tie.Need-bounds-lists-at invariant-loop-k decreases-loop-k
-bounds-lists-at c = omega (arith, c.before.before.before.requires.0.long)
+bounds-lists-at c = omega (arith, c.requires.0.long)
 
 index-k-requires : tie.Need-index-k-requires invariant-loop-k decreases-loop-k
 index-k-requires c κs = search rules
@@ -58,14 +58,14 @@ overflow_sub-k : tie.Need-overflow_sub-k invariant-loop-k decreases-loop-k
 overflow_sub-k c = search rules
 
 offset_bounds-es-k : tie.Need-offset_bounds-es-k invariant-loop-k decreases-loop-k
-offset_bounds-es-k c = omega (arith, c.before.before.loop-k.invariant.few)
+offset_bounds-es-k c = omega (arith, c.loop-k.invariant.few)
 
 bounds-es-k : tie.Need-bounds-es-k invariant-loop-k decreases-loop-k
-bounds-es-k c = omega (arith, c.before.before.before.loop-k.invariant.few)
+bounds-es-k c = omega (arith, c.loop-k.invariant.few)
 
 hold_up-requires : tie.Need-hold_up-requires invariant-loop-k decreases-loop-k
 hold_up-requires c κs =
-    let L = c.before.before.before.loop-k.invariant in
+    let L = c.loop-k.invariant in
     ((L.been (omega arith)).long, L.back (omega arith))
 
 overflow_add-at-in-loop-k : tie.Need-overflow_add-at-in-loop-k invariant-loop-k decreases-loop-k

@@ -48,11 +48,11 @@ loop-left-preserved : tie.Need-loop-left-preserved invariant-loop-left decreases
 loop-left-preserved c a =
     let s = c.before in
     let u = (lowest s).lowest-u in
-    gather_more (turn s).before.args.rows.now _ _ _ _ u.result a u.ensures.below u.ensures.member (c.without_lowest-left.ensures _ u.ensures) s.union-all.ensures
+    gather_more (turn s).args.rows.now _ _ _ _ u.result a u.ensures.below u.ensures.member (c.without_lowest-left.ensures _ u.ensures) s.union-all.ensures
     ∙ (turn s).loop-left.invariant a
 
 returns : tie.Need-returns invariant-loop-left decreases-loop-left
-returns c a = gather_all c.before.before.args.rows.now _ c.before.loop-left.left a (omega arith) ∙ c.before.loop-left.invariant a
+returns c a = gather_all c.args.rows.now _ c.loop-left.left a (omega arith) ∙ c.loop-left.invariant a
 
 pub gather_spec : {M : Type 1} → statement M
 gather_spec =

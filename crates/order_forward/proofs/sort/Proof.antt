@@ -52,10 +52,10 @@ bounds-sets-0-2 c = search rules
 draw-requires : tie.Need-draw-requires
 draw-requires c κs =
     let f = found (entered c) in
-    record { few = (start f.before).requires.few; ordered = f.before.arrange.ensures.ordered (not-false _ f.if-not-arrange.left); long = (enters (entered c)).long }
+    record { few = (start f.before).requires.few; ordered = f.arrange.ensures.ordered (not-false _ f.if-not-arrange.left); long = (enters (entered c)).long }
 
 returns : tie.Need-returns
-returns-then-not-arrange c shape into =
+returns c shape into =
     let i = entered c.before in
     let a = (found i).before in
     let p = (start a).pre in
@@ -76,4 +76,4 @@ sort_spec =
     insert-own-requires
     bounds-sets-0-2
     draw-requires
-    returns-then-not-arrange)
+    returns)

@@ -10,16 +10,16 @@ carry_on-left-requires c κs = search rules
 
 returns-then-left-eq0 : tie.Need-returns-then-left-eq0
 returns-then-left-eq0 c =
-    let h = c.before.carry_on-left.ensures in
+    let h = c.carry_on-left.ensures in
     carried_then (λ v x. inr x) h (carried_rest h.long c.if-left-eq0.true)
 
 carry_back-requires : tie.Need-carry_back-requires
 carry_back-requires c κs =
-    let p = c.before.before.before.before.before.before.requires in
-    (p.0, record { listed = p.1.listed; long = c.before.before.carry_on-left.ensures.long })
+    let p = c.requires in
+    (p.0, record { listed = p.1.listed; long = c.carry_on-left.ensures.long })
 
 returns : tie.Need-returns
-returns-then-left-eq0 c = carried_then (λ v x. inr x) c.before.before.before.carry_on-left.ensures c.carry_back.ensures
+returns c = carried_then (λ v x. inr x) c.carry_on-left.ensures c.carry_back.ensures
 
 pub carry_spec : {M : Type 1} → statement M
-carry_spec = tie.close (tie.spec carry_on-left-requires returns-then-left-eq0 carry_back-requires returns-then-left-eq0)
+carry_spec = tie.close (tie.spec carry_on-left-requires returns-then-left-eq0 carry_back-requires returns)

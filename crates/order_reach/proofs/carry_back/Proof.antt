@@ -17,15 +17,15 @@ abbrev decreases-loop-k : tie.decreases-loop-k
 decreases-loop-k rows₀ marks es lists n left₀ k₀ rows left k = k
 
 loop-k-init : tie.Need-loop-k-init invariant-loop-k decreases-loop-k
-loop-k-init c = (omega arith, carried_none c.before.before.requires.1.long (λ v x. omega (arith, x.0, x.1)))
+loop-k-init c = (omega arith, carried_none c.requires.1.long (λ v x. omega (arith, x.0, x.1)))
 
 overflow_sub-k : tie.Need-overflow_sub-k invariant-loop-k decreases-loop-k
 overflow_sub-k c = search rules
 
 visit-left-requires : tie.Need-visit-left-requires invariant-loop-k decreases-loop-k
 visit-left-requires c κs =
-    let p = c.before.before.before.before.before.requires in
-    let h = c.before.before.loop-k.invariant in
+    let p = c.requires in
+    let h = c.loop-k.invariant in
     (omega (arith, h.0, p.0), record { listed = p.1.listed; long = h.1.long })
 
 loop-k-smaller : tie.Need-loop-k-smaller invariant-loop-k decreases-loop-k
@@ -38,7 +38,7 @@ loop-k-preserved c =
 
 returns : tie.Need-returns invariant-loop-k decreases-loop-k
 returns c =
-    let h = c.before.loop-k.invariant.1 in
+    let h = c.loop-k.invariant.1 in
     carried_then (λ v x. inl (omega arith, x)) h (carried_none h.long (λ v x. x))
 
 pub carry_back_spec : {M : Type 1} → statement M

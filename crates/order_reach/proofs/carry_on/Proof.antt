@@ -15,7 +15,7 @@ abbrev decreases-loop-k : tie.decreases-loop-k
 decreases-loop-k rows₀ marks es lists order n left₀ k₀ rows left k = n - k
 
 loop-k-init : tie.Need-loop-k-init invariant-loop-k decreases-loop-k
-loop-k-init c = carried_none c.before.before.requires.1.long (λ v x. x)
+loop-k-init c = carried_none c.requires.1.long (λ v x. x)
 
 bounds-order-k : tie.Need-bounds-order-k invariant-loop-k decreases-loop-k
 bounds-order-k c = search rules
@@ -25,8 +25,8 @@ place-u-requires c κs = search rules
 
 visit-left-requires : tie.Need-visit-left-requires invariant-loop-k decreases-loop-k
 visit-left-requires c κs =
-    let p = c.before.before.before.before.before.before.before.requires in
-    (c.before.place-u.ensures.1, record { listed = p.1.listed; long = c.before.before.before.before.loop-k.invariant.long })
+    let p = c.requires in
+    (c.place-u.ensures.1, record { listed = p.1.listed; long = c.loop-k.invariant.long })
 
 overflow_add-k : tie.Need-overflow_add-k invariant-loop-k decreases-loop-k
 overflow_add-k c = search rules
@@ -35,10 +35,10 @@ loop-k-smaller : tie.Need-loop-k-smaller invariant-loop-k decreases-loop-k
 loop-k-smaller c = search rules
 
 loop-k-preserved : tie.Need-loop-k-preserved invariant-loop-k decreases-loop-k
-loop-k-preserved c = carried_then (λ v x. inl x) c.before.before.before.before.before.loop-k.invariant c.visit-left.ensures
+loop-k-preserved c = carried_then (λ v x. inl x) c.loop-k.invariant c.visit-left.ensures
 
 returns : tie.Need-returns invariant-loop-k decreases-loop-k
-returns c = c.before.loop-k.invariant
+returns c = c.loop-k.invariant
 
 pub carry_on_spec : {M : Type 1} → statement M
 carry_on_spec =

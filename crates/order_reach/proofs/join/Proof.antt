@@ -24,8 +24,8 @@ insert_if-requires c κs = search rules
 
 returns : tie.Need-returns
 returns c =
-    let p = c.before.before.before.requires in
-    joined _ _ _ _ _ _ p.0 p.1 c.before.union-new.ensures c.insert_if.ensures
+    let p = c.requires in
+    joined _ _ _ _ _ _ p.0 p.1 c.union-new.ensures c.insert_if.ensures
 
 pub join_spec : {M : Type 1} → statement M
 join_spec =

@@ -38,10 +38,10 @@ insert_if-all-requires : tie.Need-insert_if-all-requires invariant-loop-k decrea
 insert_if-all-requires c κs = search rules
 
 offset_bounds-lists-u : tie.Need-offset_bounds-lists-u invariant-loop-k decreases-loop-k
-offset_bounds-lists-u c = omega (arith, c.before.before.before.requires.0)
+offset_bounds-lists-u c = omega (arith, c.requires.0)
 
 bounds-lists-u : tie.Need-bounds-lists-u invariant-loop-k decreases-loop-k
-bounds-lists-u c = let p = c.before.before.before.before.requires in omega (arith, p.0, p.1.listed.long)
+bounds-lists-u c = let p = c.requires in omega (arith, p.0, p.1.listed.long)
 
 index-k-requires : tie.Need-index-k-requires invariant-loop-k decreases-loop-k
 index-k-requires c κs = search rules
@@ -55,16 +55,16 @@ overflow_sub-k : tie.Need-overflow_sub-k invariant-loop-k decreases-loop-k
 overflow_sub-k c = search rules
 
 offset_bounds-es-k : tie.Need-offset_bounds-es-k invariant-loop-k decreases-loop-k
-offset_bounds-es-k c = omega (arith, c.before.before.loop-k.invariant.few)
+offset_bounds-es-k c = omega (arith, c.loop-k.invariant.few)
 
 bounds-es-k : tie.Need-bounds-es-k invariant-loop-k decreases-loop-k
-bounds-es-k c = omega (arith, c.before.before.before.loop-k.invariant.few)
+bounds-es-k c = omega (arith, c.loop-k.invariant.few)
 
 push_word-left-requires : tie.Need-push_word-left-requires invariant-loop-k decreases-loop-k
 push_word-left-requires c κs =
     let t = c.before.before.before in
     let own = t.loop-k.invariant.leaves (omega arith) in
-    (t.loop-k.invariant.been.long, rw own t.before.before.before.insert_if-all.ensures)
+    (t.loop-k.invariant.been.long, rw own t.insert_if-all.ensures)
 
 overflow_add-k : tie.Need-overflow_add-k invariant-loop-k decreases-loop-k
 overflow_add-k c = let t = turn c in omega (arith, t.loop-k.inv.few, (entry t).pre.1.listed.few)
@@ -85,7 +85,7 @@ loop-k-preserved : tie.Need-loop-k-preserved invariant-loop-k decreases-loop-k
 loop-k-preserved c = let s = pushed c in following_turn (some s) (next c) (handed_more MayUse _ _ _ _ s.push_word-left.ensures) (turn s).loop-k.inv
 
 returns : tie.Need-returns invariant-loop-k decreases-loop-k
-returns c = following_end (omega arith) (handed_same MayUse _ _ _ _) c.before.loop-k.invariant
+returns c = following_end (omega arith) (handed_same MayUse _ _ _ _) c.loop-k.invariant
 
 pub push_edges_spec : {M : Type 1} → statement M
 push_edges_spec =

@@ -34,13 +34,13 @@ below : (s : tie.After-push_return-marks invariant-loop-k decreases-loop-k) → 
 below s = returning_below (some s) (turn s).loop-k.invariant
 
 overflow_add-at : tie.Need-overflow_add-at invariant-loop-k decreases-loop-k
-overflow_add-at c = omega (arith, c.before.before.requires.listed.few)
+overflow_add-at c = omega (arith, c.requires.listed.few)
 
 offset_bounds-lists-at : tie.Need-offset_bounds-lists-at invariant-loop-k decreases-loop-k
-offset_bounds-lists-at c = omega (arith, c.before.before.requires.listed.few)
+offset_bounds-lists-at c = omega (arith, c.requires.listed.few)
 
 bounds-lists-at : tie.Need-bounds-lists-at invariant-loop-k decreases-loop-k
-bounds-lists-at c = omega (arith, c.before.before.before.requires.listed.long)
+bounds-lists-at c = omega (arith, c.requires.listed.long)
 
 index-k-requires : tie.Need-index-k-requires invariant-loop-k decreases-loop-k
 index-k-requires c κs = search rules
@@ -54,14 +54,14 @@ overflow_sub-k : tie.Need-overflow_sub-k invariant-loop-k decreases-loop-k
 overflow_sub-k c = search rules
 
 offset_bounds-es-k : tie.Need-offset_bounds-es-k invariant-loop-k decreases-loop-k
-offset_bounds-es-k c = omega (arith, c.before.before.loop-k.invariant.few)
+offset_bounds-es-k c = omega (arith, c.loop-k.invariant.few)
 
 bounds-es-k : tie.Need-bounds-es-k invariant-loop-k decreases-loop-k
-bounds-es-k c = omega (arith, c.before.before.before.loop-k.invariant.few)
+bounds-es-k c = omega (arith, c.loop-k.invariant.few)
 
 push_return-marks-requires : tie.Need-push_return-marks-requires invariant-loop-k decreases-loop-k
 push_return-marks-requires c κs =
-    let L = c.before.before.before.loop-k.invariant in
+    let L = c.loop-k.invariant in
     ((L.been (omega arith)).long, L.back (omega arith))
 
 overflow_add-at-in-loop-k : tie.Need-overflow_add-at-in-loop-k invariant-loop-k decreases-loop-k
@@ -86,7 +86,7 @@ loop-k-preserved c =
     returning_turn (entry t).pre.listed (homing_pass _ _ _ _) (some s) c.index-k-in-loop-k.ensures (λ S. homing_turn _ _ _ _ _ _ _ (omega (arith, t.loop-k.inv.few)) S s.push_return-marks.ensures) t.loop-k.inv
 
 returns : tie.Need-returns invariant-loop-k decreases-loop-k
-returns c = homing_end _ _ _ _ _ (omega arith) (c.before.loop-k.invariant.done (omega arith))
+returns c = homing_end _ _ _ _ _ (omega arith) (c.loop-k.invariant.done (omega arith))
 
 pub push_returns_spec : {M : Type 1} → statement M
 push_returns_spec =

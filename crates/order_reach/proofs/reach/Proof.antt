@@ -21,28 +21,28 @@ strip-requires : tie.Need-strip-requires invariant-loop-done decreases-loop-done
 strip-requires c κs = search rules
 
 push_returns-marks-requires : tie.Need-push_returns-marks-requires invariant-loop-done decreases-loop-done
-push_returns-marks-requires c κs = record { listed = c.before.before.before.before.before.requires.listed; long = c.before.strip.ensures.long }
+push_returns-marks-requires c κs = record { listed = c.requires.listed; long = c.strip.ensures.long }
 
 loop-done-init : tie.Need-loop-done-init invariant-loop-done decreases-loop-done
 loop-done-init c =
-    let h = c.before.push_returns-marks.ensures in
-    (h.long, λ sets. searched_start _ _ _ _ _ _ sets c.before.before.before.strip.ensures h)
+    let h = c.push_returns-marks.ensures in
+    (h.long, λ sets. searched_start _ _ _ _ _ _ sets c.strip.ensures h)
 
 returns-then-marks-eq0 : tie.Need-returns-then-marks-eq0 invariant-loop-done decreases-loop-done
 returns-then-marks-eq0 c =
-    let h = c.before.push_returns-marks.ensures in
-    let start = c.before.before.before.strip.ensures in
+    let h = c.push_returns-marks.ensures in
+    let start = c.strip.ensures in
     (λ sets. searched_rest _ _ 0 _ _ h.long c.if-marks-eq0.true (searched_start _ _ _ _ _ _ sets start h), λ new. stripped_still _ _ _ _ _ h.long c.if-marks-eq0.true h.marked start)
 
 returns-then-marks-eq0-2 : tie.Need-returns-then-marks-eq0-2 invariant-loop-done decreases-loop-done
-returns-then-marks-eq0-then-marks-eq0-2 c =
-    let h = c.before.before.loop-done.invariant in
+returns-then-marks-eq0-2 c =
+    let h = c.loop-done.invariant in
     (λ sets. searched_rest _ _ _ _ _ h.0 c.if-marks-eq0-2.true (h.1 sets), λ new. absurd (true≢false new))
 
 carry-marks-requires : tie.Need-carry-marks-requires invariant-loop-done decreases-loop-done
 carry-marks-requires c κs =
-    let p = c.before.before.before.before.before.before.before.before.before.before.before.requires in
-    (p.few, record { listed = p.listed; long = c.before.before.before.loop-done.invariant.0 })
+    let p = c.requires in
+    (p.few, record { listed = p.listed; long = c.loop-done.invariant.0 })
 
 overflow_add-done : tie.Need-overflow_add-done invariant-loop-done decreases-loop-done
 overflow_add-done c = search rules
@@ -51,11 +51,11 @@ loop-done-smaller : tie.Need-loop-done-smaller invariant-loop-done decreases-loo
 loop-done-smaller c = search rules
 
 loop-done-preserved : tie.Need-loop-done-preserved invariant-loop-done decreases-loop-done
-loop-done-preserved c = (c.carry-marks.ensures.long, λ sets. searched_more _ _ _ _ _ _ _ c.carry-marks.ensures (c.before.before.before.before.loop-done.invariant.1 sets))
+loop-done-preserved c = (c.carry-marks.ensures.long, λ sets. searched_more _ _ _ _ _ _ _ c.carry-marks.ensures (c.loop-done.invariant.1 sets))
 
 returns : tie.Need-returns invariant-loop-done decreases-loop-done
-returns-then-marks-eq0 c =
-    let h = c.before.loop-done.invariant in
+returns c =
+    let h = c.loop-done.invariant in
     (λ sets. searched_end _ _ _ _ _ h.0 c.loop-done-test.false (h.1 sets), λ new. absurd (true≢false new))
 
 pub reach_spec : {M : Type 1} → statement M
@@ -68,9 +68,9 @@ reach_spec =
     push_returns-marks-requires
     returns-then-marks-eq0
     loop-done-init
-    returns-then-marks-eq0-then-marks-eq0-2
+    returns-then-marks-eq0-2
     carry-marks-requires
     overflow_add-done
     loop-done-smaller
     loop-done-preserved
-    returns-then-marks-eq0)
+    returns)

@@ -26,10 +26,10 @@ remove-requires : tie.Need-remove-requires invariant-loop-v decreases-loop-v
 remove-requires c κs = search rules
 
 offset_bounds-rows-v : tie.Need-offset_bounds-rows-v invariant-loop-v decreases-loop-v
-offset_bounds-rows-v c = omega (arith, c.before.before.before.loop-v.invariant.1.long)
+offset_bounds-rows-v c = omega (arith, c.loop-v.invariant.1.long)
 
 bounds-rows-v : tie.Need-bounds-rows-v invariant-loop-v decreases-loop-v
-bounds-rows-v c = omega (arith, c.before.before.before.loop-v.invariant.1.long)
+bounds-rows-v c = omega (arith, c.loop-v.invariant.1.long)
 
 overflow_add-v : tie.Need-overflow_add-v invariant-loop-v decreases-loop-v
 overflow_add-v c = search rules
@@ -40,12 +40,12 @@ loop-v-smaller c = search rules
 loop-v-preserved : tie.Need-loop-v-preserved invariant-loop-v decreases-loop-v
 loop-v-preserved c =
     let s = c.before.before.before in
-    (omega arith, made_row (stripped s.before.args.sets.now) _ (omega arith) s.loop-v.invariant.1 c.remove.ensures)
+    (omega arith, made_row (stripped s.args.sets.now) _ (omega arith) s.loop-v.invariant.1 c.remove.ensures)
 
 returns : tie.Need-returns invariant-loop-v decreases-loop-v
 returns c =
     let s = c.before in
-    stripped_end s.before.args.sets.now _ _ _ s.loop-v.invariant.0 c.loop-v-test.false s.loop-v.invariant.1
+    stripped_end s.args.sets.now _ _ _ s.loop-v.invariant.0 c.loop-v-test.false s.loop-v.invariant.1
 
 pub strip_spec : {M : Type 1} → statement M
 strip_spec =

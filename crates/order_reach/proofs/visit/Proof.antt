@@ -10,7 +10,7 @@ has-requires : tie.Need-has-requires
 has-requires c κs = search rules
 
 returns-then-not-has : tie.Need-returns-then-not-has
-returns-then-not-has c = visited_idle _ c.before.before.before.before.requires.1.long (sym c.before.has.ensures ∙ not-true _ c.if-not-has.true)
+returns-then-not-has c = visited_idle _ c.requires.1.long (sym c.has.ensures ∙ not-true _ c.if-not-has.true)
 
 remove-rest-requires : tie.Need-remove-rest-requires
 remove-rest-requires c κs = search rules
@@ -25,7 +25,7 @@ push_edges-requires : tie.Need-push_edges-requires
 push_edges-requires c κs = search rules
 
 returns : tie.Need-returns
-returns-then-not-has c = visited _ c.before.before.before.remove-rest.ensures c.push_edges.ensures
+returns c = visited _ c.remove-rest.ensures c.push_edges.ensures
 
 pub visit_spec : {M : Type 1} → statement M
 visit_spec =
@@ -37,4 +37,4 @@ visit_spec =
     offset_bounds-rows-u
     bounds-rows-u
     push_edges-requires
-    returns-then-not-has)
+    returns)

@@ -25,26 +25,26 @@ below-all-requires : tie.Need-below-all-requires invariant-loop-front decreases-
 below-all-requires c κs = search rules
 
 loop-front-init : tie.Need-loop-front-init invariant-loop-front decreases-loop-front
-loop-front-init c = placing_none c.before.requires.1 c.below-all.ensures
+loop-front-init c = placing_none c.requires.1 c.below-all.ensures
 
 pass-next-requires : tie.Need-pass-next-requires invariant-loop-front decreases-loop-front
-pass-next-requires c κs = let t = c.before.before.before in (t.before.before.requires.0, t.loop-front.invariant)
+pass-next-requires c κs = let t = c.before.before.before in (t.requires.0, t.loop-front.invariant)
 
 returns-then-next-front : tie.Need-returns-then-next-front invariant-loop-front decreases-loop-front
 returns-then-next-front c =
     let s = passed c.before in
-    placing_stuck (omega (arith, s.before.before.loop-front-test.taken)) (omega arith) (turn s).loop-front.inv s.pass-next.ensures
+    placing_stuck (omega (arith, s.loop-front-test.taken)) (omega arith) (turn s).loop-front.inv s.pass-next.ensures
 
 loop-front-smaller : tie.Need-loop-front-smaller invariant-loop-front decreases-loop-front
 loop-front-smaller c =
     let s = passed c.before in
-    omega (arith, s.before.before.loop-front-test.taken, s.pass-next.ensures.further, c.if-next-front.false)
+    omega (arith, s.loop-front-test.taken, s.pass-next.ensures.further, c.if-next-front.false)
 
 loop-front-preserved : tie.Need-loop-front-preserved invariant-loop-front decreases-loop-front
 loop-front-preserved c = (passed c.before).pass-next.ensures.placing
 
 returns : tie.Need-returns invariant-loop-front decreases-loop-front
-returns-then-next-front c = placing_all (omega (arith, c.loop-front-test.false)) c.before.before.loop-front.invariant
+returns c = placing_all (omega (arith, c.loop-front-test.false)) c.loop-front.invariant
 
 pub arrange_spec : {M : Type 1} → statement M
 arrange_spec =
@@ -58,4 +58,4 @@ arrange_spec =
     returns-then-next-front
     loop-front-smaller
     loop-front-preserved
-    returns-then-next-front)
+    returns)

@@ -36,7 +36,7 @@ place-after-requires c κs =
     let u = (lowest c).lowest-u in
     let P = (turn c).loop-rest.invariant in
     let room = placing_room u.result P.placing (P.untried u.result u.ensures.member) in
-    record { long = P.placing.long; step = u.ensures.below; place = omega (arith, room, (turn c).before.requires.0) }
+    record { long = P.placing.long; step = u.ensures.below; place = omega (arith, room, (turn c).requires.0) }
 
 without_lowest-rest-requires : tie.Need-without_lowest-rest-requires invariant-loop-rest decreases-loop-rest
 without_lowest-rest-requires c κs = omega arith
@@ -50,10 +50,10 @@ loop-rest-preserved : tie.Need-loop-rest-preserved invariant-loop-rest decreases
 loop-rest-preserved c =
     let s = c.before.before in
     let u = (lowest s).lowest-u in
-    passing_more u.result c.without_lowest-rest.result (turn s).before.requires.0 (turn s).loop-rest.invariant u.ensures.member (c.without_lowest-rest.ensures _ u.ensures) c.before.place-after.ensures
+    passing_more u.result c.without_lowest-rest.result (turn s).requires.0 (turn s).loop-rest.invariant u.ensures.member (c.without_lowest-rest.ensures _ u.ensures) c.place-after.ensures
 
 returns : tie.Need-returns invariant-loop-rest decreases-loop-rest
-returns c = passing_end (omega arith) c.before.loop-rest.invariant
+returns c = passing_end (omega arith) c.loop-rest.invariant
 
 pub pass_spec : {M : Type 1} → statement M
 pass_spec =

@@ -11,7 +11,7 @@ both-blocking-requires : tie.Need-both-blocking-requires
 both-blocking-requires c κs = search rules
 
 returns-then-blocking-ne0 : tie.Need-returns-then-blocking-ne0
-returns-then-blocking-ne0 c = inl (record { blocked = blocked_by _ _ _ c.before.both-blocking.ensures (search rules) (λ e. omega arith); same_order = refl; same_left = refl; same_placed = refl })
+returns-then-blocking-ne0 c = inl (record { blocked = blocked_by _ _ _ c.both-blocking.ensures (search rules) (λ e. omega arith); same_order = refl; same_left = refl; same_placed = refl })
 
 overflow_cast-order : tie.Need-overflow_cast-order
 overflow_cast-order c = search rules
@@ -26,7 +26,7 @@ overflow_add-result : tie.Need-overflow_add-result
 overflow_add-result c = search rules
 
 returns : tie.Need-returns
-returns-then-blocking-ne0 c = inr (record { free = none_blocks _ _ _ c.before.before.both-blocking.ensures (omega arith); stores = refl; leaves = c.remove-left.ensures; next = refl })
+returns c = inr (record { free = none_blocks _ _ _ c.both-blocking.ensures (omega arith); stores = refl; leaves = c.remove-left.ensures; next = refl })
 
 pub place_spec : {M : Type 1} → statement M
 place_spec =
@@ -38,4 +38,4 @@ place_spec =
     bounds-order-at
     remove-left-requires
     overflow_add-result
-    returns-then-blocking-ne0)
+    returns)

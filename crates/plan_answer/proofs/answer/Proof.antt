@@ -22,7 +22,7 @@ slice_bounds-read-end : tie.Need-slice_bounds-read-end
 slice_bounds-read-end c = search rules
 
 read-report-requires : tie.Need-read-report-requires
-read-report-requires c κs = record { room = room_brief _ _ (sym c.before.before.before.is_brief.ensures ∙ c.before.before.if-is_brief.true); blank = search rules }
+read-report-requires c κs = record { room = room_brief _ _ (sym c.is_brief.ensures ∙ c.if-is_brief.true); blank = search rules }
 
 slice_bounds-answer_read-end : tie.Need-slice_bounds-answer_read-end
 slice_bounds-answer_read-end c = search rules
@@ -45,7 +45,7 @@ slice_bounds-read-end-then-is_brief-2 : tie.Need-slice_bounds-read-end-then-is_b
 slice_bounds-read-end-then-is_brief-2 c = search rules
 
 read-report-requires-then-is_brief-2 : tie.Need-read-report-requires-then-is_brief-2
-read-report-requires-then-is_brief-2 c κs = record { room = room_brief _ _ (sym c.before.before.before.is_brief-2.ensures ∙ c.before.before.if-is_brief-2.true); blank = search rules }
+read-report-requires-then-is_brief-2 c κs = record { room = room_brief _ _ (sym c.is_brief-2.ensures ∙ c.if-is_brief-2.true); blank = search rules }
 
 slice_bounds-answer_read-end-then-is_brief-2 : tie.Need-slice_bounds-answer_read-end-then-is_brief-2
 slice_bounds-answer_read-end-then-is_brief-2 c = search rules
@@ -59,7 +59,7 @@ shape_of-out-then-is_brief-2 : tie.Need-shape_of-out-then-is_brief-2
 shape_of-out-then-is_brief-2 c = search rules
 
 returns-then-is_brief-2 : tie.Need-returns-then-is_brief-2
-returns-then-is_brief-then-is_brief-2 c = search rules
+returns-then-is_brief-2 c = search rules
 
 is_brief-requires-3 : tie.Need-is_brief-requires-3
 is_brief-requires-3 c κs = search rules
@@ -68,7 +68,7 @@ slice_bounds-read-end-then-is_brief-3 : tie.Need-slice_bounds-read-end-then-is_b
 slice_bounds-read-end-then-is_brief-3 c = search rules
 
 read-report-requires-then-is_brief-3 : tie.Need-read-report-requires-then-is_brief-3
-read-report-requires-then-is_brief-3 c κs = record { room = room_brief _ _ (sym c.before.before.before.is_brief-3.ensures ∙ c.before.before.if-is_brief-3.true); blank = search rules }
+read-report-requires-then-is_brief-3 c κs = record { room = room_brief _ _ (sym c.is_brief-3.ensures ∙ c.if-is_brief-3.true); blank = search rules }
 
 slice_bounds-answer_read-end-then-is_brief-3 : tie.Need-slice_bounds-answer_read-end-then-is_brief-3
 slice_bounds-answer_read-end-then-is_brief-3 c = search rules
@@ -82,7 +82,7 @@ shape_of-out-then-is_brief-3 : tie.Need-shape_of-out-then-is_brief-3
 shape_of-out-then-is_brief-3 c = search rules
 
 returns-then-is_brief-3 : tie.Need-returns-then-is_brief-3
-returns-then-is_brief-then-is_brief-3 c = search rules
+returns-then-is_brief-3 c = search rules
 
 slice_bounds-read-end-2 : tie.Need-slice_bounds-read-end-2
 slice_bounds-read-end-2 c = search rules
@@ -102,7 +102,7 @@ shape_of-out : tie.Need-shape_of-out
 shape_of-out c = search rules
 
 returns : tie.Need-returns
-returns-then-is_brief c = search rules
+returns c = search rules
 
 pub answer_spec : {M : Type 1} → statement M
 answer_spec =
@@ -121,17 +121,17 @@ answer_spec =
     slice_bounds-answer_read-end-then-is_brief-2
     answer_read-requires-then-is_brief-2
     shape_of-out-then-is_brief-2
-    returns-then-is_brief-then-is_brief-2
+    returns-then-is_brief-2
     is_brief-requires-3
     slice_bounds-read-end-then-is_brief-3
     read-report-requires-then-is_brief-3
     slice_bounds-answer_read-end-then-is_brief-3
     answer_read-requires-then-is_brief-3
     shape_of-out-then-is_brief-3
-    returns-then-is_brief-then-is_brief-3
+    returns-then-is_brief-3
     slice_bounds-read-end-2
     read-report-requires-2
     slice_bounds-answer_read-end-2
     answer_read-requires-2
     shape_of-out
-    returns-then-is_brief)
+    returns)

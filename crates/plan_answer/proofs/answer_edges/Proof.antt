@@ -12,7 +12,7 @@ slice_bounds-answer_listed-end c = search rules
 
 answer_listed-requires : tie.Need-answer_listed-requires
 answer_listed-requires c κs =
-    let p = c.before.before.before.before.before.before.before.requires in
+    let p = c.requires in
     (record { sheet = p.0; room = simp length-replicate (omega arith); empty = zeros_empty few_listed (omega arith) }, p.1)
 
 shape_of-out-then-es-le-FEW_EDGES : tie.Need-shape_of-out-then-es-le-FEW_EDGES
@@ -26,14 +26,14 @@ slice_bounds-answer_listed-end-2 c = search rules
 
 answer_listed-requires-2 : tie.Need-answer_listed-requires-2
 answer_listed-requires-2 c κs =
-    let p = c.before.before.before.before.before.before.before.requires in
+    let p = c.requires in
     (record { sheet = p.0; room = simp length-replicate (omega (arith, p.0.edges)); empty = zeros_empty most_listed (omega arith) }, p.1)
 
 shape_of-out : tie.Need-shape_of-out
 shape_of-out c = search rules
 
 returns : tie.Need-returns
-returns-then-es-le-FEW_EDGES c = search rules
+returns c = search rules
 
 pub answer_edges_spec : {M : Type 1} → statement M
 answer_edges_spec =
@@ -46,4 +46,4 @@ answer_edges_spec =
     slice_bounds-answer_listed-end-2
     answer_listed-requires-2
     shape_of-out
-    returns-then-es-le-FEW_EDGES)
+    returns)

@@ -39,7 +39,7 @@ returns-in-Judgement : tie.Need-returns-in-Judgement
 returns-in-Judgement c os o =
     let told = c.before.before.before in
     let st = start told.before.before in
-    judged_responds _ _ _ st.args.allow os st.args.list.now st.args.out-1.now told.enum_told-1.given.1 (c.judge_edges.ensures st.pre.0.sheet.formed)
+    judged_responds _ _ _ st.args.allow os st.args.list.now st.args.out.now told.in-Judgement.is (c.judge_edges.ensures st.pre.0.sheet.formed)
 
 slice_bounds-answer_on-end : tie.Need-slice_bounds-answer_on-end
 slice_bounds-answer_on-end c = search rules
@@ -56,7 +56,7 @@ shape_of-out-then-n-le-FEW_STEPS : tie.Need-shape_of-out-then-n-le-FEW_STEPS
 shape_of-out-then-n-le-FEW_STEPS c = search rules
 
 returns-then-n-le-FEW_STEPS : tie.Need-returns-then-n-le-FEW_STEPS
-returns-in-Judgement-then-n-le-FEW_STEPS c = search rules
+returns-then-n-le-FEW_STEPS c = search rules
 
 slice_bounds-answer_on-end-then-n-le-SOME_STEPS : tie.Need-slice_bounds-answer_on-end-then-n-le-SOME_STEPS
 slice_bounds-answer_on-end-then-n-le-SOME_STEPS c = search rules
@@ -73,7 +73,7 @@ shape_of-out-then-n-le-SOME_STEPS : tie.Need-shape_of-out-then-n-le-SOME_STEPS
 shape_of-out-then-n-le-SOME_STEPS c = search rules
 
 returns-then-n-le-SOME_STEPS : tie.Need-returns-then-n-le-SOME_STEPS
-returns-in-Judgement-then-n-le-SOME_STEPS c = search rules
+returns-then-n-le-SOME_STEPS c = search rules
 
 slice_bounds-answer_on-end-2 : tie.Need-slice_bounds-answer_on-end-2
 slice_bounds-answer_on-end-2 c = search rules
@@ -90,7 +90,7 @@ shape_of-out : tie.Need-shape_of-out
 shape_of-out c = search rules
 
 returns : tie.Need-returns
-returns-in-Judgement c = search rules
+returns c = search rules
 
 pub answer_listed_spec : {M : Type 1} → statement M
 answer_listed_spec =
@@ -105,14 +105,14 @@ answer_listed_spec =
     answer_on-requires
     shape_of-lists-then-n-le-FEW_STEPS
     shape_of-out-then-n-le-FEW_STEPS
-    returns-in-Judgement-then-n-le-FEW_STEPS
+    returns-then-n-le-FEW_STEPS
     slice_bounds-answer_on-end-then-n-le-SOME_STEPS
     answer_on-requires-then-n-le-SOME_STEPS
     shape_of-lists-then-n-le-SOME_STEPS
     shape_of-out-then-n-le-SOME_STEPS
-    returns-in-Judgement-then-n-le-SOME_STEPS
+    returns-then-n-le-SOME_STEPS
     slice_bounds-answer_on-end-2
     answer_on-requires-2
     shape_of-lists
     shape_of-out
-    returns-in-Judgement)
+    returns)

@@ -23,11 +23,11 @@ abbrev check : tie.Else-not-accepted → tie.After-checked-verdict
 check s = s.before.before
 
 accepts : (s : tie.Else-not-accepted) → is_given (verdict_of (check s).checked-verdict.result) ≡ true
-accepts s = sym s.before.accepted.ensures ∙ not-false _ s.if-not-accepted.false
+accepts s = sym s.accepted.ensures ∙ not-false _ s.if-not-accepted.false
 
 tabulate-found-requires : tie.Need-tabulate-found-requires
 tabulate-found-requires c κs =
-    let p = c.before.before.before.before.before.before.before.before.requires in
+    let p = c.requires in
     (p.0, record { rows = search rules; maps = p.1; numbers = blank_found })
 
 checked-verdict-requires : tie.Need-checked-verdict-requires
@@ -45,10 +45,10 @@ returns-then-not-accepted c os o =
     let args = (start (tabulated k)).args in
     let listed = (tabulated k).tabulate-found.ensures.listed in
     let checks = k.checked-verdict.ensures.checks os o in
-    let no = sym c.before.accepted.ensures ∙ not-true _ c.if-not-accepted.true in
+    let no = sym c.accepted.ensures ∙ not-true _ c.if-not-accepted.true in
     record {
-      verdict = outcome_of args.question _ _ _ args.allow os args.list.now args.out-1.now listed.judges checks;
-      numbers = refused_stays args.question _ _ _ args.allow os args.list.now args.out-1.now listed.judges checks no;
+      verdict = outcome_of args.question _ _ _ args.allow os args.list.now args.out.now listed.judges checks;
+      numbers = refused_stays args.question _ _ _ args.allow os args.list.now args.out.now listed.judges checks no;
       waits = record { found = listed.found; blank = listed.blank };
     }
 
@@ -70,7 +70,7 @@ shape_of-out : tie.Need-shape_of-out
 shape_of-out c = search rules
 
 returns : tie.Need-returns
-returns-then-not-accepted c os o =
+returns c os o =
     let w = c.before.before in
     let e = w.before.before.before.before.before in
     let k = check e in
@@ -83,8 +83,8 @@ returns-then-not-accepted c os o =
     let right = list_right _ _ _ os _ _ checks (accepts e) in
     let fits = fitting held sheet.formed.gains sheet.formed.leasts sheet.few args.question os args.list.now _ o.long o.least right (k.checked-verdict.ensures.fits (accepts e)) in
     record {
-      verdict = outcome_of args.question _ _ _ args.allow os args.list.now args.out-1.now listed.judges checks;
-      numbers = given_written args.question _ _ _ args.allow os args.list.now args.out-1.now listed.judges checks (accepts e) (w.write.ensures _ sheet.formed.leasts held fits);
+      verdict = outcome_of args.question _ _ _ args.allow os args.list.now args.out.now listed.judges checks;
+      numbers = given_written args.question _ _ _ args.allow os args.list.now args.out.now listed.judges checks (accepts e) (w.write.ensures _ sheet.formed.leasts held fits);
       waits = record { found = listed.found; blank = listed.blank };
     }
 
@@ -100,4 +100,4 @@ answer_on_spec =
     write-requires
     shape_of-d
     shape_of-out
-    returns-then-not-accepted)
+    returns)

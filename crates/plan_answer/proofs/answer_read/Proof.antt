@@ -15,7 +15,7 @@ start s = s.before.before.before.before.before.before
 
 -- What was read: the sheet, held in the report and the words. Bytes are below 256.
 read_whole : (s : tie.In_default) → Whole (start s).args.s.now (start s).args.words.now (start s).args.leasts.now (start s).args.report
-read_whole s = whole (start s).args.s.now _ _ _ (λ i. (s.before.before.before.before.before.shared_slice_known-1.given i).fits) (start s).requires.0 s.enum_told-1.given.1
+read_whole s = whole (start s).args.s.now _ _ _ (λ i. (s.shared_slice_known-1.given i).fits) (start s).requires.0 s.in_default.is
 
 enum_known-reading : tie.Need-enum_known-reading
 enum_known-reading c = search rules
@@ -23,7 +23,7 @@ enum_known-reading c = search rules
 returns-in-Refused : tie.Need-returns-in-Refused
 returns-in-Refused c =
     let st = c.before.before.before.before.before.before.before in
-    refused_answers st.args.s.now (report_refused _ _ _ _ _ st.requires.0 c.before.reading-1.given.1) st.args.question st.args.allow st.args.list.now st.args.out-1.now refl st.requires.1 refl
+    refused_answers st.args.s.now (report_refused _ _ _ _ _ st.requires.0 c.in-Refused.is) st.args.question st.args.allow st.args.list.now st.args.out.now refl st.requires.1 refl
 
 enum_told-1 : tie.Need-enum_told-1
 enum_told-1 c = search rules
@@ -41,13 +41,13 @@ shape_of-out : tie.Need-shape_of-out
 shape_of-out c = search rules
 
 returns : tie.Need-returns
-returns-in-Refused c =
+returns c =
     let called = c.before.before in
     let s = called.before.before.before.before in
     let args = (start s).args in
     let w = read_whole s in
-    given_answers args.s.now w.found.is_given args.question args.allow args.list.now args.out-1.now
-    (sheet_responds w.fits w.found.holds args.question args.allow args.list.now args.out-1.now called.answer_edges.ensures)
+    given_answers args.s.now w.found.is_given args.question args.allow args.list.now args.out.now
+    (sheet_responds w.fits w.found.holds args.question args.allow args.list.now args.out.now called.answer_edges.ensures)
 
 pub answer_read_spec : {M : Type 1} → statement M
 answer_read_spec =
@@ -59,4 +59,4 @@ answer_read_spec =
     slice_bounds-answer_edges-end
     answer_edges-requires
     shape_of-out
-    returns-in-Refused)
+    returns)

@@ -16,21 +16,21 @@ start s = s.before.before
 
 -- Past the first test the verdict accepts.
 accepts : (s : tie.Else-not-accepted) → is_given (verdict_of (start s.before).args.verdict) ≡ true
-accepts s = sym s.before.accepted.ensures ∙ not-false _ s.if-not-accepted.false
+accepts s = sym s.accepted.ensures ∙ not-false _ s.if-not-accepted.false
 
 accepted-requires : tie.Need-accepted-requires
 accepted-requires c κs = search rules
 
 returns-then-not-accepted : tie.Need-returns-then-not-accepted
 returns-then-not-accepted c =
-    let no = sym c.before.accepted.ensures ∙ not-true _ c.if-not-accepted.true in
+    let no = sym c.accepted.ensures ∙ not-true _ c.if-not-accepted.true in
     record { checks = λ os o. sym (when_refused _ _ no); accepted = λ h. h; fits = λ h. absurd (both_ways h no) }
 
 wrong_list-requires : tie.Need-wrong_list-requires
 wrong_list-requires c κs = search rules
 
 returns-then-wrong_list : tie.Need-returns-then-wrong_list
-returns-then-not-accepted-then-wrong_list c =
+returns-then-wrong_list c =
     let tested = c.before in
     record {
       checks = λ os o. wrong_refused _ _ _ os _ _ (accepts tested.before) (sym (tested.wrong_list.ensures os o) ∙ c.if-wrong_list.true);
@@ -42,20 +42,20 @@ too_short-requires : tie.Need-too_short-requires
 too_short-requires c κs = search rules
 
 returns-then-too_short : tie.Need-returns-then-too_short
-returns-then-not-accepted-then-too_short c =
+returns-then-too_short c =
     let right = c.before.before in
     let tested = right.before in
     record {
-      checks = λ os o. short_refused _ _ _ os _ _ (accepts tested.before) (sym (tested.wrong_list.ensures os o) ∙ right.if-wrong_list.false) (sym c.before.too_short.ensures ∙ c.if-too_short.true);
+      checks = λ os o. short_refused _ _ _ os _ _ (accepts tested.before) (sym (tested.wrong_list.ensures os o) ∙ right.if-wrong_list.false) (sym c.too_short.ensures ∙ c.if-too_short.true);
       accepted = λ h. absurd (false≢true h);
       fits = λ h. absurd (false≢true h);
     }
 
 returns : tie.Need-returns
-returns-then-not-accepted c =
+returns c =
     let right = c.before.before in
     let tested = right.before in
-    let long = sym c.before.too_short.ensures ∙ c.if-too_short.false in
+    let long = sym c.too_short.ensures ∙ c.if-too_short.false in
     record {
       checks = λ os o. passes _ _ _ os _ _ (sym (tested.wrong_list.ensures os o) ∙ right.if-wrong_list.false) long;
       accepted = λ h. accepts tested.before;
@@ -69,7 +69,7 @@ checked_spec =
     accepted-requires
     returns-then-not-accepted
     wrong_list-requires
-    returns-then-not-accepted-then-wrong_list
+    returns-then-wrong_list
     too_short-requires
-    returns-then-not-accepted-then-too_short
-    returns-then-not-accepted)
+    returns-then-too_short
+    returns)

@@ -10,35 +10,35 @@ enum_told-1 : tie.Need-enum_told-1
 enum_told-1 c = search rules
 
 enum_told-in-Plan : tie.Need-enum_told-in-Plan
-enum_told-1-in-Plan c = search rules
+enum_told-in-Plan c = search rules
 
 overflow_mul-result : tie.Need-overflow_mul-result
 overflow_mul-result c = let start = c.before.before in record { fits = omega (arith, square_small start.args.n start.requires) }
 
 enum_told-in-Starts : tie.Need-enum_told-in-Starts
-enum_told-1-in-Starts c = search rules
+enum_told-in-Starts c = search rules
 
 returns-then-list-n : tie.Need-returns-then-list-n
-returns-then-list-n c = let start = c.before.before.before in rw c.before.enum_told-in-Starts-1.given.1 (list_short start.args.n start.args.list start.args.room c.if-list-n.true)
+returns-then-list-n c = let start = c.before.before.before in rw c.in-Starts.is (list_short start.args.n start.args.list start.args.room c.if-list-n.true)
 
 returns-in-Judgement : tie.Need-returns-in-Judgement
-returns-then-list-n-in-Judgement c = rw c.enum_told-1.given.1
+returns-in-Judgement c = rw c.in-Judgement.is
 
 returns-in-Plan : tie.Need-returns-in-Plan
-returns-then-list-n-in-Plan c = rw c.enum_told-in-Plan-1.given.1
+returns-in-Plan c = rw c.in-Plan.is
 
 returns-else-list-n : tie.Need-returns-else-list-n
-returns-then-list-n-else-list-n c = let start = c.before.before.before in rw c.before.enum_told-in-Starts-1.given.1 (list_long start.args.n start.args.list start.args.room c.if-list-n.false)
+returns-else-list-n c = let start = c.before.before.before in rw c.in-Starts.is (list_long start.args.n start.args.list start.args.room c.if-list-n.false)
 
 pub too_short_spec : {M : Type 1} → statement M
 too_short_spec =
     tie.close
     (tie.spec
     enum_told-1
-    enum_told-1-in-Plan
+    enum_told-in-Plan
     overflow_mul-result
-    enum_told-1-in-Starts
+    enum_told-in-Starts
     returns-then-list-n
-    returns-then-list-n-in-Judgement
-    returns-then-list-n-in-Plan
-    returns-then-list-n-else-list-n)
+    returns-in-Judgement
+    returns-in-Plan
+    returns-else-list-n)

@@ -38,28 +38,28 @@ highest-b-requires c κs = omega arith
 without_covered-kept-requires : tie.Need-without_covered-kept-requires invariant-loop-left decreases-loop-left
 without_covered-kept-requires c κs =
     let top = c.before.before in
-    let p = top.before.before.before.requires in
+    let p = top.requires in
     record { own = p.own; over = record { below = c.highest-b.ensures.below; inside = p.members _ (top.loop-left.invariant.0 _ c.highest-b.ensures.member); square = p.own.square } }
 
 remove-less-requires : tie.Need-remove-less-requires invariant-loop-left decreases-loop-left
-remove-less-requires c κs = c.before.highest-b.ensures.below
+remove-less-requires c κs = c.highest-b.ensures.below
 
 both-left-requires : tie.Need-both-left-requires invariant-loop-left decreases-loop-left
 both-left-requires c κs = search rules
 
 loop-left-smaller : tie.Need-loop-left-smaller invariant-loop-left decreases-loop-left
-loop-left-smaller c = sieving_less _ _ _ _ _ c.before.before.before.highest-b.ensures.member c.before.remove-less.ensures c.both-left.ensures
+loop-left-smaller c = sieving_less _ _ _ _ _ c.highest-b.ensures.member c.remove-less.ensures c.both-left.ensures
 
 loop-left-preserved : tie.Need-loop-left-preserved invariant-loop-left decreases-loop-left
 loop-left-preserved c =
     let top = c.before.before.before in
-    let inv = top.before.before.loop-left.invariant in (
-      λ a h. inv.0 a (part_of _ _ _ _ _ a (c.before.remove-less.ensures a) (c.both-left.ensures a) h),
-      λ T. sieving_turn _ _ _ _ _ _ _ _ _ top.highest-b.ensures.below top.highest-b.ensures.member c.before.remove-less.ensures c.both-left.ensures c.before.before.without_covered-kept.ensures T (inv.1 T),
+    let inv = top.loop-left.invariant in (
+      λ a h. inv.0 a (part_of _ _ _ _ _ a (c.remove-less.ensures a) (c.both-left.ensures a) h),
+      λ T. sieving_turn _ _ _ _ _ _ _ _ _ top.highest-b.ensures.below top.highest-b.ensures.member c.remove-less.ensures c.both-left.ensures c.without_covered-kept.ensures T (inv.1 T),
     )
 
 returns : tie.Need-returns invariant-loop-left decreases-loop-left
-returns c T a = sym (all_left_out _ _ _ T _ c.before.loop-left.left-1 _ (omega arith)) ∙ (c.before.loop-left.invariant.1 T).same a
+returns c T a = sym (all_left_out _ _ _ T _ c.loop-left.left-1 _ (omega arith)) ∙ (c.loop-left.invariant.1 T).same a
 
 pub deciding_set_spec : {M : Type 1} → statement M
 deciding_set_spec =

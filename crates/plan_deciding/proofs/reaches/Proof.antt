@@ -66,7 +66,7 @@ returns c p q r =
     let s = placed.before.before.before.before in
     let ways = s.requires.1 in
     -- The columns of a and of b.
-    let k = placed.before.before.place-k in
+    let k = placed.place-k in
     let j = placed.place-j in
     -- The cells of b for a, of v for b, and of v for a.
     let over = read_by_says s.args.d.now ways.over.square ways.over.inside k.ensures.1 s.args.number.now s.requires.0 k.ensures.0 first.sum_reaches-arg-1.given in

@@ -12,14 +12,14 @@ remove-requires c κs = search rules
 
 returns-then-out : tie.Need-returns-then-out
 returns-then-out c j =
-    let args = c.before.before.args in
-    let stands : (eqb j args.a && args.out) ≡ eqb j args.a = rw c.before.if-out.true (and-true (eqb j args.a)) in
+    let args = c.args in
+    let stands : (eqb j args.a && args.out) ≡ eqb j args.a = rw c.if-out.true (and-true (eqb j args.a)) in
     c.remove.ensures j ∙ ap (λ (t : Bool). test_bit args.map j && not t) (sym stands)
 
 returns : tie.Need-returns
-returns-then-out c j =
-    let args = c.before.args in
+returns c j =
+    let args = c.args in
     sym (rw (c.if-out.false, and-false (eqb j args.a)) (and-true (test_bit args.map j)))
 
 pub remove_if_spec : {M : Type 1} → statement M
-remove_if_spec = tie.close (tie.spec remove-requires returns-then-out returns-then-out)
+remove_if_spec = tie.close (tie.spec remove-requires returns-then-out returns)

@@ -21,8 +21,8 @@ without_reached-requires c κs = search rules
 
 returns : tie.Need-returns
 returns c p f g a =
-    let behind = c.before.before.remove-behind.ensures in
-    let given = c.before.both-given.ensures in
+    let behind = c.remove-behind.ensures in
+    let given = c.both-given.ensures in
     covered _ _ _ a _ _ _ _ _ (behind a) (given a) (c.without_reached.ensures p (λ j h. f j (given_of _ _ _ j (given j) h).0) (λ j h. g j (left_of _ _ _ j (behind j) (given_of _ _ _ j (given j) h).1)) a)
 
 pub without_covered_spec : {M : Type 1} → statement M

@@ -25,29 +25,29 @@ lowest-a-requires : tie.Need-lowest-a-requires invariant-loop-left decreases-loo
 lowest-a-requires c κs = omega arith
 
 reaches-out-requires : tie.Need-reaches-out-requires invariant-loop-left decreases-loop-left
-reaches-out-requires c κs = (c.lowest-a.ensures.below, c.before.before.before.requires)
+reaches-out-requires c κs = (c.lowest-a.ensures.below, c.requires)
 
 remove_if-kept-requires : tie.Need-remove_if-kept-requires invariant-loop-left decreases-loop-left
-remove_if-kept-requires c κs = c.before.lowest-a.ensures.below
+remove_if-kept-requires c κs = c.lowest-a.ensures.below
 
 without_lowest-left-requires : tie.Need-without_lowest-left-requires invariant-loop-left decreases-loop-left
 without_lowest-left-requires c κs = omega arith
 
 loop-left-smaller : tie.Need-loop-left-smaller invariant-loop-left decreases-loop-left
-loop-left-smaller c = removed_lt _ _ _ c.before.before.before.lowest-a.ensures.member (c.without_lowest-left.ensures _ c.before.before.before.lowest-a.ensures)
+loop-left-smaller c = removed_lt _ _ _ c.lowest-a.ensures.member (c.without_lowest-left.ensures _ c.lowest-a.ensures)
 
 loop-left-preserved : tie.Need-loop-left-preserved invariant-loop-left decreases-loop-left
 loop-left-preserved c =
     let least = c.before.before.before in
-    let inv = least.before.before.loop-left.invariant in
+    let inv = least.loop-left.invariant in
     let x = inv.0 _ least.lowest-a.ensures.member in
     let less = c.without_lowest-left.ensures _ least.lowest-a.ensures in (
       λ a h. inv.0 a (left_of _ _ _ a (less a) h),
-      λ p f g a. one_compared _ _ _ _ _ _ _ _ _ least.lowest-a.ensures.member (c.before.before.reaches-out.ensures (f _ x) (g _ x) p) c.before.remove_if-kept.ensures less a ∙ inv.1 p f g a,
+      λ p f g a. one_compared _ _ _ _ _ _ _ _ _ least.lowest-a.ensures.member (c.reaches-out.ensures (f _ x) (g _ x) p) c.remove_if-kept.ensures less a ∙ inv.1 p f g a,
     )
 
 returns : tie.Need-returns invariant-loop-left decreases-loop-left
-returns c p f g a = sym (all_compared _ _ _ _ c.before.loop-left.left _ (omega arith)) ∙ c.before.loop-left.invariant.1 p f g a
+returns c p f g a = sym (all_compared _ _ _ _ c.loop-left.left _ (omega arith)) ∙ c.loop-left.invariant.1 p f g a
 
 pub without_reached_spec : {M : Type 1} → statement M
 without_reached_spec =

@@ -13,10 +13,10 @@ has-requires : tie.Need-has-requires
 has-requires c κs = search rules
 
 returns-then-has : tie.Need-returns-then-has
-returns-then-x-least-then-has c = from_least _ _ _ _ _ (omega arith) (sym c.if-has.true ∙ c.before.has.ensures)
+returns-then-has c = from_least _ _ _ _ _ (omega arith) (sym c.if-has.true ∙ c.has.ensures)
 
 returns : tie.Need-returns
-returns-then-x-least c = from_least _ _ _ _ _ (omega arith) (sym c.if-has.false ∙ c.before.has.ensures)
+returns c = from_least _ _ _ _ _ (omega arith) (sym c.if-has.false ∙ c.has.ensures)
 
 pub delay_bad_spec : {M : Type 1} → statement M
-delay_bad_spec = tie.close (tie.spec returns-then-x-least has-requires returns-then-x-least-then-has returns-then-x-least)
+delay_bad_spec = tie.close (tie.spec returns-then-x-least has-requires returns-then-has returns)

@@ -46,11 +46,11 @@ delay_bad-requires : tie.Need-delay_bad-requires invariant-loop-i decreases-loop
 delay_bad-requires c κs = search rules
 
 returns-then-delay_bad : tie.Need-returns-then-delay_bad invariant-loop-i decreases-loop-i
-returns-then-list-i-then-delay_bad c =
+returns-then-delay_bad c =
     let s = top c.before in
     judged
     (sym
-    (any_below_by _ _ {k = s.loop-i.i} (omega arith) (outside_there _ _ _ _ _ (omega arith) (sym c.before.delay_bad.ensures ∙ c.if-delay_bad.true))))
+    (any_below_by _ _ {k = s.loop-i.i} (omega arith) (outside_there _ _ _ _ _ (omega arith) (sym c.delay_bad.ensures ∙ c.if-delay_bad.true))))
 
 overflow_add-i : tie.Need-overflow_add-i invariant-loop-i decreases-loop-i
 overflow_add-i c = search rules
@@ -61,12 +61,12 @@ loop-i-smaller c = search rules
 loop-i-preserved : tie.Need-loop-i-preserved invariant-loop-i decreases-loop-i
 loop-i-preserved c =
     let s = top c.before in
-    (omega arith, any_below_more _ _ s.loop-i.inv.1 (outside_there _ _ _ _ _ (omega arith) (sym c.before.delay_bad.ensures ∙ c.if-delay_bad.false)))
+    (omega arith, any_below_more _ _ s.loop-i.inv.1 (outside_there _ _ _ _ _ (omega arith) (sym c.delay_bad.ensures ∙ c.if-delay_bad.false)))
 
 returns : tie.Need-returns invariant-loop-i decreases-loop-i
-returns-then-list-i c =
-    let f : c.before.loop-i.i ≡ c.before.before.before.args.n = omega arith in
-    judged (sym (rw f at c.before.loop-i.invariant.1))
+returns c =
+    let f : c.loop-i.i ≡ c.args.n = omega arith in
+    judged (sym (rw f at c.loop-i.invariant.1))
 
 pub delays_bad_spec : {M : Type 1} → statement M
 delays_bad_spec =
@@ -81,8 +81,8 @@ delays_bad_spec =
     offset_bounds-leasts-i
     bounds-leasts-i
     delay_bad-requires
-    returns-then-list-i-then-delay_bad
+    returns-then-delay_bad
     overflow_add-i
     loop-i-smaller
     loop-i-preserved
-    returns-then-list-i)
+    returns)

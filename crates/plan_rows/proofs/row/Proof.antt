@@ -14,7 +14,7 @@ abbrev start : tie.In-Done → tie.Start
 start p = p.before.before.before.before
 
 asked : (p : tie.In-Done) → Asked (start p).args.table.now (start p).args.n (start p).args.v
-asked p = row_done (start p).args.table.now (start p).args.n (start p).args.v _ p.before.before.row_status.ensures p.enum_told-1.given.1
+asked p = row_done (start p).args.table.now (start p).args.n (start p).args.v _ p.row_status.ensures p.in-Done.is
 
 small : (p : tie.In-Done) → (start p).args.v * (start p).args.n + (start p).args.n ≤ longest_table
 small p = omega (arith, row_end (start p).args.n (start p).args.v (asked p).inside, square_small (start p).args.n (asked p).few)
@@ -44,7 +44,7 @@ slice_bounds-result-end : tie.Need-slice_bounds-result-end
 slice_bounds-result-end c = omega (arith, (asked c).long, row_end (start c).args.n (start c).args.v (asked c).inside)
 
 enum_told-in-Refused : tie.Need-enum_told-in-Refused
-enum_told-1-in-Refused c = search rules
+enum_told-in-Refused c = search rules
 
 slice_bounds-result-count-in-Refused : tie.Need-slice_bounds-result-count-in-Refused
 slice_bounds-result-count-in-Refused c = search rules
@@ -59,9 +59,9 @@ returns-in-Done : tie.Need-returns-in-Done
 returns-in-Done c = asked_part (asked c.before)
 
 returns-in-Refused : tie.Need-returns-in-Refused
-returns-in-Done-in-Refused c =
-    let a = c.before.before.before.before.before.args in
-    sym (row_refused a.table.now a.n a.v _ c.before.before.before.row_status.ensures c.before.enum_told-in-Refused-1.given.1)
+returns-in-Refused c =
+    let a = c.args in
+    sym (row_refused a.table.now a.n a.v _ c.row_status.ensures c.in-Refused.is)
 
 pub row_spec : {M : Type 1} → statement M
 row_spec =
@@ -75,9 +75,9 @@ row_spec =
     slice_bounds-result-count
     slice_bounds-result-start
     slice_bounds-result-end
-    enum_told-1-in-Refused
+    enum_told-in-Refused
     slice_bounds-result-count-in-Refused
     slice_bounds-result-start-in-Refused
     slice_bounds-result-end-in-Refused
     returns-in-Done
-    returns-in-Done-in-Refused)
+    returns-in-Refused)

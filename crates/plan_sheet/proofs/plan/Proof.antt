@@ -13,7 +13,7 @@ shape_of-table : tie.Need-shape_of-table
 shape_of-table c = search rules
 
 returns : tie.Need-returns
-returns c = let a = c.before.before.answer-found.ensures in record { verdict = a.verdict; numbers = a.numbers }
+returns c = let a = c.answer-found.ensures in record { verdict = a.verdict; numbers = a.numbers }
 
 pub plan_spec : {M : Type 1} → statement M
 plan_spec = tie.close (tie.spec slice_bounds-answer-end answer-found-requires shape_of-table returns)

@@ -50,8 +50,8 @@ shape_of-out c = search rules
 
 returns : tie.Need-returns invariant-loop-v decreases-loop-v
 returns c =
-    let e : c.before.loop-v.v ≡ c.before.before.before.before.before.args.n = omega arith in
-    started c.before.before.turns-row.ensures (rw e at c.before.loop-v.invariant.2)
+    let e : c.loop-v.v ≡ c.args.n = omega arith in
+    started c.turns-row.ensures (rw e at c.loop-v.invariant.2)
 
 pub fill_starts_spec : {M : Type 1} → statement M
 fill_starts_spec =

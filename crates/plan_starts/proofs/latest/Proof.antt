@@ -27,10 +27,10 @@ lowest-a-requires c κs = omega arith
 returns-then-n-a : tie.Need-returns-then-n-a invariant-loop-left decreases-loop-left
 returns-then-n-a c =
     let least = c.before in
-    sym (all_taken _ _ _ _ _ _ _ least.before.before.loop-left.left (λ k b. least.lowest-a.ensures.least k (omega arith))) ∙ least.before.before.loop-left.invariant
+    sym (all_taken _ _ _ _ _ _ _ least.loop-left.left (λ k b. least.lowest-a.ensures.least k (omega arith))) ∙ least.loop-left.invariant
 
 term_of-x-requires : tie.Need-term_of-x-requires invariant-loop-left decreases-loop-left
-term_of-x-requires c κs = record { row = c.before.before.before.before.before.requires.0; column = c.before.lowest-a.ensures.below; entered = omega arith }
+term_of-x-requires c κs = record { row = c.requires.0; column = c.lowest-a.ensures.below; entered = omega arith }
 
 larger-most-requires : tie.Need-larger-most-requires invariant-loop-left decreases-loop-left
 larger-most-requires c κs = search rules
@@ -39,18 +39,18 @@ without_lowest-left-requires : tie.Need-without_lowest-left-requires invariant-l
 without_lowest-left-requires c κs = omega arith
 
 loop-left-smaller : tie.Need-loop-left-smaller invariant-loop-left decreases-loop-left
-loop-left-smaller c = removed_lt _ _ _ c.before.before.before.before.lowest-a.ensures.member (c.without_lowest-left.ensures _ c.before.before.before.before.lowest-a.ensures)
+loop-left-smaller c = removed_lt _ _ _ c.lowest-a.ensures.member (c.without_lowest-left.ensures _ c.lowest-a.ensures)
 
 loop-left-preserved : tie.Need-loop-left-preserved invariant-loop-left decreases-loop-left
 loop-left-preserved c =
     let least = c.before.before.before.before in
-    one_taken _ _ _ _ _ _ _ _ _ _ _ _ (omega arith) least.lowest-a.ensures.member c.before.before.term_of-x.ensures c.before.larger-most.ensures (c.without_lowest-left.ensures _ least.lowest-a.ensures)
-    ∙ least.before.before.loop-left.invariant
+    one_taken _ _ _ _ _ _ _ _ _ _ _ _ (omega arith) least.lowest-a.ensures.member c.term_of-x.ensures c.larger-most.ensures (c.without_lowest-left.ensures _ least.lowest-a.ensures)
+    ∙ least.loop-left.invariant
 
 returns : tie.Need-returns invariant-loop-left decreases-loop-left
-returns-then-n-a c =
-    let none : (k : ℕ) → test_bit c.before.loop-left.left k ≡ false = λ k. ap (λ (x : ℕ). test_bit x k) (omega arith) ∙ test_zero k in
-    sym (all_taken _ _ _ _ _ _ _ c.before.loop-left.left (λ k b. none k)) ∙ c.before.loop-left.invariant
+returns c =
+    let none : (k : ℕ) → test_bit c.loop-left.left k ≡ false = λ k. ap (λ (x : ℕ). test_bit x k) (omega arith) ∙ test_zero k in
+    sym (all_taken _ _ _ _ _ _ _ c.loop-left.left (λ k b. none k)) ∙ c.loop-left.invariant
 
 pub latest_spec : {M : Type 1} → statement M
 latest_spec =
@@ -66,4 +66,4 @@ latest_spec =
     without_lowest-left-requires
     loop-left-smaller
     loop-left-preserved
-    returns-then-n-a)
+    returns)

@@ -36,7 +36,7 @@ bounds-b-v c = search rules
 
 returns-then-a-v : tie.Need-returns-then-a-v invariant-loop-v decreases-loop-v
 returns-then-a-v c =
-    sym (all_below_fails _ _ c.before.before.before.before.loop-v.v (omega arith) (ne_eqb _ _ c.if-a-v.true))
+    sym (all_below_fails _ _ c.loop-v.v (omega arith) (ne_eqb _ _ c.if-a-v.true))
 
 overflow_add-v : tie.Need-overflow_add-v invariant-loop-v decreases-loop-v
 overflow_add-v c = search rules
@@ -46,12 +46,12 @@ loop-v-smaller c = search rules
 
 loop-v-preserved : tie.Need-loop-v-preserved invariant-loop-v decreases-loop-v
 loop-v-preserved c =
-    (omega arith, all_below_more _ _ c.before.before.before.before.loop-v.invariant.1 (eq-eqb _ _ c.if-a-v.false))
+    (omega arith, all_below_more _ _ c.loop-v.invariant.1 (eq-eqb _ _ c.if-a-v.false))
 
 returns : tie.Need-returns invariant-loop-v decreases-loop-v
-returns-then-a-v c =
-    let e : c.before.loop-v.v ≡ c.before.before.args.n = omega arith in
-    sym (rw e at c.before.loop-v.invariant.1)
+returns c =
+    let e : c.loop-v.v ≡ c.args.n = omega arith in
+    sym (rw e at c.loop-v.invariant.1)
 
 pub same_spec : {M : Type 1} → statement M
 same_spec =
@@ -68,4 +68,4 @@ same_spec =
     overflow_add-v
     loop-v-smaller
     loop-v-preserved
-    returns-then-a-v)
+    returns)

@@ -21,11 +21,11 @@ narrow-requires : tie.Need-narrow-requires
 narrow-requires c κs = search rules
 
 returns : tie.Need-returns
-returns-then-v-eq0 c =
+returns c =
     let later = c.before.before.before in
-    c.narrow.ensures ∙ sym (start_at_later _ _ _ _ _ _ _ _ later.if-v-eq0.false c.before.latest-most.ensures)
+    c.narrow.ensures ∙ sym (start_at_later _ _ _ _ _ _ _ _ later.if-v-eq0.false c.latest-most.ensures)
 
 pub start_of_spec : {M : Type 1} → statement M
 start_of_spec =
     tie.close
-    (tie.spec returns-then-v-eq0 offset_bounds-sets-v bounds-sets-v latest-most-requires narrow-requires returns-then-v-eq0)
+    (tie.spec returns-then-v-eq0 offset_bounds-sets-v bounds-sets-v latest-most-requires narrow-requires returns)

@@ -26,7 +26,7 @@ sum-requires c κs = search rules
 
 returns : tie.Need-returns
 unfolding term
-returns c = c.sum.ensures ∙ ap (◌+◌ _) c.before.offset_at.ensures
+returns c = c.sum.ensures ∙ ap (◌+◌ _) c.offset_at.ensures
 
 pub term_of_spec : {M : Type 1} → statement M
 term_of_spec =

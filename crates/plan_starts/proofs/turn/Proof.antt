@@ -42,8 +42,8 @@ loop-v-preserved c =
 returns : tie.Need-returns invariant-loop-v decreases-loop-v
 unfolding next_row
 returns c =
-    let e : c.before.loop-v.v ≡ c.before.before.before.args.n = omega arith in
-    rw e at c.before.loop-v.invariant.2
+    let e : c.loop-v.v ≡ c.args.n = omega arith in
+    rw e at c.loop-v.invariant.2
 
 pub turn_spec : {M : Type 1} → statement M
 turn_spec =

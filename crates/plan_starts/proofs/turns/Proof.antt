@@ -27,7 +27,7 @@ same-requires c κs = search rules
 returns-then-same : tie.Need-returns-then-same invariant-loop-k decreases-loop-k
 returns-then-same c =
     let s = c.before.before.before.before.before.before.before in
-    row_after_stop _ _ _ _ _ _ _ _ (omega arith) s.loop-k.invariant.1 c.before.before.before.before.turn-next.ensures (sym c.before.same.ensures ∙ c.if-same.true)
+    row_after_stop _ _ _ _ _ _ _ _ (omega arith) s.loop-k.invariant.1 c.turn-next.ensures (sym c.same.ensures ∙ c.if-same.true)
 
 overflow_add-k : tie.Need-overflow_add-k invariant-loop-k decreases-loop-k
 overflow_add-k c = search rules
@@ -38,12 +38,12 @@ loop-k-smaller c = search rules
 loop-k-preserved : tie.Need-loop-k-preserved invariant-loop-k decreases-loop-k
 loop-k-preserved c =
     let s = c.before.before.before.before.before.before.before in
-    (omega arith, row_after_more _ _ _ _ _ _ _ _ s.loop-k.invariant.1 c.before.before.before.before.turn-next.ensures)
+    (omega arith, row_after_more _ _ _ _ _ _ _ _ s.loop-k.invariant.1 c.turn-next.ensures)
 
 returns : tie.Need-returns invariant-loop-k decreases-loop-k
-returns-then-same c =
-    let e : c.before.loop-k.k ≡ c.before.before.before.args.n = omega arith in
-    rw e at c.before.loop-k.invariant.1
+returns c =
+    let e : c.loop-k.k ≡ c.args.n = omega arith in
+    rw e at c.loop-k.invariant.1
 
 pub turns_spec : {M : Type 1} → statement M
 turns_spec =
@@ -58,4 +58,4 @@ turns_spec =
     overflow_add-k
     loop-k-smaller
     loop-k-preserved
-    returns-then-same)
+    returns)

@@ -40,8 +40,8 @@ shape_of-row c = search rules
 
 returns : tie.Need-returns invariant-loop-a decreases-loop-a
 returns c =
-    let e : c.before.loop-a.a ≡ c.before.before.args.count = omega arith in
-    rw e at c.before.loop-a.invariant.2
+    let e : c.loop-a.a ≡ c.args.count = omega arith in
+    rw e at c.loop-a.invariant.2
 
 pub clear_spec : {M : Type 1} → statement M
 clear_spec =

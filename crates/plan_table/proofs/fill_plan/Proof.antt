@@ -33,19 +33,19 @@ pub record InTable (n v : ℕ) (table : List ℕ) : Type 0 where
   pub small : n * n ≤ longest_table
   pub room : n * n ≤ length table
 
-same : (s : tie.At-loop-v invariant-loop-v decreases-loop-v) → length s.loop-v.table-1 ≡ length (start s).args.table-1.now
+same : (s : tie.At-loop-v invariant-loop-v decreases-loop-v) → length s.loop-v.table-1 ≡ length (start s).args.table.now
 same s = s.loop-v.invariant.1 ∙ clear_length _ _ _ (start s).requires.room (clearing s).clear.ensures
 
-in_table : (c : tie.In-loop-v invariant-loop-v decreases-loop-v) → InTable (start c.before).args.n c.before.loop-v.v c.before.loop-v.table-1
+in_table : (c : tie.In-loop-v invariant-loop-v decreases-loop-v) → InTable (start c.before).args.n c.loop-v.v c.loop-v.table-1
 in_table c =
     let p = (start c.before).pre in
     record { row = row_end _ _ (omega arith); small = square_small _ p.rows.few; room = omega (arith, same c.before, p.room) }
 
 overflow_mul-n : tie.Need-overflow_mul-n invariant-loop-v decreases-loop-v
-overflow_mul-n c = omega (arith, square_small _ c.before.requires.rows.few)
+overflow_mul-n c = omega (arith, square_small _ c.requires.rows.few)
 
 clear-requires : tie.Need-clear-requires invariant-loop-v decreases-loop-v
-clear-requires c κs = c.before.before.requires.room
+clear-requires c κs = c.requires.room
 
 loop-v-init : tie.Need-loop-v-init invariant-loop-v decreases-loop-v
 loop-v-init c = (omega arith, refl, λ T. first_rows_none _ _ _ _ _)
@@ -81,7 +81,7 @@ loop-v-preserved : tie.Need-loop-v-preserved invariant-loop-v decreases-loop-v
 loop-v-preserved c =
     let l = c.before.before.before.before in
     let s = l.before in
-    let filled = c.before.before.fill_row.ensures in
+    let filled = c.fill_row.ensures in
     (omega arith, search rules, λ T. first_rows_more _ _ _ _ _ _ _ _ (s.loop-v.invariant.2 T) (filled (T _ (omega arith)) (row_clear _ _ _ _ _ _ _ _ (omega arith) (in_table l).room (clearing s).clear.ensures (s.loop-v.invariant.2 T))))
 
 shape_of-table : tie.Need-shape_of-table invariant-loop-v decreases-loop-v

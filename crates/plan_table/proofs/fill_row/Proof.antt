@@ -14,7 +14,7 @@ shape_of-row : tie.Need-shape_of-row
 shape_of-row c = search rules
 
 returns : tie.Need-returns
-returns c T clear = row_filled _ _ _ _ _ _ _ _ (c.before.before.before.before.deciding_set-deciding.ensures T) c.before.before.before.before.before.before.requires.1.fits clear c.before.before.put_offsets.ensures
+returns c T clear = row_filled _ _ _ _ _ _ _ _ (c.deciding_set-deciding.ensures T) c.requires.1.fits clear c.put_offsets.ensures
 
 pub fill_row_spec : {M : Type 1} → statement M
 fill_row_spec = tie.close (tie.spec deciding_set-deciding-requires put_offsets-requires shape_of-row returns)

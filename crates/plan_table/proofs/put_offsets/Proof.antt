@@ -21,21 +21,21 @@ both-left-requires : tie.Need-both-left-requires invariant-loop-left decreases-l
 both-left-requires c κs = search rules
 
 loop-left-init : tie.Need-loop-left-init invariant-loop-left decreases-loop-left
-loop-left-init c = none_put _ _ (omega arith) c.before.below-first.ensures c.both-left.ensures
+loop-left-init c = none_put _ _ (omega arith) c.below-first.ensures c.both-left.ensures
 
 lowest-a-requires : tie.Need-lowest-a-requires invariant-loop-left decreases-loop-left
 lowest-a-requires c κs = omega arith
 
 offset_at-x-requires : tie.Need-offset_at-x-requires invariant-loop-left decreases-loop-left
-offset_at-x-requires c κs = (c.before.before.before.before.before.before.requires.0, c.lowest-a.ensures.below-first)
+offset_at-x-requires c κs = (c.requires.0, c.lowest-a.ensures.below-first)
 
 offset_bounds-row-a : tie.Need-offset_bounds-row-a invariant-loop-left decreases-loop-left
 offset_bounds-row-a c = search rules
 
 bounds-row-a : tie.Need-bounds-row-a invariant-loop-left decreases-loop-left
 bounds-row-a c =
-    let P = c.before.before.before.loop-left.invariant in
-    omega (arith, P.low _ c.before.lowest-a.ensures.member, P.fits)
+    let P = c.loop-left.invariant in
+    omega (arith, P.low _ c.lowest-a.ensures.member, P.fits)
 
 without_lowest-left-requires : tie.Need-without_lowest-left-requires invariant-loop-left decreases-loop-left
 without_lowest-left-requires c κs = omega arith
@@ -48,13 +48,13 @@ loop-left-smaller c =
 loop-left-preserved : tie.Need-loop-left-preserved invariant-loop-left decreases-loop-left
 loop-left-preserved c =
     let least = c.before.before in
-    one_put _ least.lowest-a.ensures.member c.before.offset_at-x.ensures (c.without_lowest-left.ensures _ least.lowest-a.ensures) least.before.before.loop-left.invariant
+    one_put _ least.lowest-a.ensures.member c.offset_at-x.ensures (c.without_lowest-left.ensures _ least.lowest-a.ensures) least.loop-left.invariant
 
 shape_of-row : tie.Need-shape_of-row invariant-loop-left decreases-loop-left
 shape_of-row c = search rules
 
 returns : tie.Need-returns invariant-loop-left decreases-loop-left
-returns c = all_put (omega arith) c.before.loop-left.invariant
+returns c = all_put (omega arith) c.loop-left.invariant
 
 pub put_offsets_spec : {M : Type 1} → statement M
 put_offsets_spec =

@@ -10,7 +10,7 @@ shape_of-out : tie.Need-shape_of-out
 shape_of-out c = search rules
 
 returns : tie.Need-returns
-returns c = let a = c.before.before.answer-found.ensures in record { verdict = a.verdict; numbers = a.numbers }
+returns c = let a = c.answer-found.ensures in record { verdict = a.verdict; numbers = a.numbers }
 
 pub starts_spec : {M : Type 1} → statement M
 starts_spec = tie.close (tie.spec answer-found-requires shape_of-out returns)

@@ -48,12 +48,12 @@ loop-v-smaller c = search rules
 loop-v-preserved : tie.Need-loop-v-preserved invariant-loop-v decreases-loop-v
 loop-v-preserved c =
     let s = c.before.before.before.before in
-    (omega arith, λ long. sourced_more _ _ _ _ _ _ c.before.insert-set.ensures s.before.below-all.ensures c.both.ensures (search rules) (s.loop-v.invariant.1 long))
+    (omega arith, λ long. sourced_more _ _ _ _ _ _ c.insert-set.ensures s.below-all.ensures c.both.ensures (search rules) (s.loop-v.invariant.1 long))
 
 returns : tie.Need-returns invariant-loop-v decreases-loop-v
 returns c =
     let s = c.before in
-    let e : s.loop-v.v ≡ s.before.before.args.n = omega arith in
+    let e : s.loop-v.v ≡ s.args.n = omega arith in
     λ long v a b. (s.loop-v.invariant.1 long).made v a (omega (arith, e))
 
 pub add_source_spec : {M : Type 1} → statement M

@@ -27,7 +27,7 @@ feasible-requires c κs = let p = (start c.before).requires.0 in record { some =
 returns-then-not-accepted : tie.Need-returns-then-not-accepted
 returns-then-not-accepted c =
     let s = c.before.before in
-    let no = sym s.accepted.ensures ∙ not-true _ c.before.if-not-accepted.true in
+    let no = sym s.accepted.ensures ∙ not-true _ c.if-not-accepted.true in
     (λ rooted long. c.feasible.ensures (start s).requires.0.sheet.formed.shape rooted, λ h k p. absurd (both_ways k no))
 
 add_source-requires : tie.Need-add_source-requires
@@ -43,7 +43,7 @@ shape_of-d : tie.Need-shape_of-d
 shape_of-d c = search rules
 
 returns : tie.Need-returns
-returns-then-not-accepted c =
+returns c =
     let walked = c.before in
     let sourced = walked.before.before.before.before in
     let st = start (looked sourced) in
@@ -68,4 +68,4 @@ fill_spec =
     add_source-requires
     walks_if_possible-requires
     shape_of-d
-    returns-then-not-accepted)
+    returns)

@@ -31,7 +31,7 @@ told s =
 
 judge_assuming_feasible-found-requires : tie.Need-judge_assuming_feasible-found-requires
 judge_assuming_feasible-found-requires c κs =
-    let p = c.before.before.before.before.before.requires in
+    let p = c.requires in
     (record { some = p.0.sheet.some; few = p.0.sheet.few; listed = p.0.adjacent }, record { long = search rules; rows = record { no_reach = p.1.rows; no_maps = p.1.maps-1 } })
 
 returns-then-not-found : tie.Need-returns-then-not-found
@@ -49,7 +49,7 @@ shape_of-d-then-fill : tie.Need-shape_of-d-then-fill
 shape_of-d-then-fill c = search rules
 
 returns-then-fill : tie.Need-returns-then-fill
-returns-then-not-found-then-fill c =
+returns-then-fill c =
     let f = c.before.before in
     let a = analysed (sorted f) in
     let sheet = (start a).pre.0.sheet in
@@ -65,12 +65,12 @@ shape_of-d : tie.Need-shape_of-d
 shape_of-d c = search rules
 
 returns : tie.Need-returns
-returns-then-not-found c =
+returns c =
     let f = c.before.before.before in
     let a = analysed (sorted f) in
     let sheet = (start a).pre.0.sheet in
     let presumed = a.judge_assuming_feasible-found.ensures sheet.formed in
-    let impossible = sym (told f) ∙ c.before.if-fill.false in
+    let impossible = sym (told f) ∙ c.if-fill.false in
     record { listed = infeasible_listed presumed (not-false _ (sorted f).if-not-found.false) impossible refl; held = λ h. absurd (false≢true h) }
 
 pub tabulate_spec : {M : Type 1} → statement M
@@ -81,6 +81,6 @@ tabulate_spec =
     returns-then-not-found
     fill-requires
     shape_of-d-then-fill
-    returns-then-not-found-then-fill
+    returns-then-fill
     shape_of-d
-    returns-then-not-found)
+    returns)

@@ -23,7 +23,7 @@ one_for-count-requires : tie.Need-one_for-count-requires invariant-loop-a decrea
 one_for-count-requires c κs = search rules
 
 overflow_add-count : tie.Need-overflow_add-count invariant-loop-a decreases-loop-a
-overflow_add-count c = let e = c.before in omega (arith, one_small e.entry-x.result _ c.one_for-count.ensures, e.before.before.loop-a.invariant.2)
+overflow_add-count c = let e = c.before in omega (arith, one_small e.entry-x.result _ c.one_for-count.ensures, e.loop-a.invariant.2)
 
 overflow_add-a : tie.Need-overflow_add-a invariant-loop-a decreases-loop-a
 overflow_add-a c = search rules
@@ -34,11 +34,11 @@ loop-a-smaller c = search rules
 loop-a-preserved : tie.Need-loop-a-preserved invariant-loop-a decreases-loop-a
 loop-a-preserved c =
     let e = c.before in
-    let l = e.before.before.loop-a in
+    let l = e.loop-a in
     (omega arith, compared_more _ _ _ l.a l.count e.entry-x.result c.one_for-count.result l.invariant.1 e.entry-x.ensures c.one_for-count.ensures, omega (arith, one_small e.entry-x.result _ c.one_for-count.ensures, l.invariant.2))
 
 returns : tie.Need-returns invariant-loop-a decreases-loop-a
-returns c = record { value = compared_all _ _ _ _ _ (omega arith) c.before.loop-a.invariant.1; small = omega arith }
+returns c = record { value = compared_all _ _ _ _ _ (omega arith) c.loop-a.invariant.1; small = omega arith }
 
 pub comparisons_spec : {M : Type 1} → statement M
 comparisons_spec =

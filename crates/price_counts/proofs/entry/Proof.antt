@@ -22,7 +22,7 @@ bounds-plan-at : tie.Need-bounds-plan-at
 bounds-plan-at c = let s = c.before in omega (arith, place_inside s.args.n s.args.v s.args.a s.requires.row s.requires.column)
 
 returns : tie.Need-returns
-returns c = entry_read _ _ _ _ c.before.requires.row c.before.requires.column c.before.requires.planned.long
+returns c = entry_read _ _ _ _ c.requires.row c.requires.column c.requires.planned.long
 
 pub entry_spec : {M : Type 1} → statement M
 entry_spec = tie.close (tie.spec overflow_mul-at overflow_add-at offset_bounds-plan-at bounds-plan-at returns)

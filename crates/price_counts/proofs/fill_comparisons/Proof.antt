@@ -27,10 +27,10 @@ offset_bounds-list-v : tie.Need-offset_bounds-list-v invariant-loop-v decreases-
 offset_bounds-list-v c = let s = start c.before.before in omega (arith, s.pre.planned.few)
 
 bounds-list-v : tie.Need-bounds-list-v invariant-loop-v decreases-loop-v
-bounds-list-v c = let s = start c.before.before in omega (arith, s.pre.room, c.before.before.loop-v.invariant.long)
+bounds-list-v c = let s = start c.before.before in omega (arith, s.pre.room, c.loop-v.invariant.long)
 
 overflow_add-total : tie.Need-overflow_add-total invariant-loop-v decreases-loop-v
-overflow_add-total c = let s = start c.before.before in omega (arith, s.pre.planned.few, c.comparisons-count.ensures.small, c.before.before.loop-v.invariant.small)
+overflow_add-total c = let s = start c.before.before in omega (arith, s.pre.planned.few, c.comparisons-count.ensures.small, c.loop-v.invariant.small)
 
 overflow_add-v : tie.Need-overflow_add-v invariant-loop-v decreases-loop-v
 overflow_add-v c = let s = start c.before.before in omega (arith, s.pre.planned.few)
@@ -39,13 +39,13 @@ loop-v-smaller : tie.Need-loop-v-smaller invariant-loop-v decreases-loop-v
 loop-v-smaller c = omega arith
 
 loop-v-preserved : tie.Need-loop-v-preserved invariant-loop-v decreases-loop-v
-loop-v-preserved c = filling_more c.before.before.loop-v.invariant c.comparisons-count.ensures (omega arith) (start c.before.before).pre.room
+loop-v-preserved c = filling_more c.loop-v.invariant c.comparisons-count.ensures (omega arith) (start c.before.before).pre.room
 
 shape_of-list : tie.Need-shape_of-list invariant-loop-v decreases-loop-v
 shape_of-list c = search rules
 
 returns : tie.Need-returns invariant-loop-v decreases-loop-v
-returns c = filling_all c.before.loop-v.invariant (omega arith)
+returns c = filling_all c.loop-v.invariant (omega arith)
 
 pub fill_comparisons_spec : {M : Type 1} → statement M
 fill_comparisons_spec =

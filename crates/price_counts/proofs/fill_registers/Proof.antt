@@ -28,10 +28,10 @@ offset_bounds-list-a : tie.Need-offset_bounds-list-a invariant-loop-a decreases-
 offset_bounds-list-a c = let s = start c.before.before in omega (arith, s.pre.planned.few)
 
 bounds-list-a : tie.Need-bounds-list-a invariant-loop-a decreases-loop-a
-bounds-list-a c = let s = start c.before.before in omega (arith, s.pre.room, c.before.before.loop-a.invariant.long)
+bounds-list-a c = let s = start c.before.before in omega (arith, s.pre.room, c.loop-a.invariant.long)
 
 overflow_add-total : tie.Need-overflow_add-total invariant-loop-a decreases-loop-a
-overflow_add-total c = let s = start c.before.before in omega (arith, s.pre.planned.few, c.registers-count.ensures.small, c.before.before.loop-a.invariant.small)
+overflow_add-total c = let s = start c.before.before in omega (arith, s.pre.planned.few, c.registers-count.ensures.small, c.loop-a.invariant.small)
 
 overflow_add-a : tie.Need-overflow_add-a invariant-loop-a decreases-loop-a
 overflow_add-a c = let s = start c.before.before in omega (arith, s.pre.planned.few)
@@ -40,13 +40,13 @@ loop-a-smaller : tie.Need-loop-a-smaller invariant-loop-a decreases-loop-a
 loop-a-smaller c = omega arith
 
 loop-a-preserved : tie.Need-loop-a-preserved invariant-loop-a decreases-loop-a
-loop-a-preserved c = filling_more c.before.before.loop-a.invariant c.registers-count.ensures (omega arith) (start c.before.before).pre.room
+loop-a-preserved c = filling_more c.loop-a.invariant c.registers-count.ensures (omega arith) (start c.before.before).pre.room
 
 shape_of-list : tie.Need-shape_of-list invariant-loop-a decreases-loop-a
 shape_of-list c = search rules
 
 returns : tie.Need-returns invariant-loop-a decreases-loop-a
-returns c = filling_all c.before.loop-a.invariant (omega arith)
+returns c = filling_all c.loop-a.invariant (omega arith)
 
 pub fill_registers_spec : {M : Type 1} → statement M
 fill_registers_spec =

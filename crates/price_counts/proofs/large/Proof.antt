@@ -10,7 +10,7 @@ has-requires : tie.Need-has-requires
 has-requires c κs = search rules
 
 returns-then-not-has : tie.Need-returns-then-not-has
-returns-then-not-has c = large_fixed _ _ _ _ (sym c.before.has.ensures ∙ not-true _ c.if-not-has.true)
+returns-then-not-has c = large_fixed _ _ _ _ (sym c.has.ensures ∙ not-true _ c.if-not-has.true)
 
 largest_offset-requires : tie.Need-largest_offset-requires
 largest_offset-requires c κs = search rules
@@ -19,10 +19,10 @@ index-requires : tie.Need-index-requires
 index-requires c κs = search rules
 
 returns : tie.Need-returns
-returns-then-not-has c =
+returns c =
     let o = c.before in
     let i = o.before in
-    large_open _ _ _ _ _ (sym i.before.has.ensures ∙ not-false _ i.if-not-has.false) (c.index.ensures ∙ o.largest_offset.ensures)
+    large_open _ _ _ _ _ (sym i.has.ensures ∙ not-false _ i.if-not-has.false) (c.index.ensures ∙ o.largest_offset.ensures)
 
 pub large_spec : {M : Type 1} → statement M
-large_spec = tie.close (tie.spec has-requires returns-then-not-has largest_offset-requires index-requires returns-then-not-has)
+large_spec = tie.close (tie.spec has-requires returns-then-not-has largest_offset-requires index-requires returns)

@@ -35,11 +35,11 @@ loop-v-preserved : tie.Need-loop-v-preserved invariant-loop-v decreases-loop-v
 loop-v-preserved c =
     let o = c.before in
     let e = o.before in
-    let l = e.before.before.loop-v in
+    let l = e.loop-v in
     (omega arith, most_more _ _ _ l.v l.most e.entry-x.result o.offset_of.result _ l.invariant.1 e.entry-x.ensures o.offset_of.ensures c.larger-most.ensures)
 
 returns : tie.Need-returns invariant-loop-v decreases-loop-v
-returns c = most_all _ _ _ _ _ (omega arith) c.before.loop-v.invariant.1
+returns c = most_all _ _ _ _ _ (omega arith) c.loop-v.invariant.1
 
 pub largest_offset_spec : {M : Type 1} → statement M
 largest_offset_spec =

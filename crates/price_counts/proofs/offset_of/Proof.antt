@@ -7,7 +7,7 @@ returns-then-x-eq-UNDECIDED : tie.Need-returns-then-x-eq-UNDECIDED
 returns-then-x-eq-UNDECIDED c = simp (eq-eqb _ _ c.if-x-eq-UNDECIDED.true)
 
 returns : tie.Need-returns
-returns-then-x-eq-UNDECIDED c = simp (ne_eqb _ _ c.if-x-eq-UNDECIDED.false)
+returns c = simp (ne_eqb _ _ c.if-x-eq-UNDECIDED.false)
 
 pub offset_of_spec : {M : Type 1} → statement M
-offset_of_spec = tie.close (tie.spec returns-then-x-eq-UNDECIDED returns-then-x-eq-UNDECIDED)
+offset_of_spec = tie.close (tie.spec returns-then-x-eq-UNDECIDED returns)

@@ -17,7 +17,7 @@ has-requires : tie.Need-has-requires
 has-requires c κs = search rules
 
 returns-then-not-has : tie.Need-returns-then-not-has
-returns-then-not-has c = record { value = registers_fixed _ _ _ _ _ (sym c.before.has.ensures ∙ not-true _ c.if-not-has.true); small = omega arith }
+returns-then-not-has c = record { value = registers_fixed _ _ _ _ _ (sym c.has.ensures ∙ not-true _ c.if-not-has.true); small = omega arith }
 
 largest_offset-most-requires : tie.Need-largest_offset-most-requires
 largest_offset-most-requires c κs = search rules
@@ -29,7 +29,7 @@ look_up-requires : tie.Need-look_up-requires
 look_up-requires c κs = search rules
 
 returns : tie.Need-returns
-returns-then-not-has c =
+returns c =
     let i = c.before in
     let o = i.before in
     let s = o.before in
@@ -37,7 +37,7 @@ returns-then-not-has c =
       value =
           c.look_up.ensures.value
           ∙ ap (λ (k : ℕ). get_or (start s).args.entries.now k 0) (i.index.ensures ∙ o.largest_offset-most.ensures)
-          ∙ registers_open _ _ _ _ _ (sym s.before.has.ensures ∙ not-false _ s.if-not-has.false);
+          ∙ registers_open _ _ _ _ _ (sym s.has.ensures ∙ not-false _ s.if-not-has.false);
       small = c.look_up.ensures.small;
     }
 
@@ -50,4 +50,4 @@ registers_spec =
     largest_offset-most-requires
     index-requires
     look_up-requires
-    returns-then-not-has)
+    returns)

@@ -26,12 +26,12 @@ loop-a-init : tie.Need-loop-a-init invariant-loop-a decreases-loop-a
 loop-a-init c = (omega arith, any_below_nothing _)
 
 large-requires : tie.Need-large-requires invariant-loop-a decreases-loop-a
-large-requires c κs = record { planned = c.before.before.before.requires; step = search rules }
+large-requires c κs = record { planned = c.requires; step = search rules }
 
 returns-then-large : tie.Need-returns-then-large invariant-loop-a decreases-loop-a
 returns-then-large c =
     let s = top c.before in
-    sym (any_below_by _ _ {k = s.loop-a.a} (omega arith) (sym c.before.large.ensures ∙ c.if-large.true)) ∙ large_some _ _ _
+    sym (any_below_by _ _ {k = s.loop-a.a} (omega arith) (sym c.large.ensures ∙ c.if-large.true)) ∙ large_some _ _ _
 
 overflow_add-a : tie.Need-overflow_add-a invariant-loop-a decreases-loop-a
 overflow_add-a c = search rules
@@ -42,12 +42,12 @@ loop-a-smaller c = search rules
 loop-a-preserved : tie.Need-loop-a-preserved invariant-loop-a decreases-loop-a
 loop-a-preserved c =
     let s = top c.before in
-    (omega arith, any_below_more _ _ s.loop-a.inv.1 (sym c.before.large.ensures ∙ c.if-large.false))
+    (omega arith, any_below_more _ _ s.loop-a.inv.1 (sym c.large.ensures ∙ c.if-large.false))
 
 returns : tie.Need-returns invariant-loop-a decreases-loop-a
-returns-then-large c =
-    let e : c.before.loop-a.a ≡ c.before.before.before.args.n = omega arith in
-    sym (rw e at c.before.loop-a.invariant.1) ∙ large_some _ _ _
+returns c =
+    let e : c.loop-a.a ≡ c.args.n = omega arith in
+    sym (rw e at c.loop-a.invariant.1) ∙ large_some _ _ _
 
 pub too_large_spec : {M : Type 1} → statement M
 too_large_spec =
@@ -61,4 +61,4 @@ too_large_spec =
     overflow_add-a
     loop-a-smaller
     loop-a-preserved
-    returns-then-large)
+    returns)

@@ -19,7 +19,7 @@ abbrev start : tie.After-answer-found → tie.Start
 start s = s.before.before.before.before.before.before.before.before
 
 bytes : (s : tie.After-answer-found) → Bytes (start s).args.s.now
-bytes s = bytes_by (start s).args.s.now (λ i. omega (arith, s.before.before.before.before.before.before.before.shared_slice_known-1.given i))
+bytes s = bytes_by (start s).args.s.now (λ i. omega (arith, s.shared_slice_known-1.given i))
 
 abbrev answered : tie.After-accepted → tie.After-answer-found
 answered s = s.before.before
@@ -34,7 +34,7 @@ table_after s = s.answer-found.new.out
 held : (s : tie.Else-not-accepted) → Held (start (answered s.before)).args.s.now (start (answered s.before)).args.allow (verdict_of (answered s.before).answer-found.result.verdict) (table_after (answered s.before))
 held s =
     let a = answered s.before in
-    holds (start a).args.s.now (bytes a) _ _ (search rules) _ a.answer-found.ensures.verdict (sym s.before.accepted.ensures ∙ not-false _ s.if-not-accepted.false) a.answer-found.ensures.numbers
+    holds (start a).args.s.now (bytes a) _ _ (search rules) _ a.answer-found.ensures.verdict (sym s.accepted.ensures ∙ not-false _ s.if-not-accepted.false) a.answer-found.ensures.numbers
 
 -- N after it is known.
 abbrev count_after : tie.After-steps → ℕ
@@ -68,7 +68,7 @@ returns-then-not-accepted : tie.Need-returns-then-not-accepted
 returns-then-not-accepted c =
     let t = c.before in
     let a = answered t.before in
-    quotes_unread (start a).args.s.now (bytes a) _ _ (search rules) _ _ _ _ _ _ a.answer-found.ensures.verdict (sym t.before.accepted.ensures ∙ not-true _ t.if-not-accepted.true) c.refuse.ensures
+    quotes_unread (start a).args.s.now (bytes a) _ _ (search rules) _ _ _ _ _ _ a.answer-found.ensures.verdict (sym t.accepted.ensures ∙ not-true _ t.if-not-accepted.true) c.refuse.ensures
 
 slice_bounds-steps-end : tie.Need-slice_bounds-steps-end
 slice_bounds-steps-end c = search rules
@@ -97,7 +97,7 @@ shape_of-comparisons : tie.Need-shape_of-comparisons
 shape_of-comparisons c = search rules
 
 returns : tie.Need-returns
-returns-then-not-accepted c =
+returns c =
     let q = c.before.before.before.before in
     let s = q.before.before.before.before.before in
     let h = held (passed s) in
@@ -121,4 +121,4 @@ quote_spec =
     quote_plan-requires
     shape_of-registers
     shape_of-comparisons
-    returns-then-not-accepted)
+    returns)

@@ -28,23 +28,23 @@ refuse-requires c κs = search rules
 returns-then-too_large : tie.Need-returns-then-too_large
 returns-then-too_large c v e =
     let s = c.before in
-    quotes_refused _ _ _ _ _ _ LargeOffset (large _ _ _ _ _ _ (sym s.before.too_large.ensures ∙ s.if-too_large.true)) c.refuse.ensures
+    quotes_refused _ _ _ _ _ _ LargeOffset (large _ _ _ _ _ _ (sym s.too_large.ensures ∙ s.if-too_large.true)) c.refuse.ensures
 
 refuse-requires-then-registers-n : tie.Need-refuse-requires-then-registers-n
 refuse-requires-then-registers-n c κs = search rules
 
 returns-then-registers-n : tie.Need-returns-then-registers-n
-returns-then-too_large-then-registers-n c v e =
+returns-then-registers-n c v e =
     let s = c.before.before in
-    quotes_refused _ _ _ _ _ _ TooShort (short_registers _ _ _ _ _ _ (sym s.before.too_large.ensures ∙ s.if-too_large.false) c.before.if-registers-n.true) c.refuse-then-registers-n.ensures
+    quotes_refused _ _ _ _ _ _ TooShort (short_registers _ _ _ _ _ _ (sym s.too_large.ensures ∙ s.if-too_large.false) c.if-registers-n.true) c.refuse-then-registers-n.ensures
 
 refuse-requires-then-comparisons-n : tie.Need-refuse-requires-then-comparisons-n
 refuse-requires-then-comparisons-n c κs = search rules
 
 returns-then-comparisons-n : tie.Need-returns-then-comparisons-n
-returns-then-too_large-then-comparisons-n c v e =
+returns-then-comparisons-n c v e =
     let s = not_large c.before.before in
-    quotes_refused _ _ _ _ _ _ TooShort (short_comparisons _ _ _ _ _ _ (sym s.before.too_large.ensures ∙ s.if-too_large.left) c.before.if-comparisons-n.true) c.refuse-then-comparisons-n.ensures
+    quotes_refused _ _ _ _ _ _ TooShort (short_comparisons _ _ _ _ _ _ (sym s.too_large.ensures ∙ s.if-too_large.left) c.if-comparisons-n.true) c.refuse-then-comparisons-n.ensures
 
 fill_registers-register_total-requires : tie.Need-fill_registers-register_total-requires
 fill_registers-register_total-requires c κs = search rules
@@ -59,10 +59,10 @@ shape_of-comparisons : tie.Need-shape_of-comparisons
 shape_of-comparisons c = search rules
 
 returns : tie.Need-returns
-returns-then-too_large c v e =
+returns c v e =
     let b = both_long c in
     let s = not_large b.before in
-    quotes_priced _ _ _ _ _ v _ _ e (sym s.before.too_large.ensures ∙ s.if-too_large.left) b.before.if-registers-n.left b.if-comparisons-n.left (first_filled c).fill_registers-register_total.ensures (filled c).fill_comparisons-comparison_total.ensures
+    quotes_priced _ _ _ _ _ v _ _ e (sym s.too_large.ensures ∙ s.if-too_large.left) b.if-registers-n.left b.if-comparisons-n.left (first_filled c).fill_registers-register_total.ensures (filled c).fill_comparisons-comparison_total.ensures
 
 pub quote_plan_spec : {M : Type 1} → statement M
 quote_plan_spec =
@@ -72,11 +72,11 @@ quote_plan_spec =
     refuse-requires
     returns-then-too_large
     refuse-requires-then-registers-n
-    returns-then-too_large-then-registers-n
+    returns-then-registers-n
     refuse-requires-then-comparisons-n
-    returns-then-too_large-then-comparisons-n
+    returns-then-comparisons-n
     fill_registers-register_total-requires
     fill_comparisons-comparison_total-requires
     shape_of-registers
     shape_of-comparisons
-    returns-then-too_large)
+    returns)

@@ -22,7 +22,7 @@ abbrev quote_made : tie.In_default → tie.After-quote-quoted
 quote_made m = m.before.before.before
 
 bytes : (q : tie.After-quote-quoted) → Bytes (start q).args.s.now
-bytes q = bytes_by (start q).args.s.now (λ i. omega (arith, q.before.before.before.before.before.before.shared_slice_known-1.given i))
+bytes q = bytes_by (start q).args.s.now (λ i. omega (arith, q.shared_slice_known-1.given i))
 
 printed-entries-requires : tie.Need-printed-entries-requires
 printed-entries-requires c κs = search rules
@@ -57,7 +57,7 @@ returns-in-Refused c =
     let numbered = printed.before.before in
     let known = numbered.before.before in
     let q = known.before.before.before.before in
-    let text = quoted_refusal (start q).args.s.now (bytes q) _ _ (search rules) (search rules) (table_made q).printed-entries.ensures q.quote-quoted.ensures (ap verdict_of known.verdict-1.given.1) in
+    let text = quoted_refusal (start q).args.s.now (bytes q) _ _ (search rules) (search rules) (table_made q).printed-entries.ensures q.quote-quoted.ensures (ap verdict_of known.in-Refused.is) in
     printed_as (ap refusal_text numbered.refusal_number-number.ensures.0 ∙ text) printed.print_refusal.ensures
 
 print_price-requires : tie.Need-print_price-requires
@@ -70,7 +70,7 @@ shape_of-out : tie.Need-shape_of-out
 shape_of-out c = search rules
 
 returns : tie.Need-returns
-returns-in-Refused c =
+returns c =
     let printed = c.before.before in
     let m = printed.before.before.before.before in
     let q = quote_made m in
@@ -92,4 +92,4 @@ standprice_spec =
     returns-in-Refused
     print_price-requires
     shape_of-out
-    returns-in-Refused)
+    returns)

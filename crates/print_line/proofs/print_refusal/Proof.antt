@@ -11,14 +11,14 @@ slice_aggregate_put_heading : tie.Need-slice-aggregate-put-heading
 slice_aggregate_put_heading c = search rules
 
 put_heading-requires : tie.Need-put_heading-requires
-put_heading-requires c κs = omega (arith, heading_limit word_refused c.before.before.before.args.number)
+put_heading-requires c κs = omega (arith, heading_limit word_refused c.args.number)
 
 shape_of-out : tie.Need-shape_of-out
 shape_of-out c = search rules
 
 returns : tie.Need-returns
 unfolding refusal_text
-returns c = put_printed c.before.before.put_heading.ensures
+returns c = put_printed c.put_heading.ensures
 
 pub print_refusal_spec : {M : Type 1} → statement M
 print_refusal_spec =

@@ -43,7 +43,7 @@ loop-i-preserved c =
     let a = c.before.before.before.before.before.before in
     let s = a.before.before.before in
     let numbers = s.args.numbers.now in
-    (omega arith, next_text (field_at numbers) (length numbers) a.loop-i.i a.loop-i.invariant.1 (omega arith) s.requires c.before.before.put_field-p.ensures)
+    (omega arith, next_text (field_at numbers) (length numbers) a.loop-i.i a.loop-i.invariant.1 (omega arith) s.requires c.put_field-p.ensures)
 
 shape_of-out : tie.Need-shape_of-out invariant-loop-i decreases-loop-i
 shape_of-out c =

@@ -22,7 +22,7 @@ shape_of-out c = search rules
 returns : tie.Need-returns
 returns c =
     let s = c.before.before.before.before.before.before.before in
-    put_as (heading_as_line s.args.word.now s.args.x) c.before.before.put_line.ensures
+    put_as (heading_as_line s.args.word.now s.args.x) c.put_line.ensures
 
 pub put_heading_spec : {M : Type 1} → statement M
 put_heading_spec =

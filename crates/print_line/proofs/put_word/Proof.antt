@@ -25,7 +25,7 @@ bounds-word-i c = search rules
 put_byte-p-requires : tie.Need-put_byte-p-requires invariant-loop-i decreases-loop-i
 put_byte-p-requires c κs =
     let a = c.before.before.before in
-    let word = a.before.before.before.args.word.now in
+    let word = a.args.word.now in
     omega (arith, next_room (byte_text word) (length word) a.loop-i.i a.loop-i.invariant.1 (omega arith) (omega (arith, ap length (texts_word word))))
 
 overflow_add-i : tie.Need-overflow_add-i invariant-loop-i decreases-loop-i
@@ -37,21 +37,21 @@ loop-i-smaller c = search rules
 loop-i-preserved : tie.Need-loop-i-preserved invariant-loop-i decreases-loop-i
 loop-i-preserved c =
     let a = c.before.before.before.before.before.before in
-    let word = a.before.before.before.args.word.now in
-    (omega arith, next_text (byte_text word) (length word) a.loop-i.i a.loop-i.invariant.1 (omega arith) (omega (arith, ap length (texts_word word))) c.before.before.put_byte-p.ensures)
+    let word = a.args.word.now in
+    (omega arith, next_text (byte_text word) (length word) a.loop-i.i a.loop-i.invariant.1 (omega arith) (omega (arith, ap length (texts_word word))) c.put_byte-p.ensures)
 
 shape_of-out : tie.Need-shape_of-out invariant-loop-i decreases-loop-i
 shape_of-out c =
     let a = c.before in
-    let word = a.before.before.before.args.word.now in
+    let word = a.args.word.now in
     texts_length (byte_text word) (length word) a.loop-i.i a.loop-i.invariant.1 (omega arith) (omega (arith, ap length (texts_word word)))
 
 returns : tie.Need-returns invariant-loop-i decreases-loop-i
 returns c =
     let a = c.before in
-    let word = a.before.before.before.args.word.now in
+    let word = a.args.word.now in
     let e : a.loop-i.i ≡ length word = omega arith in
-    subst (λ (s : List ℕ). Put s a.before.before.before.args.at a.loop-i.p a.before.before.before.args.out-1.now a.loop-i.out-1) (ap (texts (byte_text word)) e ∙ texts_word word) a.loop-i.invariant.1
+    subst (λ (s : List ℕ). Put s a.args.at a.loop-i.p a.args.out.now a.loop-i.out-1) (ap (texts (byte_text word)) e ∙ texts_word word) a.loop-i.invariant.1
 
 pub put_word_spec : {M : Type 1} → statement M
 put_word_spec =

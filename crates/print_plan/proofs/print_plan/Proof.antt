@@ -27,7 +27,7 @@ slice_aggregate_put_heading : tie.Need-slice-aggregate-put-heading
 slice_aggregate_put_heading c = search rules
 
 put_heading-p-requires : tie.Need-put_heading-p-requires
-put_heading-p-requires c κs = omega (arith, heading_limit word_verdict c.before.before.before.before.args.verdict)
+put_heading-p-requires c κs = omega (arith, heading_limit word_verdict c.args.verdict)
 
 slice_aggregate_put_heading_2 : tie.Need-slice-aggregate-put-heading-2
 slice_aggregate_put_heading_2 c = search rules

@@ -10,16 +10,16 @@ use Rattle.print_plan.proofs.put_start_at.Statement.{statement}
 use Rattle.print_plan.proofs.put_start_at.Tie as tie
 
 overflow_mul-ticks : tie.Need-overflow_mul-ticks
-overflow_mul-ticks c = omega (arith, cell_below c.before.before.args.n c.before.before.args.v c.before.before.args.a (omega arith) (omega arith), square_small c.before.before.args.n (omega arith))
+overflow_mul-ticks c = omega (arith, cell_below c.args.n c.args.v c.args.a (omega arith) (omega arith), square_small c.args.n (omega arith))
 
 overflow_add-ticks : tie.Need-overflow_add-ticks
-overflow_add-ticks c = omega (arith, cell_below c.before.before.args.n c.before.before.args.v c.before.before.args.a (omega arith) (omega arith), square_small c.before.before.args.n (omega arith))
+overflow_add-ticks c = omega (arith, cell_below c.args.n c.args.v c.args.a (omega arith) (omega arith), square_small c.args.n (omega arith))
 
 offset_bounds-table-v : tie.Need-offset_bounds-table-v
-offset_bounds-table-v c = omega (arith, cell_below c.before.before.args.n c.before.before.args.v c.before.before.args.a (omega arith) (omega arith), square_small c.before.before.args.n (omega arith))
+offset_bounds-table-v c = omega (arith, cell_below c.args.n c.args.v c.args.a (omega arith) (omega arith), square_small c.args.n (omega arith))
 
 bounds-table-v : tie.Need-bounds-table-v
-bounds-table-v c = omega (arith, cell_below c.before.before.before.args.n c.before.before.before.args.v c.before.before.before.args.a (omega arith) (omega arith))
+bounds-table-v c = omega (arith, cell_below c.args.n c.args.v c.args.a (omega arith) (omega arith))
 
 returns-then-ticks : tie.Need-returns-then-ticks
 returns-then-ticks c =
@@ -48,10 +48,10 @@ shape_of-out : tie.Need-shape_of-out
 shape_of-out c = search rules
 
 returns : tie.Need-returns
-returns-then-ticks c =
+returns c =
     let t = c.before.before.before.before.before.before in
     let s = t.before.before.before.before in
-    put_as (start_stands s.args.n s.args.table.now s.args.v s.args.a t.if-ticks.false) c.before.before.put_line.ensures
+    put_as (start_stands s.args.n s.args.table.now s.args.v s.args.a t.if-ticks.false) c.put_line.ensures
 
 pub put_start_at_spec : {M : Type 1} → statement M
 put_start_at_spec =
@@ -68,4 +68,4 @@ put_start_at_spec =
     slice_aggregate_put_line_2
     put_line-requires
     shape_of-out
-    returns-then-ticks)
+    returns)

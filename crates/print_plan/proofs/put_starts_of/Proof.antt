@@ -34,7 +34,7 @@ loop-a-preserved : tie.Need-loop-a-preserved invariant-loop-a decreases-loop-a
 loop-a-preserved c =
     let a = c.before.before.before.before.before in
     let s = a.before.before.before in
-    (omega arith, next_text (start_cell s.args.n s.args.table.now s.args.v) s.args.n a.loop-a.a a.loop-a.invariant.1 (omega arith) (omega arith) c.before.before.put_start_at-p.ensures)
+    (omega arith, next_text (start_cell s.args.n s.args.table.now s.args.v) s.args.n a.loop-a.a a.loop-a.invariant.1 (omega arith) (omega arith) c.put_start_at-p.ensures)
 
 shape_of-out : tie.Need-shape_of-out invariant-loop-a decreases-loop-a
 shape_of-out c =

@@ -34,7 +34,7 @@ loop-a-preserved : tie.Need-loop-a-preserved invariant-loop-a decreases-loop-a
 loop-a-preserved c =
     let a = c.before.before.before.before.before in
     let s = a.before.before in
-    (omega arith, next_text (maps_row s.args.n s.args.maps.now) s.args.n a.loop-a.a a.loop-a.invariant.1 (omega arith) (omega arith) c.before.before.put_waits_of-p.ensures)
+    (omega arith, next_text (maps_row s.args.n s.args.maps.now) s.args.n a.loop-a.a a.loop-a.invariant.1 (omega arith) (omega arith) c.put_waits_of-p.ensures)
 
 shape_of-out : tie.Need-shape_of-out invariant-loop-a decreases-loop-a
 shape_of-out c =

@@ -34,7 +34,7 @@ loop-i-preserved : tie.Need-loop-i-preserved invariant-loop-i decreases-loop-i
 loop-i-preserved c =
     let a = c.before.before.before.before.before in
     let s = a.before.before in
-    (omega arith, next_text (wait_cell s.args.maps.now s.args.a) s.args.n a.loop-i.i a.loop-i.invariant.1 (omega arith) (omega arith) c.before.before.put_wait_at-p.ensures)
+    (omega arith, next_text (wait_cell s.args.maps.now s.args.a) s.args.n a.loop-i.i a.loop-i.invariant.1 (omega arith) (omega arith) c.put_wait_at-p.ensures)
 
 shape_of-out : tie.Need-shape_of-out invariant-loop-i decreases-loop-i
 shape_of-out c =

@@ -21,7 +21,7 @@ comparisons_put p = p.before.before.before.before
 
 put_registers-p-requires : tie.Need-put_registers-p-requires
 put_registers-p-requires c κs =
-    let a = c.before.before.args in
+    let a = c.args in
     record { few = omega arith; room = omega (arith, registers_limit a.n (omega arith) a.unbounded a.registers.now) }
 
 put_comparisons-q-requires : tie.Need-put_comparisons-q-requires

@@ -34,7 +34,7 @@ loop-v-preserved : tie.Need-loop-v-preserved invariant-loop-v decreases-loop-v
 loop-v-preserved c =
     let a = c.before.before.before.before.before in
     let s = a.before.before in
-    (omega arith, next_text (comparisons_line s.args.comparisons.now) s.args.n a.loop-v.v a.loop-v.invariant.1 (omega arith) (omega arith) c.before.before.put_comparisons_at-p.ensures)
+    (omega arith, next_text (comparisons_line s.args.comparisons.now) s.args.n a.loop-v.v a.loop-v.invariant.1 (omega arith) (omega arith) c.put_comparisons_at-p.ensures)
 
 shape_of-out : tie.Need-shape_of-out invariant-loop-v decreases-loop-v
 shape_of-out c =

@@ -34,7 +34,7 @@ shape_of-out c = search rules
 returns : tie.Need-returns
 returns c =
     let s = c.before.before.before.before.before.before.before.before in
-    put_as (comparisons_as_line s.args.comparisons.now s.args.v) c.before.before.put_line.ensures
+    put_as (comparisons_as_line s.args.comparisons.now s.args.v) c.put_line.ensures
 
 pub put_comparisons_at_spec : {M : Type 1} → statement M
 put_comparisons_at_spec =

@@ -34,7 +34,7 @@ put_line-requires : tie.Need-put_line-requires
 put_line-requires c κs =
     let t = c.before.before.before.before in
     let s = start t.before in
-    omega (arith, ap length (registers_stand s.args.unbounded s.args.registers.now s.args.a (sym t.if-has.true ∙ t.before.has.ensures)))
+    omega (arith, ap length (registers_stand s.args.unbounded s.args.registers.now s.args.a (sym t.if-has.true ∙ t.has.ensures)))
 
 shape_of-out-then-has : tie.Need-shape_of-out-then-has
 shape_of-out-then-has c = search rules
@@ -43,12 +43,12 @@ returns-then-has : tie.Need-returns-then-has
 returns-then-has c =
     let t = c.before.before.before.before.before.before.before in
     let s = start t.before in
-    put_as (registers_stand s.args.unbounded s.args.registers.now s.args.a (sym t.if-has.true ∙ t.before.has.ensures)) c.before.before.put_line.ensures
+    put_as (registers_stand s.args.unbounded s.args.registers.now s.args.a (sym t.if-has.true ∙ t.has.ensures)) c.put_line.ensures
 
 returns : tie.Need-returns
-returns-then-has c =
+returns c =
     let s = start c.before in
-    put_as (registers_absent s.args.unbounded s.args.registers.now s.args.a (sym c.if-has.false ∙ c.before.has.ensures)) (put_none _ _)
+    put_as (registers_absent s.args.unbounded s.args.registers.now s.args.a (sym c.if-has.false ∙ c.has.ensures)) (put_none _ _)
 
 pub put_registers_at_spec : {M : Type 1} → statement M
 put_registers_at_spec =
@@ -63,4 +63,4 @@ put_registers_at_spec =
     put_line-requires
     shape_of-out-then-has
     returns-then-has
-    returns-then-has)
+    returns)

@@ -25,7 +25,7 @@ shape_of-out c = search rules
 returns : tie.Need-returns
 returns c =
     let s = c.before.before.before.before.before.before.before in
-    put_as (total_as_line s.args.registers s.args.comparisons) c.before.before.put_line.ensures
+    put_as (total_as_line s.args.registers s.args.comparisons) c.put_line.ensures
 
 pub put_total_spec : {M : Type 1} → statement M
 put_total_spec =

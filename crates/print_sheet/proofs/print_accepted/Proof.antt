@@ -20,7 +20,7 @@ first_byte-n-requires c κs = search rules
 print_plan-requires : tie.Need-print_plan-requires
 print_plan-requires c κs =
     let a = start c.before in
-    let e = c.before.first_byte-n.ensures in
+    let e = c.first_byte-n.ensures in
     (omega (arith, e, steps_few a.pre.0), subst (λ (n : ℕ). n * n ≤ length a.args.table.now) (sym e) (steps_room a.pre.0), search rules)
 
 shape_of-out : tie.Need-shape_of-out

@@ -16,7 +16,7 @@ abbrev start : tie.After-answer-found → tie.Start
 start s = s.before.before.before.before.before.before
 
 bytes : (s : tie.After-answer-found) → Bytes (start s).args.s.now
-bytes s = bytes_by (start s).args.s.now (λ i. omega (arith, s.before.before.before.before.before.shared_slice_known-1.given i))
+bytes s = bytes_by (start s).args.s.now (λ i. omega (arith, s.shared_slice_known-1.given i))
 
 slice_bounds-answer-end : tie.Need-slice_bounds-answer-end
 slice_bounds-answer-end c = search rules
@@ -38,10 +38,10 @@ print_accepted-requires c κs =
     let told = c.before.before.before in
     let s = told.before.before.before in
     let p = s.answer-found.ensures in
-    (plan_plans (start s).args.s.now (bytes s) _ (search rules) (sym (ap verdict_of told.enum_told-1.given.1) ∙ p.verdict-1) p.numbers p.maps-1 p.count, search rules)
+    (plan_plans (start s).args.s.now (bytes s) _ (search rules) (sym (ap verdict_of told.in-WellPosed.is) ∙ p.verdict-1) p.numbers p.maps-1 p.count, search rules)
 
 enum_told-in-Serialized : tie.Need-enum_told-in-Serialized
-enum_told-1-in-Serialized c = search rules
+enum_told-in-Serialized c = search rules
 
 slice_bounds-print_accepted-end-in-Serialized : tie.Need-slice_bounds-print_accepted-end-in-Serialized
 slice_bounds-print_accepted-end-in-Serialized c = search rules
@@ -51,7 +51,7 @@ print_accepted-requires-in-Serialized c κs =
     let told = c.before.before.before in
     let s = told.before.before.before in
     let p = s.answer-found.ensures in
-    (plan_plans (start s).args.s.now (bytes s) _ (search rules) (sym (ap verdict_of told.enum_told-in-Serialized-1.given.1) ∙ p.verdict-1) p.numbers p.maps-1 p.count, search rules)
+    (plan_plans (start s).args.s.now (bytes s) _ (search rules) (sym (ap verdict_of told.in-Serialized.is) ∙ p.verdict-1) p.numbers p.maps-1 p.count, search rules)
 
 enum_known-verdict : tie.Need-enum_known-verdict
 enum_known-verdict c = search rules
@@ -72,18 +72,18 @@ shape_of-out-in-Serialized : tie.Need-shape_of-out-in-Serialized
 shape_of-out-in-Serialized c = search rules
 
 returns-in-Serialized : tie.Need-returns-in-Serialized
-returns-in-WellPosed-in-Serialized c = search rules
+returns-in-Serialized c = search rules
 
 shape_of-out-in-Refused : tie.Need-shape_of-out-in-Refused
 shape_of-out-in-Refused c = search rules
 
 returns-in-Refused : tie.Need-returns-in-Refused
-returns-in-WellPosed-in-Refused c =
+returns-in-Refused c =
     let printed = c.before.before in
     let numbered = printed.before.before in
     let known = numbered.before.before in
     let s = known.before.before.before in
-    let refuses = plan_refuses (start s).args.s.now (bytes s) _ (search rules) (sym (ap verdict_of known.verdict-1.given.1) ∙ s.answer-found.ensures.verdict-1) in
+    let refuses = plan_refuses (start s).args.s.now (bytes s) _ (search rules) (sym (ap verdict_of known.in-Refused.is) ∙ s.answer-found.ensures.verdict-1) in
     printed_as (ap refusal_text numbered.refusal_number-number.ensures.0 ∙ refuses) printed.print_refusal.ensures
 
 pub standplan_spec : {M : Type 1} → statement M
@@ -96,7 +96,7 @@ standplan_spec =
     enum_told-1
     slice_bounds-print_accepted-end
     print_accepted-requires
-    enum_told-1-in-Serialized
+    enum_told-in-Serialized
     slice_bounds-print_accepted-end-in-Serialized
     print_accepted-requires-in-Serialized
     enum_known-verdict
@@ -105,6 +105,6 @@ standplan_spec =
     shape_of-out-in-WellPosed
     returns-in-WellPosed
     shape_of-out-in-Serialized
-    returns-in-WellPosed-in-Serialized
+    returns-in-Serialized
     shape_of-out-in-Refused
-    returns-in-WellPosed-in-Refused)
+    returns-in-Refused)

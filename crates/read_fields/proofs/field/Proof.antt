@@ -4,13 +4,13 @@ use Rattle.read_fields.proofs.field.Statement.{statement}
 use Rattle.read_fields.proofs.field.Tie as tie
 
 number_at-requires : tie.Need-number_at-requires
-number_at-requires c κs = rw c.if-there.true at c.before.before.requires
+number_at-requires c κs = rw c.if-there.true at c.requires
 
 returns-then-there : tie.Need-returns-then-there
-returns-then-there c = rw c.before.if-there.true c.number_at.ensures
+returns-then-there c = rw c.if-there.true c.number_at.ensures
 
 returns-else-there : tie.Need-returns-else-there
-returns-then-there-else-there c = search rules
+returns-else-there c = search rules
 
 pub field_spec : {M : Type 1} → statement M
-field_spec = tie.close (tie.spec number_at-requires returns-then-there returns-then-there-else-there)
+field_spec = tie.close (tie.spec number_at-requires returns-then-there returns-else-there)

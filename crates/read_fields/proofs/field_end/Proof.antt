@@ -10,7 +10,7 @@ returns-then-there : tie.Need-returns-then-there
 returns-then-there c = record { same = rw c.if-there.true; forth = search rules; near = search rules }
 
 returns-else-there : tie.Need-returns-else-there
-returns-then-there-else-there c = search rules
+returns-else-there c = search rules
 
 pub field_end_spec : {M : Type 1} → statement M
-field_end_spec = tie.close (tie.spec overflow_add-result returns-then-there returns-then-there-else-there)
+field_end_spec = tie.close (tie.spec overflow_add-result returns-then-there returns-else-there)

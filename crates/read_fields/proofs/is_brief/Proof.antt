@@ -12,7 +12,7 @@ use Rattle.read_fields.proofs.is_brief.Tie as tie
 
 -- What reading R means, by its answer, where it is read.
 abbrev bytes : tie.After-read_number → List ℕ
-bytes s = s.before.before.args.s.now
+bytes s = s.args.s.now
 
 abbrev Answered : tie.After-read_number → NumberRead → Type 0
 Answered s r = NumberReads (bytes s) 1 r
@@ -29,14 +29,14 @@ enum_known-k c = search rules
 returns-in-Item : tie.Need-returns-in-Item
 returns-in-Item c =
     let s = c.before.before.before in
-    let item = subst (Answered s) c.before.count-1.given.1 s.read_number.ensures in
+    let item = subst (Answered s) c.in-Item.is s.read_number.ensures in
     brief_there (bytes s) _ (sym item.same) (omega arith)
 
 returns-in-Refused : tie.Need-returns-in-Refused
-returns-in-Item-in-Refused c =
+returns-in-Refused c =
     let s = c.before.before.before in
-    let item = subst (Answered s) c.before.k-1.given.1 s.read_number.ensures in
+    let item = subst (Answered s) c.in-Refused.is s.read_number.ensures in
     brief_refused (bytes s) _ (sym item.same)
 
 pub is_brief_spec : {M : Type 1} → statement M
-is_brief_spec = tie.close (tie.spec read_number-requires enum_known-count enum_known-k returns-in-Item returns-in-Item-in-Refused)
+is_brief_spec = tie.close (tie.spec read_number-requires enum_known-count enum_known-k returns-in-Item returns-in-Refused)

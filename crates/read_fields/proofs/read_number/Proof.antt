@@ -16,9 +16,9 @@ number_at-requires : tie.Need-number_at-requires
 number_at-requires c κs = search rules
 
 returns : tie.Need-returns
-returns-then-s-end c =
-    let a = c.before.before.before.args in
+returns c =
+    let a = c.args in
     record { same = rw c.number_at.ensures (sym (number_there a.s.now a.at (omega arith))); inside = omega arith }
 
 pub read_number_spec : {M : Type 1} → statement M
-read_number_spec = tie.close (tie.spec overflow_add-end returns-then-s-end number_at-requires returns-then-s-end)
+read_number_spec = tie.close (tie.spec overflow_add-end returns-then-s-end number_at-requires returns)

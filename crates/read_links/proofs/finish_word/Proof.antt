@@ -29,9 +29,9 @@ word-requires c κs = search rules
 
 returns : tie.Need-returns
 returns c d least e =
-    let digits = c.before.before.before.before.digits_of-d.ensures in
+    let digits = c.digits_of-d.ensures in
     c.word.ensures
-    ∙ same_edge c.before.before.before.wide.ensures c.before.before.wide-2.ensures refl (omega (arith, digits, c.before.ticks_of.ensures.0)) refl refl (ap (λ (x : ℕ). marked x counted_place) digits)
+    ∙ same_edge c.wide.ensures c.wide-2.ensures refl (omega (arith, digits, c.ticks_of.ensures.0)) refl refl (ap (λ (x : ℕ). marked x counted_place) digits)
     ∙ finish_same d least _ _ _ _ e
 
 pub finish_word_spec : {M : Type 1} → statement M

@@ -21,7 +21,7 @@ returns : tie.Need-returns
 returns c =
     let p = c.before in
     let b = p.before in
-    let a = b.before.args in
+    let a = b.args in
     record {
       each = λ v.
           c.minus-2.ensures v

@@ -18,7 +18,7 @@ word-requires : tie.Need-word-requires
 word-requires c κs = search rules
 
 returns : tie.Need-returns
-returns c = c.word.ensures ∙ same_edge c.before.before.before.wide.ensures c.before.before.wide-2.ensures refl c.before.ticks_of.ensures.0 refl refl refl
+returns c = c.word.ensures ∙ same_edge c.wide.ensures c.wide-2.ensures refl c.ticks_of.ensures.0 refl refl refl
 
 pub maximum_word_spec : {M : Type 1} → statement M
 maximum_word_spec =

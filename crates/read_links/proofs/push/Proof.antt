@@ -17,11 +17,11 @@ shape_of-words-then-there : tie.Need-shape_of-words-then-there
 shape_of-words-then-there c = search rules
 
 returns-then-there : tie.Need-returns-then-there
-returns-then-there c = rw c.if-there.true (push_one _ _ _ c.before.requires)
+returns-then-there c = rw c.if-there.true (push_one _ _ _ c.requires)
 
 returns : tie.Need-returns
-returns-then-there c = rw c.if-there.false (push_none _ _ _)
+returns c = rw c.if-there.false (push_none _ _ _)
 
 pub push_spec : {M : Type 1} → statement M
 push_spec =
-    tie.close (tie.spec offset_bounds-words-count bounds-words-count overflow_add-result shape_of-words-then-there returns-then-there returns-then-there)
+    tie.close (tie.spec offset_bounds-words-count bounds-words-count overflow_add-result shape_of-words-then-there returns-then-there returns)

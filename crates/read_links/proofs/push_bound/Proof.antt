@@ -9,7 +9,7 @@ use Rattle.read_links.proofs.push_bound.Tie as tie
 
 -- What reading the number means, by its answer.
 abbrev Answered : tie.After-read_number → NumberRead → Type 0
-Answered s r = let a = s.before.before.before.args in NumberReads a.s.now a.at r
+Answered s r = let a = s.args in NumberReads a.s.now a.at r
 
 read_number-requires : tie.Need-read_number-requires
 read_number-requires c κs = search rules
@@ -35,14 +35,14 @@ returns-in-Item c =
     let w = p.before.before in
     let t = w.before.before in
     let r = t.before.before in
-    let item = subst (Answered r) t.ticks-1.given.1 r.read_number.ensures in
-    record { ticks = t.ticks-1.given.0.0; same = sym item.same; inside = item.inside; pushed = push_as w.bound_word-w.ensures p.push.ensures.pushed }
+    let item = subst (Answered r) t.in-Item.is r.read_number.ensures in
+    record { ticks = t.in-Item.ticks-1; same = sym item.same; inside = item.inside; pushed = push_as w.bound_word-w.ensures p.push.ensures.pushed }
 
 returns-in-Refused : tie.Need-returns-in-Refused
-returns-in-Item-in-Refused c =
+returns-in-Refused c =
     let k = c.before in
     let r = k.before.before in
-    sym (subst (Answered r) k.k-1.given.1 r.read_number.ensures).same
+    sym (subst (Answered r) k.in-Refused.is r.read_number.ensures).same
 
 pub push_bound_spec : {M : Type 1} → statement M
 push_bound_spec =
@@ -55,4 +55,4 @@ push_bound_spec =
     enum_known-k
     shape_of-words
     returns-in-Item
-    returns-in-Item-in-Refused)
+    returns-in-Refused)

@@ -64,15 +64,15 @@ returns c =
     let p = first q in
     link_pushed _ _ _ _ _ _ _ _ _ (start p).pre.gap
     (record {
-      after = p.before.before.before.sequencing_word-after.ensures;
-      least = q.before.before.before.minimum_word-least.ensures;
-      most = r.before.before.before.maximum_word-most.ensures;
-      latest = u.before.before.before.finish_word-latest.ensures;
+      after = p.sequencing_word-after.ensures;
+      least = q.minimum_word-least.ensures;
+      most = r.maximum_word-most.ensures;
+      latest = u.finish_word-latest.ensures;
     })
-    (by_bit _ _ p.before.has.ensures p.push-first.ensures)
-    (by_bit _ _ q.before.has-2.ensures q.push-second.ensures)
-    (by_bit _ _ r.before.has-3.ensures r.push-third.ensures)
-    (by_bit _ _ u.before.has-4.ensures u.push.ensures)
+    (by_bit _ _ p.has.ensures p.push-first.ensures)
+    (by_bit _ _ q.has-2.ensures q.push-second.ensures)
+    (by_bit _ _ r.has-3.ensures r.push-third.ensures)
+    (by_bit _ _ u.has-4.ensures u.push.ensures)
 
 pub push_edges_spec : {M : Type 1} → statement M
 push_edges_spec =

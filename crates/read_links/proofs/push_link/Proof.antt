@@ -38,10 +38,10 @@ push_edges-next-requires : tie.Need-push_edges-next-requires
 push_edges-next-requires c κs =
     let f = c.before.before in
     let r = f.before.before in
-    let item = subst (Answered r) f.fields-1.given.1 r.read_fields.ensures in
+    let item = subst (Answered r) f.in-Item.is r.read_fields.ensures in
     let a = (start r).args in
     let ready = (start r).requires in
-    record { room = ready.room.room; ends = ready.room.ends; gap = gap_none a.m a.s.now a.at f.fields-1.given.0.1.0 ready.begins item.same }
+    record { room = ready.room.room; ends = ready.room.ends; gap = gap_none a.m a.s.now a.at f.in-Item.end ready.begins item.same }
 
 enum_known-k : tie.Need-enum_known-k
 enum_known-k c = search rules
@@ -57,15 +57,15 @@ returns-in-1 c =
     record {
       fields = no_fields;
       same = fields_there _ _ _ _ (ticks_none _ _ alone);
-      inside = arm.before.before.before.requires.begins;
-      pushed = link_alone _ _ _ _ _ alone p.before.before.sequencing_word-after.ensures p.push.ensures;
+      inside = arm.requires.begins;
+      pushed = link_alone _ _ _ _ _ alone p.sequencing_word-after.ensures p.push.ensures;
     }
 
 shape_of-words-in-2 : tie.Need-shape_of-words-in-2
 shape_of-words-in-2 c = search rules
 
 returns-in-2 : tie.Need-returns-in-2
-returns-in-1-in-2 c =
+returns-in-2 c =
     let p = c.before.before in
     let arm = p.before.before in
     let start = arm.before.before.before in
@@ -77,7 +77,7 @@ shape_of-words-in-4 : tie.Need-shape_of-words-in-4
 shape_of-words-in-4 c = search rules
 
 returns-in-4 : tie.Need-returns-in-4
-returns-in-1-in-4 c =
+returns-in-4 c =
     let p = c.before.before in
     let arm = p.before.before in
     let start = arm.before.before.before in
@@ -89,23 +89,23 @@ shape_of-words-in-Item : tie.Need-shape_of-words-in-Item
 shape_of-words-in-Item c = search rules
 
 returns-in-Item : tie.Need-returns-in-Item
-returns-in-1-in-Item c =
+returns-in-Item c =
     let p = c.before.before in
     let f = p.before.before.before in
     let r = f.before.before in
-    let item = subst (Answered r) f.fields-1.given.1 r.read_fields.ensures in
+    let item = subst (Answered r) f.in-Item.is r.read_fields.ensures in
     record {
-      fields = f.fields-1.given.0.0;
+      fields = f.in-Item.fields-1;
       same = fields_there _ _ _ _ (sym item.same);
       inside = item.inside;
       pushed = p.push_edges-next.ensures;
     }
 
 returns-in-Refused : tie.Need-returns-in-Refused
-returns-in-1-in-Refused c =
+returns-in-Refused c =
     let k = c.before in
     let r = k.before.before in
-    fields_refused _ _ _ _ (sym (subst (Answered r) k.k-1.given.1 r.read_fields.ensures).same)
+    fields_refused _ _ _ _ (sym (subst (Answered r) k.in-Refused.is r.read_fields.ensures).same)
 
 pub push_link_spec : {M : Type 1} → statement M
 push_link_spec =
@@ -122,9 +122,9 @@ push_link_spec =
     shape_of-words-in-1
     returns-in-1
     shape_of-words-in-2
-    returns-in-1-in-2
+    returns-in-2
     shape_of-words-in-4
-    returns-in-1-in-4
+    returns-in-4
     shape_of-words-in-Item
-    returns-in-1-in-Item
-    returns-in-1-in-Refused)
+    returns-in-Item
+    returns-in-Refused)

@@ -35,8 +35,8 @@ overflow_add-result-3 c = search rules
 returns : tie.Need-returns
 returns c d least e =
     let digits = c.before in
-    sequencing_unpacked d least _ _ _ _ _ digits.before.before.before.requires
-    (omega (arith, c.ticks_of.ensures)) e (omega (arith, c.ticks_of.ensures, digits.digits_of.ensures, digits.before.wide-2.ensures, digits.before.before.wide.ensures))
+    sequencing_unpacked d least _ _ _ _ _ digits.requires
+    (omega (arith, c.ticks_of.ensures)) e (omega (arith, c.ticks_of.ensures, digits.digits_of.ensures, digits.wide-2.ensures, digits.wide.ensures))
 
 pub sequencing_word_spec : {M : Type 1} → statement M
 sequencing_word_spec =

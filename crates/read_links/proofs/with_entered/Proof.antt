@@ -16,7 +16,7 @@ insert_if-requires c κs = search rules
 returns : tie.Need-returns
 returns c =
     let b = c.before in
-    let a = b.before.args in
+    let a = b.args in
     record { each = λ i t v. c.insert_if.ensures v ∙ ap (λ (x : Bool). test_bit a.entered v || x) (enters_by a.m i a.to _ t v b.byte_index.ensures.0) }
 
 pub with_entered_spec : {M : Type 1} → statement M

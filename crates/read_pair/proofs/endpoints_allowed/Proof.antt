@@ -20,16 +20,16 @@ returns-then-n-from c =
 
 returns-then-n-to : tie.Need-returns-then-n-to
 unfolding endpoints
-returns-then-n-from-then-n-to c =
+returns-then-n-to c =
     let a = c.before.before.before.before in
     rw (lt-ltb a.args.i a.args.n (omega arith), le-ltb a.args.j a.args.n (omega arith))
 
 returns : tie.Need-returns
 unfolding endpoints
-returns-then-n-from c =
+returns c =
     let a = c.before.before.before.before in
-    rw (lt-ltb a.args.i a.args.n (omega arith), lt-ltb a.args.j a.args.n (omega arith), c.before.before.before.byte_index-from.ensures.0, c.before.before.byte_index-to.ensures.0)
+    rw (lt-ltb a.args.i a.args.n (omega arith), lt-ltb a.args.j a.args.n (omega arith), c.byte_index-from.ensures.0, c.byte_index-to.ensures.0)
 
 pub endpoints_allowed_spec : {M : Type 1} → statement M
 endpoints_allowed_spec =
-    tie.close (tie.spec byte_index-from-requires byte_index-to-requires returns-then-n-from returns-then-n-from-then-n-to returns-then-n-from)
+    tie.close (tie.spec byte_index-from-requires byte_index-to-requires returns-then-n-from returns-then-n-to returns)

@@ -11,13 +11,13 @@ upper_map_allowed-requires : tie.Need-upper_map_allowed-requires
 upper_map_allowed-requires c κs = search rules
 
 returns-in-1-to-7 : tie.Need-returns-in-1-to-7
-returns-in-1-to-7 c = sym (map_low _ c.before.in_default.false c.if-m-lt8.true)
+returns-in-1-to-7 c = sym (map_low _ c.in_default.false c.if-m-lt8.true)
 
 returns-in_default : tie.Need-returns-in_default
-returns-in-1-to-7-in_default c =
-    let m = c.before.before.args.m in
-    let outside : (m < 1) ⊎ (8 ≤ m) = elim c.before.in_default.branch [ inl k ↦ inl k.taken | inr k ↦ inr k.1.left ] in
+returns-in_default c =
+    let m = c.args.m in
+    let outside : (m < 1) ⊎ (8 ≤ m) = elim c.in_default.branch [ inl k ↦ inl k.taken | inr k ↦ inr k.1.left ] in
     c.upper_map_allowed.ensures ∙ map_outside m outside
 
 pub map_allowed_spec : {M : Type 1} → statement M
-map_allowed_spec = tie.close (tie.spec upper_map_allowed-requires returns-in-1-to-7 returns-in-1-to-7-in_default)
+map_allowed_spec = tie.close (tie.spec upper_map_allowed-requires returns-in-1-to-7 returns-in_default)

@@ -7,7 +7,7 @@ returns-in-16 : tie.Need-returns-in-16
 returns-in-16 c = rw (map_alone _ c.in_default.keys1)
 
 returns-in_default : tie.Need-returns-in_default
-returns-in-16-in_default c = rw (map_not_alone _ c.in_default.rest.1)
+returns-in_default c = rw (map_not_alone _ c.in_default.rest.1)
 
 pub map_fault_spec : {M : Type 1} → statement M
-map_fault_spec = tie.close (tie.spec returns-in-16 returns-in-16-in_default)
+map_fault_spec = tie.close (tie.spec returns-in-16 returns-in_default)

@@ -60,12 +60,12 @@ field-requires-4 : tie.Need-field-requires-4
 field-requires-4 c κs = search rules
 
 returns : tie.Need-returns
-returns-then-s-end c =
+returns c =
     let s = c.before.before.before.before.before in
     let a = (start s).args in
     let bytes = a.s.now in
     let inside : ticks_end a.m a.at ≤ length bytes = omega (arith, ends s) in
-    let same : ◌≡◌ {A = Fields} (record { least = c.before.before.before.field.result; most = c.before.before.field-2.result; gap = c.before.field-3.result; latest = c.field-4.result }) (fields_at a.m bytes a.at) = cc in
+    let same : ◌≡◌ {A = Fields} (record { least = c.field.result; most = c.field-2.result; gap = c.field-3.result; latest = c.field-4.result }) (fields_at a.m bytes a.at) = cc in
     record { same = ap₂ (λ (t : Fields) (next : ℕ). item_at bytes t next) same (ends s) ∙ sym (ticks_there a.m bytes a.at inside); inside = omega (arith, ends s) }
 
 pub read_fields_spec : {M : Type 1} → statement M
@@ -85,4 +85,4 @@ read_fields_spec =
     field-requires-2
     field-requires-3
     field-requires-4
-    returns-then-s-end)
+    returns)

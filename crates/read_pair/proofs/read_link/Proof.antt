@@ -40,9 +40,9 @@ map_fault-requires : tie.Need-map_fault-requires
 map_fault-requires c κs = search rules
 
 returns-then-not-map_allowed : tie.Need-returns-then-not-map_allowed
-returns-then-s-at-then-not-map_allowed c previous ranked =
+returns-then-not-map_allowed c previous ranked =
     let s = c.before.before in
-    let bad : allowed (map_byte s) ≡ false = sym s.map_allowed.ensures ∙ not-true _ c.before.if-not-map_allowed.true in
+    let bad : allowed (map_byte s) ≡ false = sym s.map_allowed.ensures ∙ not-true _ c.if-not-map_allowed.true in
     record { same = ap refused c.map_fault.ensures ∙ sym (link_refused _ _ (bytes s) _ (map_there s) bad); inside = tt }
 
 overflow_add-at : tie.Need-overflow_add-at
@@ -52,10 +52,10 @@ read_pair-requires : tie.Need-read_pair-requires
 read_pair-requires c κs = search rules
 
 returns : tie.Need-returns
-returns-then-s-at c previous ranked =
+returns c previous ranked =
     let s = c.before.before in
     let a = (start s).args in
-    let good : allowed (map_byte s) ≡ true = sym s.map_allowed.ensures ∙ not-false _ c.before.if-not-map_allowed.false in
+    let good : allowed (map_byte s) ≡ true = sym s.map_allowed.ensures ∙ not-false _ c.if-not-map_allowed.false in
     let three : a.at + 1 + 2 ≡ a.at + 3 = omega arith in
     let found : PairReads (bytes s) (a.at + 3) a.n (link_pair a.n previous (map_byte s) (drop (a.at + 1) (bytes s))) c.read_pair.result = rw three at (c.read_pair.ensures previous ranked) in
     record { same = found.same ∙ sym (link_there _ _ (bytes s) _ (map_there s) good); inside = found.inside }
@@ -68,7 +68,7 @@ read_link_spec =
     bounds-s-at
     map_allowed-requires
     map_fault-requires
-    returns-then-s-at-then-not-map_allowed
+    returns-then-not-map_allowed
     overflow_add-at
     read_pair-requires
-    returns-then-s-at)
+    returns)

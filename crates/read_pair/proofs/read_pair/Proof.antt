@@ -35,7 +35,7 @@ both_there : (s : tie.After-endpoints_allowed) → (start s).args.at + 1 < lengt
 both_there s = omega arith
 
 ends_good : (s : tie.After-rank) → allowed (tested s) ≡ true
-ends_good s = sym (tested s).endpoints_allowed.ensures ∙ not-false _ s.before.if-not-endpoints_allowed.false
+ends_good s = sym (tested s).endpoints_allowed.ensures ∙ not-false _ s.if-not-endpoints_allowed.false
 
 overflow_add-second : tie.Need-overflow_add-second
 overflow_add-second c = search rules
@@ -53,7 +53,7 @@ endpoints_allowed-requires : tie.Need-endpoints_allowed-requires
 endpoints_allowed-requires c κs = search rules
 
 returns-then-not-endpoints_allowed : tie.Need-returns-then-not-endpoints_allowed
-returns-then-s-second-then-not-endpoints_allowed c previous ranked =
+returns-then-not-endpoints_allowed c previous ranked =
     let s = c.before in
     let bad : allowed s ≡ false = sym s.endpoints_allowed.ensures ∙ not-true _ c.if-not-endpoints_allowed.true in
     record { same = sym (pair_endpoint _ _ (bytes s) _ _ (both_there s) bad); inside = tt }
@@ -62,17 +62,17 @@ rank-requires : tie.Need-rank-requires
 rank-requires c κs = search rules
 
 returns-then-rank-last : tie.Need-returns-then-rank-last
-returns-then-s-second-then-rank-last c previous ranked =
+returns-then-rank-last c previous ranked =
     let s = tested c.before in
     let good = ends_good c.before in
-    let falls : rises previous (from s) (to s) ≡ false = rank_below previous _ _ _ _ ranked c.before.rank.ensures c.if-rank-last.true (endpoints_apart _ _ _ good) in
+    let falls : rises previous (from s) (to s) ≡ false = rank_below previous _ _ _ _ ranked c.rank.ensures c.if-rank-last.true (endpoints_apart _ _ _ good) in
     record { same = sym (pair_order _ _ (bytes s) _ _ (both_there s) good falls); inside = tt }
 
 returns : tie.Need-returns
-returns-then-s-second c previous ranked =
+returns c previous ranked =
     let s = tested c.before in
     let good = ends_good c.before in
-    let above : rises previous (from s) (to s) ≡ true = rank_above previous _ _ _ _ ranked c.before.rank.ensures c.if-rank-last.false in
+    let above : rises previous (from s) (to s) ≡ true = rank_above previous _ _ _ _ ranked c.rank.ensures c.if-rank-last.false in
     let below = endpoints_below _ _ _ good in
     record { same = sym (pair_there _ _ (bytes s) _ _ (both_there s) good above); inside = record { begins = omega (arith, both_there s); from = below.0; to = below.1 } }
 
@@ -85,7 +85,7 @@ read_pair_spec =
     bounds-s-at
     bounds-s-second
     endpoints_allowed-requires
-    returns-then-s-second-then-not-endpoints_allowed
+    returns-then-not-endpoints_allowed
     rank-requires
-    returns-then-s-second-then-rank-last
-    returns-then-s-second)
+    returns-then-rank-last
+    returns)

@@ -8,7 +8,7 @@ returns-in-9 : tie.Need-returns-in-9
 returns-in-9 c = sym (map_upper _ c.in_default.keys1)
 
 returns-in_default : tie.Need-returns-in_default
-returns-in-9-in_default c = sym (map_not_upper _ c.in_default.rest.1)
+returns-in_default c = sym (map_not_upper _ c.in_default.rest.1)
 
 pub upper_map_allowed_spec : {M : Type 1} → statement M
-upper_map_allowed_spec = tie.close (tie.spec returns-in-9 returns-in-9-in_default)
+upper_map_allowed_spec = tie.close (tie.spec returns-in-9 returns-in_default)

@@ -66,8 +66,8 @@ PairAnswered s r =
 pair_answered : (s : Read) → PairAnswered s s.read_link.result
 pair_answered s = let so = (turn s).loop-i.inv.1 in s.read_link.ensures so.previous so.ranked
 
-pair_found : (s : Paired) → PairAnswered (read s) (Pair s.m-1.given.0.0 s.m-1.given.0.1.0 s.m-1.given.0.1.1.0)
-pair_found s = subst (PairAnswered (read s)) s.m-1.given.1 (pair_answered (read s))
+pair_found : (s : Paired) → PairAnswered (read s) (Pair s.in-Pair.m-1 s.in-Pair.from s.in-Pair.to)
+pair_found s = subst (PairAnswered (read s)) s.in-Pair.is (pair_answered (read s))
 
 -- What reading the fields and pushing the edges means, by its answer.
 abbrev LinkAnswered : Linked → LinkRead → Type 0
@@ -75,7 +75,7 @@ LinkAnswered s r =
     let p = (paired s).m-1.given.0 in
     let l = turn (read (paired s)) in
     let a = (start l).args in
-    LinkReads p.0 p.1.0 p.1.1.0 (get_or a.digits.now s.before.before.before.byte_index-source.result 0) a.part.now (l.loop-i.next + 3) l.loop-i.words-1 s.push_link.last.1.1.1.0 l.loop-i.count r
+    LinkReads p.0 p.1.0 p.1.1.0 (get_or a.digits.now s.byte_index-source.result 0) a.part.now (l.loop-i.next + 3) l.loop-i.words-1 s.push_link.last.1.1.1.0 l.loop-i.count r
 
 loop-i-init : tie.Need-loop-i-init invariant-loop-i decreases-loop-i
 loop-i-init c = (refl, edged_none _ _ _ _ _)
@@ -138,9 +138,9 @@ loop-i-preserved c =
     let p = paired s in
     let l = (turn (read p)).loop-i in
     let F = pair_found p in
-    let T = subst (LinkAnswered s) taken.after-1.given.1 s.push_link.ensures in
-    let source = s.before.before.before.byte_index-source.ensures.0 in
-    (T.pushed.long ∙ l.inv.0, edged_more _ _ _ _ l.i _ _ _ _ _ l.inv.1 _ _ _ _ _ F.same _ _ _ T (omega arith) source F.inside.from _ c.before.rank-last.ensures _ c.with_entered-entered.ensures)
+    let T = subst (LinkAnswered s) taken.in-Item.is s.push_link.ensures in
+    let source = s.byte_index-source.ensures.0 in
+    (T.pushed.long ∙ l.inv.0, edged_more _ _ _ _ l.i _ _ _ _ _ l.inv.1 _ _ _ _ _ F.same _ _ _ T (omega arith) source F.inside.from _ c.rank-last.ensures _ c.with_entered-entered.ensures)
 
 enum_known-k : tie.Need-enum_known-k invariant-loop-i decreases-loop-i
 enum_known-k c = search rules
@@ -154,7 +154,7 @@ returns-in-Refused-push_link c =
     let s = linked c.before.before.before in
     let p = paired s in
     let l = (turn (read p)).loop-i in
-    let cut = subst (LinkAnswered s) c.before.k-1.given.1 s.push_link.ensures in
+    let cut = subst (LinkAnswered s) c.in-Refused-push_link.is s.push_link.ensures in
     answers_refused _ _ _ _ _ _ (links_refused _ _ _ (edged_refused _ _ _ _ l.i _ _ _ _ _ l.inv.1 (omega arith) _ (sym (pair_found p).same ∙ cut)))
 
 enum_known-k-in-Refused-read_link : tie.Need-enum_known-k-in-Refused-read_link invariant-loop-i decreases-loop-i
@@ -165,10 +165,10 @@ shape_of-words-in-Refused c = search rules
 
 -- The map or the pair is refused.
 returns-in-Refused : tie.Need-returns-in-Refused invariant-loop-i decreases-loop-i
-returns-in-Refused-push_link-in-Refused c =
+returns-in-Refused c =
     let s = c.before.before.before in
     let l = (turn s).loop-i in
-    let item = subst (PairAnswered s) c.before.k-in-Refused-read_link-1.given.1 (pair_answered s) in
+    let item = subst (PairAnswered s) c.in-Refused.is (pair_answered s) in
     answers_refused _ _ _ _ _ _ (links_refused _ _ _ (edged_refused _ _ _ _ l.i _ _ _ _ _ l.inv.1 (omega arith) _ (sym item.same)))
 
 shape_of-words-then-next-part : tie.Need-shape_of-words-then-next-part invariant-loop-i decreases-loop-i
@@ -176,8 +176,8 @@ shape_of-words-then-next-part c = search rules
 
 -- Bytes follow the last record.
 returns-then-next-part : tie.Need-returns-then-next-part invariant-loop-i decreases-loop-i
-returns-in-Refused-push_link-then-next-part c =
-    let l = c.before.before.loop-i in
+returns-then-next-part c =
+    let l = c.loop-i in
     answers_refused _ _ _ _ _ _ (links_trailing _ _ _ l.next (edged_all _ _ _ _ l.i _ _ _ _ _ l.invariant.1 (omega arith)) c.if-next-part.true)
 
 bounds-digits-0 : tie.Need-bounds-digits-0 invariant-loop-i decreases-loop-i
@@ -194,10 +194,10 @@ shape_of-words : tie.Need-shape_of-words invariant-loop-i decreases-loop-i
 shape_of-words c = search rules
 
 returns : tie.Need-returns invariant-loop-i decreases-loop-i
-returns-in-Refused-push_link c =
+returns c =
     let s = c.before.before in
     let l = (ended s.before).loop-i in
-    answers_whole _ _ _ _ l.i _ _ _ _ _ l.inv.1 _ _ s.complete-all.ensures (omega arith) (links_whole _ _ _ l.next (edged_all _ _ _ _ l.i _ _ _ _ _ l.inv.1 (omega arith)) s.before.before.before.if-next-part.false)
+    answers_whole _ _ _ _ l.i _ _ _ _ _ l.inv.1 _ _ s.complete-all.ensures (omega arith) (links_whole _ _ _ l.next (edged_all _ _ _ _ l.i _ _ _ _ _ l.inv.1 (omega arith)) s.if-next-part.false)
 
 pub read_links_spec : {M : Type 1} → statement M
 read_links_spec =
@@ -224,10 +224,10 @@ read_links_spec =
     returns-in-Refused-push_link
     enum_known-k-in-Refused-read_link
     shape_of-words-in-Refused
-    returns-in-Refused-push_link-in-Refused
+    returns-in-Refused
     shape_of-words-then-next-part
-    returns-in-Refused-push_link-then-next-part
+    returns-then-next-part
     bounds-digits-0
     complete-all-requires
     shape_of-words
-    returns-in-Refused-push_link)
+    returns)

@@ -29,8 +29,8 @@ Answered s r = NumberReads (bytes s) 1 r
 abbrev asked : tie.In-Item-2 → tie.After-read_number
 asked s = s.before.before
 
-count_found : (s : tie.In-Item-2) → Answered (asked s) (Item s.count-1.given.0.0 s.count-1.given.0.1.0)
-count_found s = subst (Answered (asked s)) s.count-1.given.1 (asked s).read_number.ensures
+count_found : (s : tie.In-Item-2) → Answered (asked s) (Item s.in-Item.count-1 s.in-Item.next)
+count_found s = subst (Answered (asked s)) s.in-Item.is (asked s).read_number.ensures
 
 read_number-requires : tie.Need-read_number-requires
 read_number-requires c κs = search rules
@@ -55,21 +55,21 @@ returns-then-r-gt-MOST_RECORDS : tie.Need-returns-then-r-gt-MOST_RECORDS
 returns-then-r-gt-MOST_RECORDS c =
     let r = c.before.before in
     let s = r.before.before in
-    let above : most_records < s.count-1.given.0.0 = rw r.index-r.ensures at c.before.if-r-gt-MOST_RECORDS.true in
+    let above : most_records < s.in-Item.count-1 = rw r.index-r.ensures at c.if-r-gt-MOST_RECORDS.true in
     rw (counted_above (start (asked s)).args.n _ (sym (count_found s).same) above) (c.refused_head.ensures _)
 
 -- R is within it.
 returns-else-r-gt-MOST_RECORDS : tie.Need-returns-else-r-gt-MOST_RECORDS
-returns-then-r-gt-MOST_RECORDS-else-r-gt-MOST_RECORDS c =
+returns-else-r-gt-MOST_RECORDS c =
     let r = c.before in
     let s = r.before.before in
     let n = (start (asked s)).args.n in
     let there = sym (count_found s).same in
     let same = r.index-r.ensures in
-    let below : s.count-1.given.0.0 ≤ most_records = rw same at c.if-r-gt-MOST_RECORDS.false in
+    let below : s.in-Item.count-1 ≤ most_records = rw same at c.if-r-gt-MOST_RECORDS.false in
     let room = count_there (bytes (asked s)) there below in
     record {
-      same = ap (λ (r : ℕ). outcome (sheet_records n r) (drop s.count-1.given.0.1.0 (bytes (asked s)))) same ∙ sym (counted_there n _ there below);
+      same = ap (λ (r : ℕ). outcome (sheet_records n r) (drop s.in-Item.next (bytes (asked s)))) same ∙ sym (counted_there n _ there below);
       inside = (count_found s).inside;
       steps = (start (asked s)).requires;
       few = c.if-r-gt-MOST_RECORDS.false;
@@ -78,10 +78,10 @@ returns-then-r-gt-MOST_RECORDS-else-r-gt-MOST_RECORDS c =
 
 -- R is not there.
 returns-in-Refused : tie.Need-returns-in-Refused
-returns-then-r-gt-MOST_RECORDS-in-Refused c =
+returns-in-Refused c =
     let k = c.before.before in
     let s = k.before.before in
-    let item = subst (Answered s) k.k-1.given.1 s.read_number.ensures in
+    let item = subst (Answered s) k.in-Refused.is s.read_number.ensures in
     rw (counted_refused (start s).args.n _ (sym item.same)) (c.refused_head-in-Refused.ensures _)
 
 pub read_counted_spec : {M : Type 1} → statement M
@@ -95,5 +95,5 @@ read_counted_spec =
     enum_known-k
     refused_head-requires-in-Refused
     returns-then-r-gt-MOST_RECORDS
-    returns-then-r-gt-MOST_RECORDS-else-r-gt-MOST_RECORDS
-    returns-then-r-gt-MOST_RECORDS-in-Refused)
+    returns-else-r-gt-MOST_RECORDS
+    returns-in-Refused)

@@ -30,7 +30,7 @@ refused_head-requires : tie.Need-refused_head-requires
 refused_head-requires c κs = search rules
 
 returns-then-s-eq0 : tie.Need-returns-then-s-eq0
-returns-then-s-eq0 c = rw (sheet_none c.before.before.before.args.s.now c.before.if-s-eq0.true) (c.refused_head.ensures _)
+returns-then-s-eq0 c = rw (sheet_none c.args.s.now c.if-s-eq0.true) (c.refused_head.ensures _)
 
 bounds-s-0 : tie.Need-bounds-s-0
 bounds-s-0 c = search rules
@@ -46,19 +46,19 @@ refused_head-requires-in_default c κs = search rules
 
 -- N is within its limits.
 returns-in-1-to-64 : tie.Need-returns-in-1-to-64
-returns-then-s-eq0-in-1-to-64 c =
+returns-in-1-to-64 c =
     let s = c.before.before.before in
     let e = count_there s in
-    let low : 1 ≤ get_or (bytes s) 0 0 = rw e at c.before.before.in_default.false in
-    let high : get_or (bytes s) 0 0 ≤ most_steps = omega (arith, c.before.if-n-lt65.true) in
+    let low : 1 ≤ get_or (bytes s) 0 0 = rw e at c.in_default.false in
+    let high : get_or (bytes s) 0 0 ≤ most_steps = omega (arith, c.if-n-lt65.true) in
     rw (sheet_there (bytes s) (some_there s) low high) (rw e at c.read_counted.ensures)
 
 -- N is 0, or above its limit.
 returns-in_default : tie.Need-returns-in_default
-returns-then-s-eq0-in_default c =
+returns-in_default c =
     let s = c.before.before in
     let e = count_there s in
-    let bad : Bytes.read (bytes s) ≡ refused 2 = ⊎_elim (λ zero. sheet_zero (bytes s) (some_there s) (rw e at zero.taken)) (λ above. sheet_above (bytes s) (some_there s) (rw e at above.1.left)) c.before.in_default.branch in
+    let bad : Bytes.read (bytes s) ≡ refused 2 = ⊎_elim (λ zero. sheet_zero (bytes s) (some_there s) (rw e at zero.taken)) (λ above. sheet_above (bytes s) (some_there s) (rw e at above.1.left)) c.in_default.branch in
     rw bad (c.refused_head-in_default.ensures _)
 
 pub read_head_spec : {M : Type 1} → statement M
@@ -71,5 +71,5 @@ read_head_spec =
     byte_index-n-requires
     read_counted-requires
     refused_head-requires-in_default
-    returns-then-s-eq0-in-1-to-64
-    returns-then-s-eq0-in_default)
+    returns-in-1-to-64
+    returns-in_default)

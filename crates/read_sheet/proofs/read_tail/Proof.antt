@@ -19,8 +19,8 @@ abbrev whole : tie.In-At-2 → tie.In-Whole
 whole s = s.before.before
 
 -- The steps end within the bytes.
-steps_inside : (s : tie.In-At-2) → place_end (At s.place-in-Whole-1.given.0.0) ≤ length (start (whole s)).args.s.now
-steps_inside s = subst (λ (p : Place). place_end p ≤ length (start (whole s)).args.s.now) s.place-in-Whole-1.given.1 (start (whole s)).requires.inside
+steps_inside : (s : tie.In-At-2) → place_end (At s.in-At.middle) ≤ length (start (whole s)).args.s.now
+steps_inside s = subst (λ (p : Place). place_end p ≤ length (start (whole s)).args.s.now) s.in-At.is (start (whole s)).requires.inside
 
 enum_known-reading : tie.Need-enum_known-reading
 enum_known-reading c = search rules
@@ -47,23 +47,23 @@ read_links-requires : tie.Need-read_links-requires
 read_links-requires c κs = search rules
 
 returns-in-Refused : tie.Need-returns-in-Refused
-returns-in-Refused c = rw c.before.reading-1.given.1
+returns-in-Refused c = rw c.in-Refused.is
 
 returns-in-Refused-place : tie.Need-returns-in-Refused-place
-returns-in-Refused-in-Refused-place c = rw (c.before.before.before.enum_told-1.given.1, c.before.place-1.given.1)
+returns-in-Refused-place c = rw (c.in-Whole.is, c.in-Refused-place.is)
 
 shape_of-words : tie.Need-shape_of-words
 shape_of-words c = search rules
 
 returns-in-At : tie.Need-returns-in-At
-returns-in-Refused-in-At c =
+returns-in-At c =
     let t = c.before.before in
     let s = t.before.before.before.before in
     let a = (start (whole s)).args in
     let bytes = a.s.now in
-    let middle = s.place-in-Whole-1.given.0.0 in
+    let middle = s.in-At.middle in
     let in_part : LinksReads (take (length bytes - middle) (drop middle bytes)) a.n a.r a.digits.now t.read_links.new.words-1 t.read_links.result = t.read_links.ensures in
-    rw ((whole s).enum_told-1.given.1, s.place-in-Whole-1.given.1) (rw (part_rest bytes middle) at in_part)
+    rw ((whole s).in-Whole.is, s.in-At.is) (rw (part_rest bytes middle) at in_part)
 
 pub read_tail_spec : {M : Type 1} → statement M
 read_tail_spec =
@@ -78,6 +78,6 @@ read_tail_spec =
     slice_bounds-read_links-end
     read_links-requires
     returns-in-Refused
-    returns-in-Refused-in-Refused-place
+    returns-in-Refused-place
     shape_of-words
-    returns-in-Refused-in-At)
+    returns-in-At)

@@ -21,10 +21,10 @@ enum_told-1 c = search rules
 
 -- Step 0.
 returns-then-i-lt1 : tie.Need-returns-then-i-lt1
-returns-then-i-lt1 c = sym (added_source _ _ (omega (arith, c.if-i-lt1.true)) c.before.enum_told-1.given.1)
+returns-then-i-lt1 c = sym (added_source _ _ (omega (arith, c.if-i-lt1.true)) c.in-Open.is)
 
 enum_told-in-Absent : tie.Need-enum_told-in-Absent
-enum_told-1-in-Absent c = search rules
+enum_told-in-Absent c = search rules
 
 enum_known-said : tie.Need-enum_known-said
 enum_known-said c = search rules
@@ -37,18 +37,18 @@ overflow_add-result c = search rules
 
 -- A fixed step.
 returns-in-Fixed : tie.Need-returns-in-Fixed
-returns-then-i-lt1-in-Fixed c = c.gain_digits.ensures ∙ sym (added_fixed _ _ _ c.before.before.delay-1.given.1)
+returns-in-Fixed c = c.gain_digits.ensures ∙ sym (added_fixed _ _ _ c.in-Fixed.is)
 
 -- An open one of which no least is said, and one with a least.
 returns-in-Absent : tie.Need-returns-in-Absent
 unfolding ticks_said
-returns-then-i-lt1-in-Absent c = sym (added_open _ _ Absent (λ e. omega (arith, c.before.before.if-i-lt1.false, e)) c.before.before.before.enum_told-1.given.1 c.enum_told-in-Absent-1.given.1)
+returns-in-Absent c = sym (added_open _ _ Absent (λ e. omega (arith, c.if-i-lt1.false, e)) c.in-Open.is c.in-Absent.is)
 
 returns-in-Ticks : tie.Need-returns-in-Ticks
 unfolding ticks_said
-returns-then-i-lt1-in-Ticks c =
+returns-in-Ticks c =
     ap (λ (x : ℕ). counted_place + x) c.gain_digits-in-Ticks.ensures
-    ∙ sym (added_open _ _ (Ticks _) (λ e. omega (arith, c.before.before.before.before.if-i-lt1.false, e)) c.before.before.before.before.before.enum_told-1.given.1 c.before.before.said-1.given.1)
+    ∙ sym (added_open _ _ (Ticks _) (λ e. omega (arith, c.if-i-lt1.false, e)) c.in-Open.is c.in-Ticks.is)
 
 pub added_by_spec : {M : Type 1} → statement M
 added_by_spec =
@@ -58,10 +58,10 @@ added_by_spec =
     gain_digits-requires
     enum_told-1
     returns-then-i-lt1
-    enum_told-1-in-Absent
+    enum_told-in-Absent
     enum_known-said
     gain_digits-requires-in-Ticks
     overflow_add-result
-    returns-then-i-lt1-in-Fixed
-    returns-then-i-lt1-in-Absent
-    returns-then-i-lt1-in-Ticks)
+    returns-in-Fixed
+    returns-in-Absent
+    returns-in-Ticks)

@@ -12,7 +12,7 @@ use Rattle.read_steps.proofs.fixed_step.Tie as tie
 
 -- What reading the number means, by its answer, where it is read.
 abbrev Answered : tie.After-read_number → NumberRead → Type 0
-Answered s r = let a = s.before.before.args in NumberReads a.s.now a.at r
+Answered s r = let a = s.args in NumberReads a.s.now a.at r
 
 read_number-requires : tie.Need-read_number-requires
 read_number-requires c κs = search rules
@@ -33,16 +33,16 @@ returns-in-Item : tie.Need-returns-in-Item
 returns-in-Item c leasts =
     let known = c.before.before in
     let s = known.before.before.before in
-    let item = subst (Answered s) known.before.ticks-1.given.1 s.read_number.ensures in
-    taken_fixed fixed _ _ _ leasts _ _ item.inside _ (fixed_there _ (sym item.same)) (c.added_by.ensures ∙ ap (added _) c.before.timed.ensures)
+    let item = subst (Answered s) known.in-Item.is s.read_number.ensures in
+    taken_fixed fixed _ _ _ leasts _ _ item.inside _ (fixed_there _ (sym item.same)) (c.added_by.ensures ∙ ap (added _) c.timed.ensures)
 
 returns-in-Refused : tie.Need-returns-in-Refused
-returns-in-Item-in-Refused c leasts =
+returns-in-Refused c leasts =
     let s = c.before.before.before in
-    let item = subst (Answered s) c.before.k-1.given.1 s.read_number.ensures in
+    let item = subst (Answered s) c.in-Refused.is s.read_number.ensures in
     fixed_refused _ (sym item.same)
 
 pub fixed_step_spec : {M : Type 1} → statement M
 fixed_step_spec =
     tie.close
-    (tie.spec read_number-requires enum_known-ticks timed-requires added_by-requires enum_known-k returns-in-Item returns-in-Item-in-Refused)
+    (tie.spec read_number-requires enum_known-ticks timed-requires added_by-requires enum_known-k returns-in-Item returns-in-Refused)

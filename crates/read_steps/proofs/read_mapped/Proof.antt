@@ -70,36 +70,36 @@ later e = ne_eqb _ _ e.if-i-eq0.false
 returns-in-1 : tie.Need-returns-in-1
 returns-in-1 c =
     let e = c.before.before.before in
-    taken_open _ _ _ _ _ _ _ (first_start e).requires.begins (mapped_open _ _ _ c.before.before.in_default.keys1) (c.added_by.ensures ∙ ap (added 0) c.before.untimed.ensures ∙ ap (λ (j : ℕ). added j (record { delay = Open; least = Absent })) (sym e.if-i-eq0.true))
+    taken_open _ _ _ _ _ _ _ (first_start e).requires.begins (mapped_open _ _ _ c.in_default.keys1) (c.added_by.ensures ∙ ap (added 0) c.untimed.ensures ∙ ap (λ (j : ℕ). added j (record { delay = Open; least = Absent })) (sym e.if-i-eq0.true))
 
 returns-in_default : tie.Need-returns-in_default
-returns-in-1-in_default c = let e = c.before in mapped_refused _ _ _ (rw (eq-eqb _ _ e.if-i-eq0.true) (map_first _ c.in_default.rest.1))
+returns-in_default c = let e = c.before in mapped_refused _ _ _ (rw (eq-eqb _ _ e.if-i-eq0.true) (map_first _ c.in_default.rest.1))
 
 -- Another step: maps 0 and 1.
 returns-in-0 : tie.Need-returns-in-0
-returns-in-1-in-0 c =
+returns-in-0 c =
     let e = c.before.before.before in
-    taken_fixed _ _ _ _ _ _ _ (start e).requires.begins 0 (mapped_zero _ _ _ (later e) c.before.before.in_default-m.keys1) (c.added_by-in-0.ensures ∙ ap (added _) c.before.timed.ensures)
+    taken_fixed _ _ _ _ _ _ _ (start e).requires.begins 0 (mapped_zero _ _ _ (later e) c.in_default-m.keys1) (c.added_by-in-0.ensures ∙ ap (added _) c.timed.ensures)
 
 returns-in-1-m : tie.Need-returns-in-1-m
-returns-in-1-in-1-m c =
+returns-in-1-m c =
     let e = c.before.before.before in
-    taken_open _ _ _ _ _ _ _ (start e).requires.begins (mapped_open _ _ _ c.before.before.in_default-m.keys2) (c.added_by-in-1-m.ensures ∙ ap (added _) c.before.untimed-in-1-m.ensures)
+    taken_open _ _ _ _ _ _ _ (start e).requires.begins (mapped_open _ _ _ c.in_default-m.keys2) (c.added_by-in-1-m.ensures ∙ ap (added _) c.untimed-in-1-m.ensures)
 
 -- Map 2, and map 5.
 returns-in-2 : tie.Need-returns-in-2
-returns-in-1-in-2 c =
+returns-in-2 c =
     let e = c.before.before in
-    reads_same (mapped e) fixed _ _ _ (start e).args.i (leasts e) (leasts e) c.fixed_step.result (mapped_fixed (rest e) _ _ (later e) c.before.in_default-m.keys3) (c.fixed_step.ensures (leasts e))
+    reads_same (mapped e) fixed _ _ _ (start e).args.i (leasts e) (leasts e) c.fixed_step.result (mapped_fixed (rest e) _ _ (later e) c.in_default-m.keys3) (c.fixed_step.ensures (leasts e))
 
 returns-in-5 : tie.Need-returns-in-5
-returns-in-1-in-5 c =
+returns-in-5 c =
     let e = c.before.before.before in
-    reads_same (mapped e) slow _ _ _ (start e).args.i (leasts e) c.slow_step.new.leasts c.slow_step.result (mapped_slow (rest e) _ _ (later e) c.before.before.in_default-m.keys4) c.slow_step.ensures
+    reads_same (mapped e) slow _ _ _ (start e).args.i (leasts e) c.slow_step.new.leasts c.slow_step.result (mapped_slow (rest e) _ _ (later e) c.in_default-m.keys4) c.slow_step.ensures
 
 -- Any other map.
 returns-in_default-m : tie.Need-returns-in_default-m
-returns-in-1-in_default-m c =
+returns-in_default-m c =
     let other = c.in_default-m.rest in
     mapped_refused _ _ _ (map_above _ _ (above_two _ other.0.0.0.1 other.0.0.1 other.0.1) other.1)
 
@@ -110,15 +110,15 @@ read_mapped_spec =
     untimed-requires
     added_by-requires
     returns-in-1
-    returns-in-1-in_default
+    returns-in_default
     timed-requires
     added_by-requires-in-0
     untimed-requires-in-1-m
     added_by-requires-in-1-m
     fixed_step-requires
     slow_step-requires
-    returns-in-1-in-0
-    returns-in-1-in-1-m
-    returns-in-1-in-2
-    returns-in-1-in-5
-    returns-in-1-in_default-m)
+    returns-in-0
+    returns-in-1-m
+    returns-in-2
+    returns-in-5
+    returns-in_default-m)

@@ -38,7 +38,7 @@ abbrev Answered : Read → StepRead → Type 0
 Answered s r = let l = turn s in StepReads (operation (eqb l.loop-i.i 0)) (start l).args.s.now l.loop-i.next l.loop-i.i l.loop-i.leasts s.Read-step.last.1.1.1.0 r
 
 loop-i-init : tie.Need-loop-i-init invariant-loop-i decreases-loop-i
-loop-i-init c = (c.before.requires.begins, c.before.requires.long, blank_long c.before.requires.blank, stepping_none _ _ _ _ c.before.requires.blank)
+loop-i-init c = (c.requires.begins, c.requires.long, blank_long c.requires.blank, stepping_none _ _ _ _ c.requires.blank)
 
 read_step-requires : tie.Need-read_step-requires invariant-loop-i decreases-loop-i
 read_step-requires c κs = search rules
@@ -66,7 +66,7 @@ loop-i-preserved c =
     let taken = c.before.before in
     let s = taken.before.before in
     let l = (turn s).loop-i in
-    let step = subst (Answered s) taken.d-1.given.1 s.Read-step.ensures in (
+    let step = subst (Answered s) taken.in-Item.is s.Read-step.ensures in (
       step.inside,
       length-set l.digits l.i _ ∙ l.inv.1,
       leasts_long l.i _ l.leasts _ step.put ∙ l.inv.2,
@@ -80,12 +80,12 @@ returns-in-Refused : tie.Need-returns-in-Refused invariant-loop-i decreases-loop
 returns-in-Refused c =
     let s = c.before.before.before in
     let l = (turn s).loop-i in
-    let refusal = subst (Answered s) c.before.k-1.given.1 s.Read-step.ensures in
+    let refusal = subst (Answered s) c.in-Refused.is s.Read-step.ensures in
     stepping_refused _ _ l.i _ l.digits l.leasts l.unbounded l.inv.3 (omega arith) _ refusal
 
 returns : tie.Need-returns invariant-loop-i decreases-loop-i
-returns-in-Refused c =
-    let l = c.before.loop-i in
+returns c =
+    let l = c.loop-i in
     stepping_all _ _ _ l.i l.next l.digits l.leasts l.unbounded l.invariant.3 c.loop-i-test.false l.invariant.0
 
 pub read_operations_spec : {M : Type 1} → statement M
@@ -105,4 +105,4 @@ read_operations_spec =
     loop-i-preserved
     enum_known-k
     returns-in-Refused
-    returns-in-Refused)
+    returns)

@@ -28,7 +28,7 @@ read_mapped-requires : tie.Need-read_mapped-requires
 read_mapped-requires c κs = search rules
 
 returns : tie.Need-returns
-returns-then-s-at c =
+returns c =
     let a = (start c).args in
     let first = eqb a.i 0 in
     let there : a.at < length a.s.now = omega arith in
@@ -37,4 +37,4 @@ returns-then-s-at c =
 pub read_step_spec : {M : Type 1} → statement M
 read_step_spec =
     tie.close
-    (tie.spec returns-then-s-at bounds-s-at overflow_add-at read_mapped-requires returns-then-s-at)
+    (tie.spec returns-then-s-at bounds-s-at overflow_add-at read_mapped-requires returns)

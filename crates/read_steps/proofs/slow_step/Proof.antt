@@ -42,13 +42,13 @@ returns-in-Item : tie.Need-returns-in-Item
 returns-in-Item c =
     let known = c.before.before in
     let s = known.before.before.before in
-    let item = subst (Answered s) known.before.ticks-1.given.1 s.read_number.ensures in
-    taken_slow slow _ _ _ _ _ _ item.inside _ (start s).requires.other (slow_there _ (sym item.same)) (c.added_by.ensures ∙ ap (added _) c.before.lasting.ensures)
+    let item = subst (Answered s) known.in-Item.is s.read_number.ensures in
+    taken_slow slow _ _ _ _ _ _ item.inside _ (start s).requires.other (slow_there _ (sym item.same)) (c.added_by.ensures ∙ ap (added _) c.lasting.ensures)
 
 returns-in-Refused : tie.Need-returns-in-Refused
-returns-in-Item-in-Refused c =
+returns-in-Refused c =
     let s = c.before.before.before in
-    let item = subst (Answered s) c.before.k-1.given.1 s.read_number.ensures in
+    let item = subst (Answered s) c.in-Refused.is s.read_number.ensures in
     slow_refused _ (sym item.same)
 
 pub slow_step_spec : {M : Type 1} → statement M
@@ -63,4 +63,4 @@ slow_step_spec =
     added_by-requires
     enum_known-k
     returns-in-Item
-    returns-in-Item-in-Refused)
+    returns-in-Refused)

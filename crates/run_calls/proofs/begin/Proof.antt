@@ -15,19 +15,19 @@ abbrev start : tie.Else-has → tie.Start
 start p = p.before.before.before.before
 
 not_begun : (p : tie.Else-has) → test_bit (start p).args.st.started 0 ≡ false
-not_begun p = sym p.before.has.ensures ∙ p.if-has.false
+not_begun p = sym p.has.ensures ∙ p.if-has.false
 
 abbrev first : tie.Else-wrong_count → tie.Else-has
 first p = p.before.before
 
 counted : (p : tie.Else-wrong_count) → bad_count (start (first p)).args.n ≡ false
-counted p = sym p.before.wrong_count.ensures ∙ p.if-wrong_count.false
+counted p = sym p.wrong_count.ensures ∙ p.if-wrong_count.false
 
 abbrev second : tie.Else-too_little → tie.Else-wrong_count
 second p = p.before.before
 
 long : (p : tie.Else-too_little) → let a = (start (first (second p))).args in too_little a.n a.leasts.now a.table.now ≡ false
-long p = sym p.before.too_little.ensures ∙ p.if-too_little.false
+long p = sym p.too_little.ensures ∙ p.if-too_little.false
 
 has-requires : tie.Need-has-requires
 has-requires c κs = search rules
@@ -36,7 +36,7 @@ refusal-requires : tie.Need-refusal-requires
 refusal-requires c κs = search rules
 
 returns-then-has : tie.Need-returns-then-has
-returns-then-has c = returns_as c.refusal.ensures (begin_begun _ _ _ _ _ (sym c.before.before.has.ensures ∙ c.before.if-has.true))
+returns-then-has c = returns_as c.refusal.ensures (begin_begun _ _ _ _ _ (sym c.has.ensures ∙ c.if-has.true))
 
 wrong_count-requires : tie.Need-wrong_count-requires
 wrong_count-requires c κs = search rules
@@ -45,9 +45,9 @@ refusal-requires-then-wrong_count : tie.Need-refusal-requires-then-wrong_count
 refusal-requires-then-wrong_count c κs = search rules
 
 returns-then-wrong_count : tie.Need-returns-then-wrong_count
-returns-then-has-then-wrong_count c =
+returns-then-wrong_count c =
     let test = c.before.before in
-    returns_as c.refusal-then-wrong_count.ensures (begin_count _ _ _ _ _ (not_begun test.before) (sym test.wrong_count.ensures ∙ c.before.if-wrong_count.true))
+    returns_as c.refusal-then-wrong_count.ensures (begin_count _ _ _ _ _ (not_begun test.before) (sym test.wrong_count.ensures ∙ c.if-wrong_count.true))
 
 too_little-requires : tie.Need-too_little-requires
 too_little-requires c κs = count_fits _ (counted c)
@@ -56,10 +56,10 @@ refusal-requires-then-too_little : tie.Need-refusal-requires-then-too_little
 refusal-requires-then-too_little c κs = search rules
 
 returns-then-too_little : tie.Need-returns-then-too_little
-returns-then-has-then-too_little c =
+returns-then-too_little c =
     let test = c.before.before in
     let p = test.before in
-    returns_as c.refusal-then-too_little.ensures (begin_short _ _ _ _ _ (not_begun (first p)) (counted p) (sym test.too_little.ensures ∙ c.before.if-too_little.true))
+    returns_as c.refusal-then-too_little.ensures (begin_short _ _ _ _ _ (not_begun (first p)) (counted p) (sym test.too_little.ensures ∙ c.if-too_little.true))
 
 fresh-requires : tie.Need-fresh-requires
 fresh-requires c κs = record { few = count_fits _ (counted (second c)); long = leasts_enough _ _ _ (long c) }
@@ -71,10 +71,10 @@ sweep-swept-requires c κs =
     room _ c.fresh.ensures (count_fits _ (counted p)) (table_enough _ _ _ (long c.before))
 
 returns : tie.Need-returns
-returns-then-has c =
+returns c =
     let third = c.before.before.before in
     let p = second third in
-    swept_source c.before.sweep-swept.ensures c.before.before.fresh.ensures (begin_given _ _ _ _ _ (not_begun (first p)) (counted p) (long third))
+    swept_source c.sweep-swept.ensures c.fresh.ensures (begin_given _ _ _ _ _ (not_begun (first p)) (counted p) (long third))
 
 pub begin_spec : {M : Type 1} → statement M
 begin_spec =
@@ -85,10 +85,10 @@ begin_spec =
     returns-then-has
     wrong_count-requires
     refusal-requires-then-wrong_count
-    returns-then-has-then-wrong_count
+    returns-then-wrong_count
     too_little-requires
     refusal-requires-then-too_little
-    returns-then-has-then-too_little
+    returns-then-too_little
     fresh-requires
     sweep-swept-requires
-    returns-then-has)
+    returns)

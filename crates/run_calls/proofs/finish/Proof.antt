@@ -20,7 +20,7 @@ abbrev state : tie.Else-is_idle → State
 state p = (start p).args.st
 
 running : (p : tie.Else-is_idle) → not_running (state p) ≡ false
-running p = sym (running_is (state p) _ p.before.is_idle.ensures) ∙ p.if-is_idle.false
+running p = sym (running_is (state p) _ p.is_idle.ensures) ∙ p.if-is_idle.false
 
 few : (p : tie.Else-is_idle) → (state p).n ≤ most_steps
 few p = running_count (state p) (running p)
@@ -29,13 +29,13 @@ abbrev first : tie.Else-is_short → tie.Else-is_idle
 first p = p.before.before
 
 long : (p : tie.Else-is_short) → too_short (start (first p)).args.table.now ((state (first p)).n * (state (first p)).n) ≡ false
-long p = sym p.before.is_short.ensures ∙ p.if-is_short.false
+long p = sym p.is_short.ensures ∙ p.if-is_short.false
 
 abbrev second : tie.Else-not_finishable → tie.Else-is_short
 second p = p.before.before
 
 finishable : (p : tie.Else-not_finishable) → cannot_finish (state (first (second p))) (start (first (second p))).args.s ≡ false
-finishable p = sym (cannot_is (state (first (second p))) _ _ p.before.not_finishable.ensures) ∙ p.if-not_finishable.false
+finishable p = sym (cannot_is (state (first (second p))) _ _ p.not_finishable.ensures) ∙ p.if-not_finishable.false
 
 -- The step exists.
 inside : (p : tie.Else-not_finishable) → (start (first (second p))).args.s < most_steps
@@ -45,7 +45,7 @@ abbrev third : tie.Else-is_early → tie.Else-not_finishable
 third p = p.before.before
 
 late : (p : tie.Else-is_early) → let q = first (second (third p)) in too_early (state q) (start q).args.s ≡ false
-late p = sym p.before.is_early.ensures ∙ p.if-is_early.false
+late p = sym p.is_early.ensures ∙ p.if-is_early.false
 
 is_idle-requires : tie.Need-is_idle-requires
 is_idle-requires c κs = search rules
@@ -54,7 +54,7 @@ refusal-requires : tie.Need-refusal-requires
 refusal-requires c κs = search rules
 
 returns-then-is_idle : tie.Need-returns-then-is_idle
-returns-then-is_idle c = returns_as c.refusal.ensures (finish_idle _ _ _ (sym (running_is _ _ c.before.before.is_idle.ensures) ∙ c.before.if-is_idle.true))
+returns-then-is_idle c = returns_as c.refusal.ensures (finish_idle _ _ _ (sym (running_is _ _ c.is_idle.ensures) ∙ c.if-is_idle.true))
 
 is_short-requires : tie.Need-is_short-requires
 is_short-requires c κs = few c
@@ -63,9 +63,9 @@ refusal-requires-then-is_short : tie.Need-refusal-requires-then-is_short
 refusal-requires-then-is_short c κs = search rules
 
 returns-then-is_short : tie.Need-returns-then-is_short
-returns-then-is_idle-then-is_short c =
+returns-then-is_short c =
     let test = c.before.before in
-    returns_as c.refusal-then-is_short.ensures (finish_short _ _ _ (running test.before) (sym test.is_short.ensures ∙ c.before.if-is_short.true))
+    returns_as c.refusal-then-is_short.ensures (finish_short _ _ _ (running test.before) (sym test.is_short.ensures ∙ c.if-is_short.true))
 
 not_finishable-requires : tie.Need-not_finishable-requires
 not_finishable-requires c κs = few (first c)
@@ -74,10 +74,10 @@ refusal-requires-then-not_finishable : tie.Need-refusal-requires-then-not_finish
 refusal-requires-then-not_finishable c κs = search rules
 
 returns-then-not_finishable : tie.Need-returns-then-not_finishable
-returns-then-is_idle-then-not_finishable c =
+returns-then-not_finishable c =
     let test = c.before.before in
     let p = test.before in
-    returns_as c.refusal-then-not_finishable.ensures (finish_cannot _ _ _ (running (first p)) (long p) (sym (cannot_is _ _ _ test.not_finishable.ensures) ∙ c.before.if-not_finishable.true))
+    returns_as c.refusal-then-not_finishable.ensures (finish_cannot _ _ _ (running (first p)) (long p) (sym (cannot_is _ _ _ test.not_finishable.ensures) ∙ c.if-not_finishable.true))
 
 is_early-requires : tie.Need-is_early-requires
 is_early-requires c κs = inside c
@@ -86,10 +86,10 @@ refusal-requires-then-is_early : tie.Need-refusal-requires-then-is_early
 refusal-requires-then-is_early c κs = search rules
 
 returns-then-is_early : tie.Need-returns-then-is_early
-returns-then-is_idle-then-is_early c =
+returns-then-is_early c =
     let test = c.before.before in
     let p = test.before in
-    returns_as c.refusal-then-is_early.ensures (finish_early _ _ _ (running (first (second p))) (long (second p)) (finishable p) (sym test.is_early.ensures ∙ c.before.if-is_early.true))
+    returns_as c.refusal-then-is_early.ensures (finish_early _ _ _ (running (first (second p))) (long (second p)) (finishable p) (sym test.is_early.ensures ∙ c.if-is_early.true))
 
 ended-requires : tie.Need-ended-requires
 ended-requires c κs = inside (third c)
@@ -101,10 +101,10 @@ sweep-requires c κs =
     room _ c.ended.ensures (few (first p)) (long_enough _ _ (long p))
 
 returns : tie.Need-returns
-returns-then-is_idle c =
+returns c =
     let fourth = c.before.before in
     let p = second (third fourth) in
-    swept_given c.sweep.ensures c.before.ended.ensures (finish_given _ _ _ (running (first p)) (long p) (finishable (third fourth)) (late fourth))
+    swept_given c.sweep.ensures c.ended.ensures (finish_given _ _ _ (running (first p)) (long p) (finishable (third fourth)) (late fourth))
 
 pub finish_spec : {M : Type 1} → statement M
 finish_spec =
@@ -115,13 +115,13 @@ finish_spec =
     returns-then-is_idle
     is_short-requires
     refusal-requires-then-is_short
-    returns-then-is_idle-then-is_short
+    returns-then-is_short
     not_finishable-requires
     refusal-requires-then-not_finishable
-    returns-then-is_idle-then-not_finishable
+    returns-then-not_finishable
     is_early-requires
     refusal-requires-then-is_early
-    returns-then-is_idle-then-is_early
+    returns-then-is_early
     ended-requires
     sweep-requires
-    returns-then-is_idle)
+    returns)

@@ -36,10 +36,10 @@ loop-i-preserved : tie.Need-loop-i-preserved invariant-loop-i decreases-loop-i
 loop-i-preserved c =
     let turn = c.before in
     let l = turn.before in
-    kept_next l.before.requires l.loop-i.invariant turn.loop-i-test.true
+    kept_next l.requires l.loop-i.invariant turn.loop-i-test.true
 
 returns : tie.Need-returns invariant-loop-i decreases-loop-i
-returns c = kept_all c.before.loop-i.invariant c.loop-i-test.false
+returns c = kept_all c.loop-i.invariant c.loop-i-test.false
 
 pub kept_leasts_spec : {M : Type 1} → statement M
 kept_leasts_spec =

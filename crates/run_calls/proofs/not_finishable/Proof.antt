@@ -10,44 +10,44 @@ returns-then-s-eq0 : tie.Need-returns-then-s-eq0
 returns-then-s-eq0 c = cannot_source _ _ _ _ _ c.if-s-eq0.true
 
 returns-then-n-s : tie.Need-returns-then-n-s
-returns-then-s-eq0-then-n-s c = cannot_past _ _ _ _ _ c.before.if-s-eq0.false c.if-n-s.true
+returns-then-n-s c = cannot_past _ _ _ _ _ c.if-s-eq0.false c.if-n-s.true
 
 has-requires : tie.Need-has-requires
 has-requires c κs = search rules
 
 returns-then-not-has : tie.Need-returns-then-not-has
-returns-then-s-eq0-then-not-has c =
+returns-then-not-has c =
     let p = c.before.before in
-    cannot_fixed _ _ _ _ _ p.before.if-s-eq0.false p.if-n-s.false (ap not (sym c.before.has.ensures) ∙ c.if-not-has.true)
+    cannot_fixed _ _ _ _ _ p.if-s-eq0.false p.if-n-s.false (ap not (sym c.has.ensures) ∙ c.if-not-has.true)
 
 has-requires-2 : tie.Need-has-requires-2
 has-requires-2 c κs = search rules
 
 returns-then-not-has-2 : tie.Need-returns-then-not-has-2
-returns-then-s-eq0-then-not-has-2 c =
+returns-then-not-has-2 c =
     let p = c.before.before in
     let q = p.before.before in
-    cannot_early _ _ _ _ _ q.before.if-s-eq0.false q.if-n-s.false (ap not (sym p.before.has.ensures) ∙ p.if-not-has.false) (ap not (sym c.before.has-2.ensures) ∙ c.if-not-has-2.true)
+    cannot_early _ _ _ _ _ q.if-s-eq0.false q.if-n-s.false (ap not (sym p.has.ensures) ∙ p.if-not-has.false) (ap not (sym c.has-2.ensures) ∙ c.if-not-has-2.true)
 
 has-requires-3 : tie.Need-has-requires-3
 has-requires-3 c κs = search rules
 
 returns : tie.Need-returns
-returns-then-s-eq0 c =
+returns c =
     let p = c.before.before.before in
     let q = p.before.before in
     c.has-3.ensures
-    ∙ cannot_twice _ _ _ _ _ q.before.if-s-eq0.false q.if-n-s.false (ap not (sym p.before.has.ensures) ∙ p.if-not-has.false) (ap not (sym c.before.before.has-2.ensures) ∙ c.before.if-not-has-2.false)
+    ∙ cannot_twice _ _ _ _ _ q.if-s-eq0.false q.if-n-s.false (ap not (sym p.has.ensures) ∙ p.if-not-has.false) (ap not (sym c.has-2.ensures) ∙ c.if-not-has-2.false)
 
 pub not_finishable_spec : {M : Type 1} → statement M
 not_finishable_spec =
     tie.close
     (tie.spec
     returns-then-s-eq0
-    returns-then-s-eq0-then-n-s
+    returns-then-n-s
     has-requires
-    returns-then-s-eq0-then-not-has
+    returns-then-not-has
     has-requires-2
-    returns-then-s-eq0-then-not-has-2
+    returns-then-not-has-2
     has-requires-3
-    returns-then-s-eq0)
+    returns)

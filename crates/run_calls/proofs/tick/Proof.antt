@@ -19,7 +19,7 @@ abbrev state : tie.Else-is_idle → State
 state p = (start p).args.st
 
 running : (p : tie.Else-is_idle) → not_running (state p) ≡ false
-running p = sym (running_is (state p) _ p.before.is_idle.ensures) ∙ p.if-is_idle.false
+running p = sym (running_is (state p) _ p.is_idle.ensures) ∙ p.if-is_idle.false
 
 few : (p : tie.Else-is_idle) → (state p).n ≤ most_steps
 few p = running_count (state p) (running p)
@@ -28,7 +28,7 @@ abbrev first : tie.Else-is_short → tie.Else-is_idle
 first p = p.before.before
 
 long : (p : tie.Else-is_short) → too_short (start (first p)).args.table.now ((state (first p)).n * (state (first p)).n) ≡ false
-long p = sym p.before.is_short.ensures ∙ p.if-is_short.false
+long p = sym p.is_short.ensures ∙ p.if-is_short.false
 
 -- From the third test on.
 abbrev second : tie.Else-st-eq-LAST_TICK → tie.Else-is_short
@@ -41,7 +41,7 @@ refusal-requires : tie.Need-refusal-requires
 refusal-requires c κs = search rules
 
 returns-then-is_idle : tie.Need-returns-then-is_idle
-returns-then-is_idle c = returns_as c.refusal.ensures (tick_idle _ _ (sym (running_is _ _ c.before.before.is_idle.ensures) ∙ c.before.if-is_idle.true))
+returns-then-is_idle c = returns_as c.refusal.ensures (tick_idle _ _ (sym (running_is _ _ c.is_idle.ensures) ∙ c.if-is_idle.true))
 
 is_short-requires : tie.Need-is_short-requires
 is_short-requires c κs = few c
@@ -50,17 +50,17 @@ refusal-requires-then-is_short : tie.Need-refusal-requires-then-is_short
 refusal-requires-then-is_short c κs = search rules
 
 returns-then-is_short : tie.Need-returns-then-is_short
-returns-then-is_idle-then-is_short c =
+returns-then-is_short c =
     let test = c.before.before in
-    returns_as c.refusal-then-is_short.ensures (tick_short _ _ (running test.before) (sym test.is_short.ensures ∙ c.before.if-is_short.true))
+    returns_as c.refusal-then-is_short.ensures (tick_short _ _ (running test.before) (sym test.is_short.ensures ∙ c.if-is_short.true))
 
 refusal-requires-then-st-eq-LAST_TICK : tie.Need-refusal-requires-then-st-eq-LAST_TICK
 refusal-requires-then-st-eq-LAST_TICK c κs = search rules
 
 returns-then-st-eq-LAST_TICK : tie.Need-returns-then-st-eq-LAST_TICK
-returns-then-is_idle-then-st-eq-LAST_TICK c =
+returns-then-st-eq-LAST_TICK c =
     let p = c.before.before.before in
-    returns_as c.refusal-then-st-eq-LAST_TICK.ensures (tick_end _ _ (running (first p)) (long p) c.before.if-st-eq-LAST_TICK.true)
+    returns_as c.refusal-then-st-eq-LAST_TICK.ensures (tick_end _ _ (running (first p)) (long p) c.if-st-eq-LAST_TICK.true)
 
 ticked-requires : tie.Need-ticked-requires
 ticked-requires c κs = search rules
@@ -72,10 +72,10 @@ sweep-requires c κs =
     room _ c.ticked.ensures (few (first p)) (long_enough _ _ (long p))
 
 returns : tie.Need-returns
-returns-then-is_idle c =
+returns c =
     let third = c.before.before in
     let p = second third in
-    swept_given c.sweep.ensures c.before.ticked.ensures (tick_given _ _ (running (first p)) (long p) third.if-st-eq-LAST_TICK.false)
+    swept_given c.sweep.ensures c.ticked.ensures (tick_given _ _ (running (first p)) (long p) third.if-st-eq-LAST_TICK.false)
 
 pub tick_spec : {M : Type 1} → statement M
 tick_spec =
@@ -86,9 +86,9 @@ tick_spec =
     returns-then-is_idle
     is_short-requires
     refusal-requires-then-is_short
-    returns-then-is_idle-then-is_short
+    returns-then-is_short
     refusal-requires-then-st-eq-LAST_TICK
-    returns-then-is_idle-then-st-eq-LAST_TICK
+    returns-then-st-eq-LAST_TICK
     ticked-requires
     sweep-requires
-    returns-then-is_idle)
+    returns)

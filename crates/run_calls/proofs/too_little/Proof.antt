@@ -11,11 +11,11 @@ is_short-requires : tie.Need-is_short-requires
 is_short-requires c κs = search rules
 
 returns-then-is_short : tie.Need-returns-then-is_short
-returns-then-is_short c = sym (or_left _ (sym c.before.is_short.ensures ∙ c.if-is_short.true))
+returns-then-is_short c = sym (or_left _ (sym c.is_short.ensures ∙ c.if-is_short.true))
 
 returns : tie.Need-returns
 unfolding too_short
-returns-then-is_short c = sym (or_past _ (sym c.before.is_short.ensures ∙ c.if-is_short.false))
+returns c = sym (or_past _ (sym c.is_short.ensures ∙ c.if-is_short.false))
 
 pub too_little_spec : {M : Type 1} → statement M
-too_little_spec = tie.close (tie.spec is_short-requires returns-then-is_short returns-then-is_short)
+too_little_spec = tie.close (tie.spec is_short-requires returns-then-is_short returns)

@@ -7,7 +7,7 @@ returns-then-n-lt1 : tie.Need-returns-then-n-lt1
 returns-then-n-lt1 c = count_low _ c.if-n-lt1.true
 
 returns : tie.Need-returns
-returns-then-n-lt1 c = count_high _ c.if-n-lt1.false
+returns c = count_high _ c.if-n-lt1.false
 
 pub wrong_count_spec : {M : Type 1} → statement M
-wrong_count_spec = tie.close (tie.spec returns-then-n-lt1 returns-then-n-lt1)
+wrong_count_spec = tie.close (tie.spec returns-then-n-lt1 returns)

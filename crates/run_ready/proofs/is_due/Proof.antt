@@ -12,7 +12,7 @@ has-requires : tie.Need-has-requires
 has-requires c κs = search rules
 
 returns-then-not-has : tie.Need-returns-then-not-has
-returns-then-not-has c = sym (due_unfinished _ _ _ _ _ (sym c.before.has.ensures ∙ not-true _ c.if-not-has.true))
+returns-then-not-has c = sym (due_unfinished _ _ _ _ _ (sym c.has.ensures ∙ not-true _ c.if-not-has.true))
 
 offset_bounds-finish-a : tie.Need-offset_bounds-finish-a
 offset_bounds-finish-a c = search rules
@@ -33,9 +33,9 @@ wide-requires-3 : tie.Need-wide-requires-3
 wide-requires-3 c κs = search rules
 
 returns : tie.Need-returns
-returns-then-not-has c =
+returns c =
     let a = c.before.before.before.before in
-    sym (due_finished _ _ _ _ _ (sym a.before.has.ensures ∙ not-false _ a.if-not-has.false) ∙ ap₂ leb (omega (arith, c.before.before.wide.ensures.0, c.before.wide-2.ensures.0)) (sym c.wide-3.ensures.0))
+    sym (due_finished _ _ _ _ _ (sym a.has.ensures ∙ not-false _ a.if-not-has.false) ∙ ap₂ leb (omega (arith, c.wide.ensures.0, c.wide-2.ensures.0)) (sym c.wide-3.ensures.0))
 
 pub is_due_spec : {M : Type 1} → statement M
 is_due_spec =
@@ -49,4 +49,4 @@ is_due_spec =
     wide-requires-2
     overflow_add-result
     wide-requires-3
-    returns-then-not-has)
+    returns)

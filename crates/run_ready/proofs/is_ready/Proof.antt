@@ -19,7 +19,7 @@ has-requires : tie.Need-has-requires
 has-requires c κs = search rules
 
 returns-then-has : tie.Need-returns-then-has
-returns-then-has c = sym (ready_started _ _ _ _ _ _ _ (sym c.before.has.ensures ∙ c.if-has.true))
+returns-then-has c = sym (ready_started _ _ _ _ _ _ _ (sym c.has.ensures ∙ c.if-has.true))
 
 overflow_mul-at : tie.Need-overflow_mul-at
 overflow_mul-at c = omega (arith, small c)
@@ -43,9 +43,9 @@ row_due-requires : tie.Need-row_due-requires
 row_due-requires c κs = search rules
 
 returns : tie.Need-returns
-returns-then-has c =
+returns c =
     let p = c.before.before in
-    c.row_due.ensures ∙ ready_part _ _ _ _ _ _ _ (sym p.before.has.ensures ∙ p.if-has.false) (start p).requires.exists (start p).requires.long
+    c.row_due.ensures ∙ ready_part _ _ _ _ _ _ _ (sym p.has.ensures ∙ p.if-has.false) (start p).requires.exists (start p).requires.long
 
 pub is_ready_spec : {M : Type 1} → statement M
 is_ready_spec =
@@ -60,4 +60,4 @@ is_ready_spec =
     slice_bounds-row_due-start
     slice_bounds-row_due-end
     row_due-requires
-    returns-then-has)
+    returns)

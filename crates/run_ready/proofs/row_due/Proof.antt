@@ -30,7 +30,7 @@ is_due-requires c κs = search rules
 returns-then-not-is_due : tie.Need-returns-then-not-is_due invariant-loop-a decreases-loop-a
 returns-then-not-is_due c =
     let a = c.before.before.before.before.before in
-    sym (not_due a.loop-a.invariant c.before.before.before.before.loop-a-test.true c.before.before.if-offset.true (sym c.before.is_due.ensures ∙ not-true _ c.if-not-is_due.true))
+    sym (not_due a.loop-a.invariant c.loop-a-test.true c.if-offset.true (sym c.is_due.ensures ∙ not-true _ c.if-not-is_due.true))
 
 overflow_add-a : tie.Need-overflow_add-a invariant-loop-a decreases-loop-a
 overflow_add-a c = search rules
@@ -41,14 +41,14 @@ loop-a-smaller c = search rules
 loop-a-preserved : tie.Need-loop-a-preserved invariant-loop-a decreases-loop-a
 loop-a-preserved c =
     let a = c.before.before.before in
-    let h = c.before.before.loop-a-test.true in
+    let h = c.loop-a-test.true in
     ⊎_elim
     (λ w. rw w.3 (passed_due a.loop-a.invariant h w.0.taken (sym w.1.ensures ∙ not-false _ w.2.left)))
     (λ w. rw w.1 (passed_over a.loop-a.invariant h w.0.left))
     c.if-offset.branch
 
 returns : tie.Need-returns invariant-loop-a decreases-loop-a
-returns-then-not-is_due c = passed_all c.before.loop-a.invariant c.loop-a-test.false
+returns c = passed_all c.loop-a.invariant c.loop-a-test.false
 
 pub row_due_spec : {M : Type 1} → statement M
 row_due_spec =
@@ -64,4 +64,4 @@ row_due_spec =
     overflow_add-a
     loop-a-smaller
     loop-a-preserved
-    returns-then-not-is_due)
+    returns)

@@ -26,7 +26,7 @@ overflow_add-map : tie.Need-overflow_add-map invariant-loop-v decreases-loop-v
 overflow_add-map c =
     let turn = c.before.before.before.before.before in
     let l = turn.before in
-    record { fits = swept_fits l.loop-v.invariant turn.loop-v-test.true l.before.before.before.requires.few c.power-map.ensures }
+    record { fits = swept_fits l.loop-v.invariant turn.loop-v-test.true l.requires.few c.power-map.ensures }
 
 offset_bounds-start-v : tie.Need-offset_bounds-start-v invariant-loop-v decreases-loop-v
 offset_bounds-start-v c = search rules
@@ -46,12 +46,12 @@ loop-v-preserved c =
     let l = turn.before in
     let h = turn.loop-v-test.true in
     ⊎_elim
-    (λ w. rw (w.2, w.3) (swept_start l.loop-v.invariant h (sym c.before.is_ready.ensures ∙ w.0.taken) w.1.ensures))
-    (λ w. rw (w.1, w.2) (swept_over l.loop-v.invariant h (sym c.before.is_ready.ensures ∙ w.0.left)))
+    (λ w. rw (w.2, w.3) (swept_start l.loop-v.invariant h (sym c.is_ready.ensures ∙ w.0.taken) w.1.ensures))
+    (λ w. rw (w.1, w.2) (swept_over l.loop-v.invariant h (sym c.is_ready.ensures ∙ w.0.left)))
     c.if-is_ready.branch
 
 returns : tie.Need-returns invariant-loop-v decreases-loop-v
-returns c = (swept_map c.before.loop-v.invariant c.loop-v-test.false, swept_ticks c.before.loop-v.invariant c.loop-v-test.false)
+returns c = (swept_map c.loop-v.invariant c.loop-v-test.false, swept_ticks c.loop-v.invariant c.loop-v-test.false)
 
 pub starting_now_spec : {M : Type 1} → statement M
 starting_now_spec =

@@ -8,7 +8,7 @@ starting_now-s-requires : tie.Need-starting_now-s-requires
 starting_now-s-requires c κs = search rules
 
 returns : tie.Need-returns
-returns c = swept_now _ _ c.before.before.starting_now-s.ensures.0 c.before.before.starting_now-s.ensures.1
+returns c = swept_now _ _ c.starting_now-s.ensures.0 c.starting_now-s.ensures.1
 
 pub sweep_spec : {M : Type 1} → statement M
 sweep_spec = tie.close (tie.spec starting_now-s-requires returns)

@@ -46,8 +46,8 @@ shape_of-leasts c = search rules
 
 returns : tie.Need-returns invariant-loop-i decreases-loop-i
 returns c =
-    let e : c.before.loop-i.i ≡ c.before.before.args.n = omega arith in
-    rw e at c.before.loop-i.invariant.2
+    let e : c.loop-i.i ≡ c.args.n = omega arith in
+    rw e at c.loop-i.invariant.2
 
 pub copy_leasts_spec : {M : Type 1} → statement M
 copy_leasts_spec =

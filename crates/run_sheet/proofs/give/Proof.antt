@@ -8,7 +8,7 @@ use Rattle.run_sheet.proofs.give.Tie as tie
 
 -- The memory as it is lent.
 abbrev lent : tie.Start → Beginning
-lent s = memory s.args.n.now s.args.unbounded.now s.args.leasts-1.now
+lent s = memory s.args.n.now s.args.unbounded.now s.args.leasts.now
 
 returns-then-leasts-count : tie.Need-returns-then-leasts-count
 returns-then-leasts-count c =
@@ -25,7 +25,7 @@ shape_of-leasts : tie.Need-shape_of-leasts
 shape_of-leasts c = search rules
 
 returns : tie.Need-returns
-returns-then-leasts-count c =
+returns c =
     let copied = c.before.before.before in
     let longer = copied.before.before in
     let s = longer.before.before in
@@ -33,4 +33,4 @@ returns-then-leasts-count c =
 
 pub give_spec : {M : Type 1} → statement M
 give_spec =
-    tie.close (tie.spec returns-then-leasts-count copy_leasts-requires open_steps-requires shape_of-leasts returns-then-leasts-count)
+    tie.close (tie.spec returns-then-leasts-count copy_leasts-requires open_steps-requires shape_of-leasts returns)

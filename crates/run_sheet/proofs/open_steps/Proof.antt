@@ -17,7 +17,7 @@ returns : tie.Need-returns
 returns c =
     let b = c.before in
     let l = b.before in
-    open_bits _ _ _ _ _ l.before.requires.some l.below.ensures b.both.ensures c.insert.ensures
+    open_bits _ _ _ _ _ l.requires.some l.below.ensures b.both.ensures c.insert.ensures
 
 pub open_steps_spec : {M : Type 1} → statement M
 open_steps_spec = tie.close (tie.spec below-requires both-requires insert-requires returns)

@@ -18,13 +18,13 @@ reported s = s.before.before.before
 
 -- The memory as it is lent.
 abbrev lent : tie.Start → Beginning
-lent s = memory s.args.n.now s.args.unbounded.now s.args.leasts-1.now
+lent s = memory s.args.n.now s.args.unbounded.now s.args.leasts.now
 
 -- What was read: the sheet, held in the report. Bytes are below 256.
 read_whole : (s : tie.In_default) → let r = reported s in Whole (start r).args.s.now r.read-report.last.1.0 r.read-report.last.1.1.0 r.read-report.result
 read_whole s =
     let r = reported s in
-    whole (start r).args.s.now _ _ _ (λ i. (r.before.before.before.before.shared_slice_known-1.given i).fits) r.read-report.ensures s.enum_told-1.given.1
+    whole (start r).args.s.now _ _ _ (λ i. (r.shared_slice_known-1.given i).fits) r.read-report.ensures s.in_default.is
 
 slice_bounds-read-end : tie.Need-slice_bounds-read-end
 slice_bounds-read-end c = search rules
@@ -38,7 +38,7 @@ enum_known-reading c = search rules
 returns-in-Refused : tie.Need-returns-in-Refused
 returns-in-Refused c =
     let r = c.before.before.before.before in
-    steps_unread (start r).args.s.now (lent (start r)) _ (report_refused _ _ _ _ _ r.read-report.ensures c.before.reading-1.given.1)
+    steps_unread (start r).args.s.now (lent (start r)) _ (report_refused _ _ _ _ _ r.read-report.ensures c.in-Refused.is)
 
 enum_told-1 : tie.Need-enum_told-1
 enum_told-1 c = search rules
@@ -50,7 +50,7 @@ shape_of-leasts : tie.Need-shape_of-leasts
 shape_of-leasts c = search rules
 
 returns : tie.Need-returns
-returns-in-Refused c =
+returns c =
     let called = c.before.before in
     let s = called.before.before.before.before.before in
     steps_whole (read_whole s) (lent (start (reported s))) called.give.ensures
@@ -66,4 +66,4 @@ steps_spec =
     enum_told-1
     give-requires
     shape_of-leasts
-    returns-in-Refused)
+    returns)

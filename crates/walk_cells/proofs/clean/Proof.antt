@@ -13,7 +13,7 @@ returns-then-c-lt0 c = let a = c.before in (inl refl, sym (below_back a.ranges.c
 
 returns-else-c-lt0 : tie.Need-returns-else-c-lt0
 unfolding Clear
-returns-then-c-lt0-else-c-lt0 c = let a = c.before in rw (to_z-of_z a.ranges.c) (inr (not_below_back a.ranges.c c.if-c-lt0.false), refl)
+returns-else-c-lt0 c = let a = c.before in rw (to_z-of_z a.ranges.c) (inr (not_below_back a.ranges.c c.if-c-lt0.false), refl)
 
 pub clean_spec : {M : Type 1} → statement M
-clean_spec = tie.close (tie.spec returns-then-c-lt0 returns-then-c-lt0-else-c-lt0)
+clean_spec = tie.close (tie.spec returns-then-c-lt0 returns-else-c-lt0)

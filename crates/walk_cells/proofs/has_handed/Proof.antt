@@ -24,9 +24,9 @@ returns-then-c-lt0 c =
     sym (le-leb (handed s) (value s.args.to) (omega (arith, nothing)))
 
 returns-then-to-lt0 : tie.Need-returns-then-to-lt0
-returns-then-c-lt0-then-to-lt0 c =
+returns-then-to-lt0 c =
     let s = c.before.before in
-    let some = extend_some (value s.args.c) s.args.gain s.args.loss (not_below_back s.ranges.c c.before.if-c-lt0.false) in
+    let some = extend_some (value s.args.c) s.args.gain s.args.loss (not_below_back s.ranges.c c.if-c-lt0.false) in
     sym (lt-leb (handed s) (value s.args.to) (omega (arith, some, below_back s.ranges.to c.if-to-lt0.true)))
 
 weight-requires : tie.Need-weight-requires
@@ -48,12 +48,12 @@ overflow_add-result-2 : tie.Need-overflow_add-result-2
 overflow_add-result-2 c = search rules
 
 returns : tie.Need-returns
-returns-then-c-lt0 c =
+returns c =
     let first = c.before in
     let s = first.before.before.before in
     let a = s.args in
-    let walk = not_below_back s.ranges.c first.before.before.if-c-lt0.false in
-    let there = not_below_back s.ranges.to first.before.if-to-lt0.false in
+    let walk = not_below_back s.ranges.c first.if-c-lt0.false in
+    let there = not_below_back s.ranges.to first.if-to-lt0.false in
     let some = extend_some (value a.c) a.gain a.loss walk in
     let own : first.weight.result ≡ value a.c - 1 = rw (to_z-of_z s.ranges.c) at first.weight.ensures in
     let end : c.weight-2.result ≡ value a.to - 1 = rw (to_z-of_z s.ranges.to) at c.weight-2.ensures in
@@ -63,4 +63,4 @@ returns-then-c-lt0 c =
 
 pub has_handed_spec : {M : Type 1} → statement M
 has_handed_spec =
-    tie.close (tie.spec returns-then-c-lt0 returns-then-c-lt0-then-to-lt0 weight-requires overflow_cast-result overflow_add-result weight-requires-2 overflow_cast-result-2 overflow_add-result-2 returns-then-c-lt0)
+    tie.close (tie.spec returns-then-c-lt0 returns-then-to-lt0 weight-requires overflow_cast-result overflow_add-result weight-requires-2 overflow_cast-result-2 overflow_add-result-2 returns)

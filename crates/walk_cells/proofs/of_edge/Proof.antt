@@ -10,14 +10,14 @@ overflow_sub-result : tie.Need-overflow_sub-result
 overflow_sub-result c = search rules
 
 overflow_cast-result : tie.Need-overflow_cast-result
-overflow_cast-result c = record { sfits = omega (arith, c.before.requires) }
+overflow_cast-result c = record { sfits = omega (arith, c.requires) }
 
 returns-then-loss-gain : tie.Need-returns-then-loss-gain
-returns-then-loss-gain c = value_bits _ (omega (arith, c.before.requires))
+returns-then-loss-gain c = value_bits _ (omega (arith, c.requires))
 
 returns-else-loss-gain : tie.Need-returns-else-loss-gain
 unfolding value
-returns-then-loss-gain-else-loss-gain c = omega arith
+returns-else-loss-gain c = omega arith
 
 pub of_edge_spec : {M : Type 1} → statement M
-of_edge_spec = tie.close (tie.spec overflow_sub-result overflow_cast-result returns-then-loss-gain returns-then-loss-gain-else-loss-gain)
+of_edge_spec = tie.close (tie.spec overflow_sub-result overflow_cast-result returns-then-loss-gain returns-else-loss-gain)

@@ -11,7 +11,7 @@ overflow_cast-result : tie.Need-overflow_cast-result
 overflow_cast-result c = let a = c.before in weight_fits a.ranges.c (not_below_back a.ranges.c c.if-c-lt0.false)
 
 returns : tie.Need-returns
-returns-then-c-lt0 c = let a = c.before in weight_bits a.ranges.c (not_below_back a.ranges.c c.if-c-lt0.false)
+returns c = let a = c.before in weight_bits a.ranges.c (not_below_back a.ranges.c c.if-c-lt0.false)
 
 pub weight_spec : {M : Type 1} → statement M
-weight_spec = tie.close (tie.spec returns-then-c-lt0 overflow_cast-result returns-then-c-lt0)
+weight_spec = tie.close (tie.spec returns-then-c-lt0 overflow_cast-result returns)

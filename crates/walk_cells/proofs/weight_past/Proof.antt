@@ -14,16 +14,16 @@ overflow_cast-x : tie.Need-overflow_cast-x
 overflow_cast-x c = record { sfits = omega (arith, small c) }
 
 returns-then-c-x : tie.Need-returns-then-c-x
-returns-then-c-x c = sym (past_none c.before.ranges.c (small c.before) c.if-c-x.true)
+returns-then-c-x c = sym (past_none c.ranges.c (small c.before) c.if-c-x.true)
 
 overflow_sub-result : tie.Need-overflow_sub-result
-overflow_sub-result c = past_fits c.before.ranges.c (small c.before) c.if-c-x.false
+overflow_sub-result c = past_fits c.ranges.c (small c.before) c.if-c-x.false
 
 overflow_cast-result : tie.Need-overflow_cast-result
-overflow_cast-result c = past_cast c.before.ranges.c (small c.before) c.if-c-x.false
+overflow_cast-result c = past_cast c.ranges.c (small c.before) c.if-c-x.false
 
 returns : tie.Need-returns
-returns-then-c-x c = past_bits c.before.ranges.c (small c.before) c.if-c-x.false
+returns c = past_bits c.ranges.c (small c.before) c.if-c-x.false
 
 pub weight_past_spec : {M : Type 1} → statement M
-weight_past_spec = tie.close (tie.spec overflow_cast-x returns-then-c-x overflow_sub-result overflow_cast-result returns-then-c-x)
+weight_past_spec = tie.close (tie.spec overflow_cast-x returns-then-c-x overflow_sub-result overflow_cast-result returns)

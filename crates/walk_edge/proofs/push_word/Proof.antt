@@ -43,7 +43,7 @@ delta_fits : (s : tie.After-delta-delta) → SFits w32 s.delta-delta.result
 delta_fits s = sfits_of s.delta-delta.type_inv
 
 -- The row of the end is there to be raised.
-target : (s : tie.After-delta-delta) → ((ending s).edge_to-to.result < 64) × Liftable (ending s).edge_to-to.result (start s).args.width s.delta-delta.result (start s).args.row.now (start s).args.d-1.now
+target : (s : tie.After-delta-delta) → ((ending s).edge_to-to.result < 64) × Liftable (ending s).edge_to-to.result (start s).args.width s.delta-delta.result (start s).args.row.now (start s).args.d.now
 target s =
     let to = (ending s).edge_to-to.ensures in
     let p = (start s).requires in
@@ -95,11 +95,11 @@ shape_of-d-then-is_late : tie.Need-shape_of-d-then-is_late
 shape_of-d-then-is_late c = search rules
 
 returns-then-is_late : tie.Need-returns-then-is_late
-returns-then-is_idle-then-is_late c =
+returns-then-is_late c =
     let raised = c.before in
     let told = raised.before.before.before in
     let s = moving told in
-    let late = raised.before.before.if-is_late.true in
+    let late = raised.if-is_late.true in
     let a = (start s).args in
     handed s (rw (to_z-of_z (delta_fits s)) at raised.raise_late.ensures) (late_on a.width _) (late_columns (unpack a.w) _ _ _ (sym told.is_late.ensures ∙ late) (ending s).edge_to-to.ensures.0 (ending s).edge_to-to.ensures.1)
 
@@ -110,12 +110,12 @@ shape_of-d : tie.Need-shape_of-d
 shape_of-d c = search rules
 
 returns : tie.Need-returns
-returns-then-is_idle c =
+returns c =
     let raised = c.before in
     let told = raised.before.before.before in
     let s = moving told in
     let a = (start s).args in
-    handed s (rw (to_z-of_z (delta_fits s)) at raised.raise_row.ensures) (timely_on a.width) (timely_columns (unpack a.w) _ _ (sym told.is_late.ensures ∙ raised.before.before.if-is_late.false))
+    handed s (rw (to_z-of_z (delta_fits s)) at raised.raise_row.ensures) (timely_on a.width) (timely_columns (unpack a.w) _ _ (sym told.is_late.ensures ∙ raised.if-is_late.false))
 
 pub push_word_spec : {M : Type 1} → statement M
 push_word_spec =
@@ -130,7 +130,7 @@ push_word_spec =
     is_late-requires
     raise_late-requires
     shape_of-d-then-is_late
-    returns-then-is_idle-then-is_late
+    returns-then-is_late
     raise_row-requires
     shape_of-d
-    returns-then-is_idle)
+    returns)

@@ -27,7 +27,7 @@ returns-then-width-k : tie.Need-returns-then-width-k
 returns-then-width-k c =
     let raised = c.before in
     let numbered = raised.before.before.before in
-    raised_beyond _ _ _ _ _ _ _ _ _ (rw (to_z-of_z numbered.before.before.ranges.delta) at raised.raise_row.ensures) _ numbered.byte_index-k.ensures.0 (omega arith)
+    raised_beyond _ _ _ _ _ _ _ _ _ (rw (to_z-of_z numbered.ranges.delta) at raised.raise_row.ensures) _ numbered.byte_index-k.ensures.0 (omega arith)
 
 offset_bounds-d-to : tie.Need-offset_bounds-d-to
 offset_bounds-d-to c = search rules
@@ -60,12 +60,12 @@ shape_of-d : tie.Need-shape_of-d
 shape_of-d c = search rules
 
 returns : tie.Need-returns
-returns-then-width-k c =
+returns c =
     let raised = c.before in
     let read = raised.before.before in
     let numbered = read.before.before in
     let start = numbered.before.before in
-    let d = start.args.d-1.now in
+    let d = start.args.d.now in
     let to = start.args.to in
     let k = numbered.byte_index-k.result in
     let target = start.requires.1.target in
@@ -92,4 +92,4 @@ raise_late_spec =
     bounds-d-to-else-width-k
     bounds-d-k-else-width-k
     shape_of-d
-    returns-then-width-k)
+    returns)

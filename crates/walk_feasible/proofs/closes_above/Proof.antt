@@ -20,17 +20,17 @@ decreases-loop-k es via x n v₀ gains₀ losses₀ k₀ v gains losses k = n - 
 abbrev turn : tie.Else-not-enters invariant-loop-k decreases-loop-k → tie.At-loop-k invariant-loop-k decreases-loop-k
 turn s = s.before.before.before.before.before
 
-entered : (s : tie.Else-not-enters invariant-loop-k decreases-loop-k) → Enters (turn s).before.before.args.es.now s.before.before.index-i.result (turn s).loop-k.v
-entered s = s.before.enters.ensures (not-false _ s.if-not-enters.false)
+entered : (s : tie.Else-not-enters invariant-loop-k decreases-loop-k) → Enters (turn s).args.es.now s.index-i.result (turn s).loop-k.v
+entered s = s.enters.ensures (not-false _ s.if-not-enters.false)
 
 loop-k-init : tie.Need-loop-k-init invariant-loop-k decreases-loop-k
-loop-k-init c = back_start _ _ _ c.before.requires.0
+loop-k-init c = back_start _ _ _ c.requires.0
 
 offset_bounds-via-v : tie.Need-offset_bounds-via-v invariant-loop-k decreases-loop-k
 offset_bounds-via-v c = search rules
 
 bounds-via-v : tie.Need-bounds-via-v invariant-loop-k decreases-loop-k
-bounds-via-v c = omega (arith, c.before.loop-k.invariant.below)
+bounds-via-v c = omega (arith, c.loop-k.invariant.below)
 
 index-i-requires : tie.Need-index-i-requires invariant-loop-k decreases-loop-k
 index-i-requires c κs = search rules
@@ -66,11 +66,11 @@ edge_from-v-requires : tie.Need-edge_from-v-requires invariant-loop-k decreases-
 edge_from-v-requires c κs = search rules
 
 returns-then-v-x : tie.Need-returns-then-v-x invariant-loop-k decreases-loop-k
-returns-then-not-enters-then-v-x c = λ t.
+returns-then-v-x c = λ t.
     let s = c.before in
     let l = s.before in
     let e = l.before.before.before in
-    back_closed _ _ _ _ _ _ _ _ (turn e).loop-k.invariant (entered e) s.edge_from-v.ensures.0 l.before.edge_gain-gains.ensures.0 l.edge_loss-losses.ensures.0 c.if-v-x.true (ltb-true _ _ t)
+    back_closed _ _ _ _ _ _ _ _ (turn e).loop-k.invariant (entered e) s.edge_from-v.ensures.0 l.edge_gain-gains.ensures.0 l.edge_loss-losses.ensures.0 c.if-v-x.true (ltb-true _ _ t)
 
 overflow_add-k : tie.Need-overflow_add-k invariant-loop-k decreases-loop-k
 overflow_add-k c = search rules
@@ -82,12 +82,12 @@ loop-k-preserved : tie.Need-loop-k-preserved invariant-loop-k decreases-loop-k
 loop-k-preserved c =
     let s = c.before in
     let l = s.before in
-    let gain = l.before.edge_gain-gains.ensures in
+    let gain = l.edge_gain-gains.ensures in
     let e = l.before.before.before in
-    back_more _ _ _ _ _ _ _ _ (turn e).loop-k.invariant (entered e) s.edge_from-v.ensures.0 gain.0 l.edge_loss-losses.ensures.0 e.before.before.before.before.loop-k-test.true s.edge_from-v.ensures.1 gain.1 l.edge_loss-losses.ensures.1
+    back_more _ _ _ _ _ _ _ _ (turn e).loop-k.invariant (entered e) s.edge_from-v.ensures.0 gain.0 l.edge_loss-losses.ensures.0 e.loop-k-test.true s.edge_from-v.ensures.1 gain.1 l.edge_loss-losses.ensures.1
 
 returns : tie.Need-returns invariant-loop-k decreases-loop-k
-returns-then-not-enters c = λ h. absurd (true≢false (sym h))
+returns c = λ h. absurd (true≢false (sym h))
 
 pub closes_above_spec : {M : Type 1} → statement M
 closes_above_spec =
@@ -109,8 +109,8 @@ closes_above_spec =
     edge_loss-losses-requires
     overflow_add-losses
     edge_from-v-requires
-    returns-then-not-enters-then-v-x
+    returns-then-v-x
     overflow_add-k
     loop-k-smaller
     loop-k-preserved
-    returns-then-not-enters)
+    returns)

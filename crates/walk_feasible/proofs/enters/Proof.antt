@@ -11,7 +11,7 @@ returns-then-k-eq0 : tie.Need-returns-then-k-eq0
 returns-then-k-eq0 c = λ h. absurd (true≢false (sym h))
 
 returns-then-es-k : tie.Need-returns-then-es-k
-returns-then-k-eq0-then-es-k c = λ h. absurd (true≢false (sym h))
+returns-then-es-k c = λ h. absurd (true≢false (sym h))
 
 overflow_sub-k : tie.Need-overflow_sub-k
 overflow_sub-k c = search rules
@@ -26,16 +26,16 @@ edge_to-requires : tie.Need-edge_to-requires
 edge_to-requires c κs = search rules
 
 returns : tie.Need-returns
-returns-then-k-eq0 c = λ h. record { some = omega arith; inside = omega arith; ends = sym c.edge_to.ensures.0 ∙ eqb-true _ _ h }
+returns c = λ h. record { some = omega arith; inside = omega arith; ends = sym c.edge_to.ensures.0 ∙ eqb-true _ _ h }
 
 pub enters_spec : {M : Type 1} → statement M
 enters_spec =
     tie.close
     (tie.spec
     returns-then-k-eq0
-    returns-then-k-eq0-then-es-k
+    returns-then-es-k
     overflow_sub-k
     offset_bounds-es-k
     bounds-es-k
     edge_to-requires
-    returns-then-k-eq0)
+    returns)

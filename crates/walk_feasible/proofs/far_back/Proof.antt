@@ -30,7 +30,7 @@ returns-then-i-eq0 : tie.Need-returns-then-i-eq0 invariant-loop-k decreases-loop
 returns-then-i-eq0 c = search rules
 
 returns-then-es-i : tie.Need-returns-then-es-i invariant-loop-k decreases-loop-k
-returns-then-i-eq0-then-es-i c = search rules
+returns-then-es-i c = search rules
 
 overflow_sub-i : tie.Need-overflow_sub-i invariant-loop-k decreases-loop-k
 overflow_sub-i c = search rules
@@ -54,7 +54,7 @@ loop-k-preserved : tie.Need-loop-k-preserved invariant-loop-k decreases-loop-k
 loop-k-preserved c = search rules
 
 returns : tie.Need-returns invariant-loop-k decreases-loop-k
-returns-then-i-eq0 c = search rules
+returns c = search rules
 
 pub far_back_spec : {M : Type 1} → statement M
 far_back_spec =
@@ -67,7 +67,7 @@ far_back_spec =
     bounds-via-v
     index-i-requires
     returns-then-i-eq0
-    returns-then-i-eq0-then-es-i
+    returns-then-es-i
     overflow_sub-i
     offset_bounds-es-i
     bounds-es-i
@@ -75,4 +75,4 @@ far_back_spec =
     overflow_add-k
     loop-k-smaller
     loop-k-preserved
-    returns-then-i-eq0)
+    returns)

@@ -26,7 +26,7 @@ below-marks-requires : tie.Need-below-marks-requires invariant-loop-k decreases-
 below-marks-requires c κs = search rules
 
 loop-k-init : tie.Need-loop-k-init invariant-loop-k decreases-loop-k
-loop-k-init c = searched_start _ _ _ c.before.before.before.requires.few c.below-marks.ensures
+loop-k-init c = searched_start _ _ _ c.requires.few c.below-marks.ensures
 
 pass-marks-requires : tie.Need-pass-marks-requires invariant-loop-k decreases-loop-k
 pass-marks-requires c κs =
@@ -41,13 +41,13 @@ lowest-x-requires : tie.Need-lowest-x-requires invariant-loop-k decreases-loop-k
 lowest-x-requires c κs = omega arith
 
 far_back-y-requires : tie.Need-far_back-y-requires invariant-loop-k decreases-loop-k
-far_back-y-requires c κs = c.before.lowest-x.ensures.below-marks
+far_back-y-requires c κs = c.lowest-x.ensures.below-marks
 
 closes_above-requires : tie.Need-closes_above-requires invariant-loop-k decreases-loop-k
 closes_above-requires c κs = let s = c.before in (s.far_back-y.ensures, (start (turn (passed s))).pre.few)
 
 returns-then-closes_above : tie.Need-returns-then-closes_above invariant-loop-k decreases-loop-k
-returns-then-marks-eq0-then-closes_above c = circle_found _ _ (start (turn (passed c.before.before.before))).pre.some (c.before.closes_above.ensures c.if-closes_above.true)
+returns-then-closes_above c = circle_found _ _ (start (turn (passed c.before.before.before))).pre.some (c.closes_above.ensures c.if-closes_above.true)
 
 overflow_add-k : tie.Need-overflow_add-k invariant-loop-k decreases-loop-k
 overflow_add-k c = search rules
@@ -58,13 +58,13 @@ loop-k-smaller c = search rules
 loop-k-preserved : tie.Need-loop-k-preserved invariant-loop-k decreases-loop-k
 loop-k-preserved c =
     let back = c.before.before.before in
-    let x = back.before.before.lowest-x.ensures in
+    let x = back.lowest-x.ensures in
     let s = passed back in
     let t = turn s in
-    searched_more _ _ (start t).pre.some (start t).pre.few t.loop-k.inv s.pass-marks.ensures _ x.below-marks x.member s.before.before.before.loop-k-test.taken
+    searched_more _ _ (start t).pre.some (start t).pre.few t.loop-k.inv s.pass-marks.ensures _ x.below-marks x.member s.loop-k-test.taken
 
 returns : tie.Need-returns invariant-loop-k decreases-loop-k
-returns-then-marks-eq0 c = let t = c.before in searched_spent _ _ (start t).requires.some (start t).requires.few t.loop-k.invariant (omega arith)
+returns c = let t = c.before in searched_spent _ _ (start t).requires.some (start t).requires.few t.loop-k.invariant (omega arith)
 
 pub feasible_spec : {M : Type 1} → statement M
 feasible_spec =
@@ -79,8 +79,8 @@ feasible_spec =
     lowest-x-requires
     far_back-y-requires
     closes_above-requires
-    returns-then-marks-eq0-then-closes_above
+    returns-then-closes_above
     overflow_add-k
     loop-k-smaller
     loop-k-preserved
-    returns-then-marks-eq0)
+    returns)

@@ -9,18 +9,18 @@ use Rattle.walk_feasible.proofs.pass.Tie as tie
 
 pass_order-m-requires : tie.Need-pass_order-m-requires
 pass_order-m-requires c κs =
-    let p = c.before.before.before.before.requires in
+    let p = c.requires in
     (p.0, record { listed = p.1.listed; room = room_less most_steps pass_visits (omega arith) p.1.room; noted = p.1.noted })
 
 pass_down-requires : tie.Need-pass_down-requires
 pass_down-requires c κs =
     let ordered = c.before.before in
-    let p = ordered.before.before.before.before.before.requires.1 in
+    let p = ordered.requires.1 in
     let h = ordered.pass_order-m.ensures in
     record { listed = p.listed; room = passed_room most_steps most_steps pass_visits (omega arith) p.room h; noted = h.noted }
 
 returns : tie.Need-returns
-returns c = passed_then (λ v x. inr x) (omega arith) c.before.before.before.pass_order-m.ensures c.pass_down.ensures
+returns c = passed_then (λ v x. inr x) (omega arith) c.pass_order-m.ensures c.pass_down.ensures
 
 pub pass_spec : {M : Type 1} → statement M
 pass_spec = tie.close (tie.spec pass_order-m-requires pass_down-requires returns)

@@ -21,7 +21,7 @@ abbrev turn : tie.After-highest-last invariant-loop-left decreases-loop-left →
 turn s = s.before.before
 
 loop-left-init : tie.Need-loop-left-init invariant-loop-left decreases-loop-left
-loop-left-init c = let p = c.before.before.requires in falling_start _ _ _ (search rules) p.room.long p.noted
+loop-left-init c = let p = c.requires in falling_start _ _ _ (search rules) p.room.long p.noted
 
 highest-last-requires : tie.Need-highest-last-requires invariant-loop-left decreases-loop-left
 highest-last-requires c κs = omega arith
@@ -34,7 +34,7 @@ pass_step-m-requires c κs =
     (h.highest-last.ensures.below, record { listed = p.listed; room = falling_room _ _ _ _ _ _ _ F _ h.highest-last.ensures p.room; noted = F.passed.noted })
 
 below-requires : tie.Need-below-requires invariant-loop-left decreases-loop-left
-below-requires c κs = let b = c.before.before.before.highest-last.ensures.below in omega arith
+below-requires c κs = let b = c.highest-last.ensures.below in omega arith
 
 both-left-requires : tie.Need-both-left-requires invariant-loop-left decreases-loop-left
 both-left-requires c κs = search rules
@@ -45,10 +45,10 @@ loop-left-smaller c = let h = c.before.before.before.before.before in falling_le
 loop-left-preserved : tie.Need-loop-left-preserved invariant-loop-left decreases-loop-left
 loop-left-preserved c =
     let h = c.before.before.before.before.before in
-    falling_turn _ _ _ _ _ _ _ (turn h).loop-left.invariant _ h.highest-last.ensures _ _ _ _ _ c.before.before.pass_step-m.ensures c.before.below.ensures c.both-left.ensures
+    falling_turn _ _ _ _ _ _ _ (turn h).loop-left.invariant _ h.highest-last.ensures _ _ _ _ _ c.pass_step-m.ensures c.below.ensures c.both-left.ensures
 
 returns : tie.Need-returns invariant-loop-left decreases-loop-left
-returns c = falling_end _ _ _ _ _ _ _ c.before.loop-left.invariant (omega arith)
+returns c = falling_end _ _ _ _ _ _ _ c.loop-left.invariant (omega arith)
 
 pub pass_down_spec : {M : Type 1} → statement M
 pass_down_spec =

@@ -21,7 +21,7 @@ abbrev start : tie.At-loop-k invariant-loop-k decreases-loop-k → tie.Start inv
 start s = s.before.before.before
 
 loop-k-init : tie.Need-loop-k-init invariant-loop-k decreases-loop-k
-loop-k-init c = let p = c.before.before.requires.1 in (omega arith, passed_less (λ v x. absurd x) (omega arith) (passed_idle p.room.long p.noted))
+loop-k-init c = let p = c.requires.1 in (omega arith, passed_less (λ v x. absurd x) (omega arith) (passed_idle p.room.long p.noted))
 
 bounds-order-k : tie.Need-bounds-order-k invariant-loop-k decreases-loop-k
 bounds-order-k c = search rules
@@ -34,7 +34,7 @@ pass_step-m-requires c κs =
     let t = c.before.before.before.before.before in
     let p = (start t).requires in
     let been = t.loop-k.invariant.1 in
-    (c.before.before.place-u.ensures.1, record { listed = p.1.listed; room = passed_room t.loop-k.k 1 most_steps (omega (arith, p.0)) p.1.room been; noted = been.noted })
+    (c.place-u.ensures.1, record { listed = p.1.listed; room = passed_room t.loop-k.k 1 most_steps (omega (arith, p.0)) p.1.room been; noted = been.noted })
 
 overflow_add-k : tie.Need-overflow_add-k invariant-loop-k decreases-loop-k
 overflow_add-k c = search rules

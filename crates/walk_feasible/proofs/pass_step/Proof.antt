@@ -15,13 +15,13 @@ remove-rest-requires : tie.Need-remove-rest-requires
 remove-rest-requires c κs = search rules
 
 returns-then-rest-marks : tie.Need-returns-then-rest-marks
-returns-then-rest-marks c = let p = c.before.before.before.before.requires.1 in passed_same _ _ _ c.before.remove-rest.ensures c.if-rest-marks.true p.room.long p.noted
+returns-then-rest-marks c = let p = c.requires.1 in passed_same _ _ _ c.remove-rest.ensures c.if-rest-marks.true p.room.long p.noted
 
 push_step-requires : tie.Need-push_step-requires
 push_step-requires c κs = search rules
 
 returns : tie.Need-returns
-returns-then-rest-marks c = passed_visit _ _ (start c).requires.1.listed.light (removed c).remove-rest.ensures c.push_step.ensures
+returns c = passed_visit _ _ (start c).requires.1.listed.light (removed c).remove-rest.ensures c.push_step.ensures
 
 pub pass_step_spec : {M : Type 1} → statement M
-pass_step_spec = tie.close (tie.spec remove-rest-requires returns-then-rest-marks push_step-requires returns-then-rest-marks)
+pass_step_spec = tie.close (tie.spec remove-rest-requires returns-then-rest-marks push_step-requires returns)

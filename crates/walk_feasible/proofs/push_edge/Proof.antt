@@ -46,7 +46,7 @@ moved_fits : (s : tie.After-moved-c) → SFits w32 s.moved-c.result
 moved_fits s = sfits_of s.moved-c.type_inv
 
 old_fits : (s : tie.After-is_less) → SFits w32 (old (came s))
-old_fits s = sfits_of s.before.is_less-arg-1.given
+old_fits s = sfits_of s.is_less-arg-1.given
 
 -- The moved cell weighs what the cell does and what the edge gains, less what it loses.
 weighs : (s : tie.After-moved-c) → height (moved s) + (unpack (entry s).args.w).loss ≡ height (entry s).args.own + (unpack (entry s).args.w).gain
@@ -55,7 +55,7 @@ weighs s =
     let l = d.before in
     let sum = s.moved-c.ensures in
     let difference = d.delta-by.ensures.0.sum in
-    omega (arith, sum, difference, l.edge_loss.ensures.0, l.before.edge_gain.ensures.0, height_back (own_fits d), height_back (by_fits d), height_back (moved_fits s))
+    omega (arith, sum, difference, l.edge_loss.ensures.0, l.edge_gain.ensures.0, height_back (own_fits d), height_back (by_fits d), height_back (moved_fits s))
 
 -- What the comparison says of the row.
 above : (s : tie.After-is_less) → s.is_less.result ≡ true → height (old (came s)) < height (moved (came s))
@@ -111,10 +111,10 @@ returns-then-is_less c =
     let a = s.args in
     let to = (ending m).edge_to-to.ensures in
     word_stored (unpack a.w) a.row.now a.via.now a.marks (height a.own) (moved m) s.pre.long s.pre.noted to.0 (weighs m)
-    _ _ to.1 (above l c.before.if-is_less.true) c.insert.ensures
+    _ _ to.1 (above l c.if-is_less.true) c.insert.ensures
 
 returns : tie.Need-returns
-returns-then-is_less c =
+returns c =
     let l = c.before in
     let m = came l in
     let s = entry m in
@@ -140,4 +140,4 @@ push_edge_spec =
     bounds-via-to
     insert-requires
     returns-then-is_less
-    returns-then-is_less)
+    returns)

@@ -43,7 +43,7 @@ following s = following_next (entry s).requires.1.listed (some s) (turn s).loop-
 
 -- The cell of u fits 32 bits.
 own_fits : (s : tie.After-shared_slice_known-3-1 invariant-loop-next decreases-loop-next) → SFits w32 (get_or (start s).args.row.now (start s).args.u (pos 0))
-own_fits s = sfits_of s.before.own-1.given
+own_fits s = sfits_of s.own-1.given
 
 offset_bounds-row-u : tie.Need-offset_bounds-row-u invariant-loop-next decreases-loop-next
 offset_bounds-row-u c = search rules
@@ -64,7 +64,7 @@ index-k-requires : tie.Need-index-k-requires invariant-loop-next decreases-loop-
 index-k-requires c κs = search rules
 
 overflow_sub-k : tie.Need-overflow_sub-k invariant-loop-next decreases-loop-next
-overflow_sub-k c = omega (arith, c.before.before.index-k.ensures)
+overflow_sub-k c = omega (arith, c.index-k.ensures)
 
 offset_bounds-es-k : tie.Need-offset_bounds-es-k invariant-loop-next decreases-loop-next
 offset_bounds-es-k c = let i = c.before.before in omega (arith, (turn i).loop-next.invariant.few, i.index-k.ensures, (entry i).requires.1.listed.few)
@@ -95,10 +95,10 @@ loop-next-preserved : tie.Need-loop-next-preserved invariant-loop-next decreases
 loop-next-preserved c =
     let i = indexed c.before in
     let own = height_back (own_fits (turn i).before) in
-    following_turn (some i) (following i) (pushed_more (pushed_at (entry i).args.es.now i.index-k.ensures own c.before.push_edge-m.ensures)) (turn i).loop-next.inv
+    following_turn (some i) (following i) (pushed_more (pushed_at (entry i).args.es.now i.index-k.ensures own c.push_edge-m.ensures)) (turn i).loop-next.inv
 
 returns : tie.Need-returns invariant-loop-next decreases-loop-next
-returns c = following_end (omega arith) pushed_as c.before.loop-next.invariant
+returns c = following_end (omega arith) pushed_as c.loop-next.invariant
 
 pub push_step_spec : {M : Type 1} → statement M
 push_step_spec =

@@ -14,7 +14,7 @@ feasible-requires : tie.Need-feasible-requires
 feasible-requires c κs = search rules
 
 returns : tie.Need-returns
-returns-then-marks-eq0 c = λ shape rooted rest. c.feasible.ensures shape rooted
+returns c = λ shape rooted rest. c.feasible.ensures shape rooted
 
 pub possible_spec : {M : Type 1} → statement M
-possible_spec = tie.close (tie.spec returns-then-marks-eq0 feasible-requires returns-then-marks-eq0)
+possible_spec = tie.close (tie.spec returns-then-marks-eq0 feasible-requires returns)

@@ -21,7 +21,7 @@ places-place-requires : tie.Need-places-place-requires
 places-place-requires c κs = search rules
 
 sweep_first-marks-requires : tie.Need-sweep_first-marks-requires
-sweep_first-marks-requires c κs = let p = c.before.before.before.before.before.requires in sweepable_later 0 1 p (omega arith) p.network.linked.square (held_more (omega arith) p.held)
+sweep_first-marks-requires c κs = let p = c.requires in sweepable_later 0 1 p (omega arith) p.network.linked.square (held_more (omega arith) p.held)
 
 possible-requires : tie.Need-possible-requires
 possible-requires c κs = search rules
@@ -35,7 +35,7 @@ returns-then-not-possible c =
     record {
       square = f.sweep_first-marks.ensures.swept.square;
       settled = λ q. absurd (both_ways q refl);
-      told = λ shape rooted rest. sym (not-true _ c.if-not-possible.true) ∙ c.before.possible.ensures shape rooted (rest f.sweep_first-marks.new.d-1 f.sweep_first-marks.result f.sweep_first-marks.ensures);
+      told = λ shape rooted rest. sym (not-true _ c.if-not-possible.true) ∙ c.possible.ensures shape rooted (rest f.sweep_first-marks.new.d-1 f.sweep_first-marks.result f.sweep_first-marks.ensures);
     }
 
 sweep_on-requires : tie.Need-sweep_on-requires
@@ -45,17 +45,17 @@ shape_of-d : tie.Need-shape_of-d
 shape_of-d c = search rules
 
 returns : tie.Need-returns
-returns-then-not-possible c =
+returns c =
     let tested = c.before.before.before.before in
     let f = tested.before.before.before in
     let s = start f in
     let a = s.args in
     let first = f.sweep_first-marks.ensures in
-    let settled = c.before.sweep_on.ensures _ (settling_opened a.es.now (leasts_in a.leasts.now) a.waiting.now a.number.now a.width a.n a.d-1.now s.pre.network.linked.square first) in
+    let settled = c.sweep_on.ensures _ (settling_opened a.es.now (leasts_in a.leasts.now) a.waiting.now a.number.now a.width a.n a.d-1.now s.pre.network.linked.square first) in
     record {
       square = settled.square;
       settled = λ q. settled;
-      told = λ shape rooted rest. sym (not-false _ tested.if-not-possible.false) ∙ tested.before.possible.ensures shape rooted (rest f.sweep_first-marks.new.d-1 f.sweep_first-marks.result first);
+      told = λ shape rooted rest. sym (not-false _ tested.if-not-possible.false) ∙ tested.possible.ensures shape rooted (rest f.sweep_first-marks.new.d-1 f.sweep_first-marks.result first);
     }
 
 pub settle_spec : {M : Type 1} → statement M
@@ -69,4 +69,4 @@ settle_spec =
     returns-then-not-possible
     sweep_on-requires
     shape_of-d
-    returns-then-not-possible)
+    returns)

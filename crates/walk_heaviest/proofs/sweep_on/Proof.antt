@@ -26,10 +26,10 @@ abbrev start : tie.At-loop-k invariant-loop-k decreases-loop-k → tie.Start inv
 start s = s.before.before.before
 
 loop-k-init : tie.Need-loop-k-init invariant-loop-k decreases-loop-k
-loop-k-init c = let p = c.before.before.requires in ((omega arith, p.some), p.network.linked.square, λ w H. held_more (omega arith) H, λ d' S. S)
+loop-k-init c = let p = c.requires in ((omega arith, p.some), p.network.linked.square, λ w H. held_more (omega arith) H, λ d' S. S)
 
 shape_of-d-then-left-eq0 : tie.Need-shape_of-d-then-left-eq0 invariant-loop-k decreases-loop-k
-shape_of-d-then-left-eq0 c = c.before.before.loop-k.invariant.1.rows
+shape_of-d-then-left-eq0 c = c.loop-k.invariant.1.rows
 
 returns-then-left-eq0 : tie.Need-returns-then-left-eq0 invariant-loop-k decreases-loop-k
 returns-then-left-eq0 c =
@@ -50,13 +50,13 @@ loop-k-preserved : tie.Need-loop-k-preserved invariant-loop-k decreases-loop-k
 loop-k-preserved c =
     let s = c.before.before.before.before.before in
     let a = (start s).args in
-    ((omega arith, omega arith), square_then s.loop-k.invariant.1 c.before.sweep-left.ensures.square, λ w H. held_more (omega (arith, (start s).requires.few, s.loop-k.invariant.0)) (c.before.sweep-left.ensures.held _ (s.loop-k.invariant.2 w H)), λ d' S. settling_more a.es.now (leasts_in a.leasts.now) a.waiting.now a.number.now a.width a.n d' (s.loop-k.invariant.3 d' S) c.before.sweep-left.ensures)
+    ((omega arith, omega arith), square_then s.loop-k.invariant.1 c.sweep-left.ensures.square, λ w H. held_more (omega (arith, (start s).requires.few, s.loop-k.invariant.0)) (c.sweep-left.ensures.held _ (s.loop-k.invariant.2 w H)), λ d' S. settling_more a.es.now (leasts_in a.leasts.now) a.waiting.now a.number.now a.width a.n d' (s.loop-k.invariant.3 d' S) c.sweep-left.ensures)
 
 shape_of-d : tie.Need-shape_of-d invariant-loop-k decreases-loop-k
-shape_of-d c = c.before.loop-k.invariant.1.rows
+shape_of-d c = c.loop-k.invariant.1.rows
 
 returns : tie.Need-returns invariant-loop-k decreases-loop-k
-returns-then-left-eq0 c =
+returns c =
     let s = c.before in
     let a = (start s).args in
     λ d' S. settling_end a.es.now (leasts_in a.leasts.now) a.waiting.now a.number.now a.width a.n d' s.loop-k.invariant.0.1 (omega arith) (s.loop-k.invariant.3 d' S)
@@ -75,4 +75,4 @@ sweep_on_spec =
     loop-k-smaller
     loop-k-preserved
     shape_of-d
-    returns-then-left-eq0)
+    returns)

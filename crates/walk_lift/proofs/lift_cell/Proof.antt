@@ -22,14 +22,14 @@ bounds-row-k : tie.Need-bounds-row-k
 bounds-row-k c = search rules
 
 -- The cell that is handed on: it fits, and it is read where the row has it.
-handed_fits : (s : tie.After-moved-arg-1) → SFits w32 (get_or s.before.args.row.now s.before.args.k (pos 0))
+handed_fits : (s : tie.After-moved-arg-1) → SFits w32 (get_or s.args.row.now s.args.k (pos 0))
 handed_fits s = sfits_of s.moved-arg-1.given
 
-handed_in : (s : tie.After-moved-arg-1) → get_or s.before.args.row.now s.before.args.k (pos 0) ≡ cell_of s.before.args.row.now s.before.args.k
-handed_in s = let p = s.before.requires in cell_in s.before.args.row.now s.before.args.k (omega (arith, p.long, p.target.few))
+handed_in : (s : tie.After-moved-arg-1) → get_or s.args.row.now s.args.k (pos 0) ≡ cell_of s.args.row.now s.args.k
+handed_in s = let p = s.requires in cell_in s.args.row.now s.args.k (omega (arith, p.long, p.target.few))
 
 moved-c-requires : tie.Need-moved-c-requires
-moved-c-requires c κs = rw (to_z-of_z (handed_fits c), to_z-of_z c.before.ranges.delta, handed_in c) (c.before.requires.movable, c.before.requires.small)
+moved-c-requires c κs = rw (to_z-of_z (handed_fits c), to_z-of_z c.ranges.delta, handed_in c) (c.requires.movable, c.requires.small)
 
 offset_bounds-d-to : tie.Need-offset_bounds-d-to
 offset_bounds-d-to c = search rules
@@ -65,13 +65,13 @@ shape_of-d : tie.Need-shape_of-d
 shape_of-d c = search rules
 
 -- The cell that was there, and that it fits.
-old_in : (s : tie.After-old-1) → get_or (get_or s.before.before.before.args.d.now s.before.before.before.args.to []) s.before.before.before.args.k (pos 0) ≡ cell_at s.before.before.before.args.d.now s.before.before.before.args.to s.before.before.before.args.k
+old_in : (s : tie.After-old-1) → get_or (get_or s.args.d.now s.args.to []) s.args.k (pos 0) ≡ cell_at s.args.d.now s.args.to s.args.k
 old_in s =
     let start = s.before.before.before in
     let p = start.requires.target in
     cell_in (get_or start.args.d.now start.args.to []) start.args.k (omega (arith, p.square.cells start.args.to p.row, p.few))
 
-old_fits : (s : tie.After-old-1) → SFits w32 (get_or (get_or s.before.before.before.args.d.now s.before.before.before.args.to []) s.before.before.before.args.k (pos 0))
+old_fits : (s : tie.After-old-1) → SFits w32 (get_or (get_or s.args.d.now s.args.to []) s.args.k (pos 0))
 old_fits s = sfits_of s.old-1.given
 
 returns : tie.Need-returns

@@ -18,7 +18,7 @@ shape_of-d-then-has c = search rules
 returns-then-has : tie.Need-returns-then-has
 returns-then-has c =
     let has = c.before.before.before.before in
-    raised_marked (sym has.has.ensures ∙ c.before.before.before.if-has.true) (rw (to_z-of_z has.before.ranges.delta) at c.before.lift.ensures)
+    raised_marked (sym has.has.ensures ∙ c.if-has.true) (rw (to_z-of_z has.ranges.delta) at c.lift.ensures)
 
 lift_noting-grew-requires : tie.Need-lift_noting-grew-requires
 lift_noting-grew-requires c κs = search rules
@@ -30,7 +30,7 @@ shape_of-d : tie.Need-shape_of-d
 shape_of-d c = search rules
 
 returns : tie.Need-returns
-returns-then-has c =
+returns c =
     let lifts = c.before.before in
     let start = lifts.before.before.before.before in
     raised_noting _ c.insert_if.ensures (rw (to_z-of_z start.ranges.delta) at lifts.lift_noting-grew.ensures.0) lifts.lift_noting-grew.ensures.1
@@ -38,4 +38,4 @@ returns-then-has c =
 pub raise_row_spec : {M : Type 1} → statement M
 raise_row_spec =
     tie.close
-    (tie.spec has-requires lift-requires shape_of-d-then-has returns-then-has lift_noting-grew-requires insert_if-requires shape_of-d returns-then-has)
+    (tie.spec has-requires lift-requires shape_of-d-then-has returns-then-has lift_noting-grew-requires insert_if-requires shape_of-d returns)

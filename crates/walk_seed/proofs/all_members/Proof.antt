@@ -39,13 +39,13 @@ loop-v-smaller c = search rules
 loop-v-preserved : tie.Need-loop-v-preserved invariant-loop-v decreases-loop-v
 loop-v-preserved c =
     let s = c.before.before.before in
-    (omega arith, λ a. union_more s.before.args.sets.now s.loop-v.v s.loop-v.all c.union-all.result a (s.loop-v.invariant.1 a) (c.union-all.ensures a))
+    (omega arith, λ a. union_more s.args.sets.now s.loop-v.v s.loop-v.all c.union-all.result a (s.loop-v.invariant.1 a) (c.union-all.ensures a))
 
 returns : tie.Need-returns invariant-loop-v decreases-loop-v
 returns c =
     let s = c.before in
-    let e : s.loop-v.v ≡ s.before.args.n = omega arith in
-    λ a. s.loop-v.invariant.1 a ∙ ap (any_below (λ w. row_bit s.before.args.sets.now w a)) e
+    let e : s.loop-v.v ≡ s.args.n = omega arith in
+    λ a. s.loop-v.invariant.1 a ∙ ap (any_below (λ w. row_bit s.args.sets.now w a)) e
 
 pub all_members_spec : {M : Type 1} → statement M
 all_members_spec =

@@ -40,12 +40,12 @@ loop-k-preserved c =
     let s = c.before.before.before in
     let gain = c.counted_gain-gain in
     let both = or_above s.loop-k.all gain.result in
-    (omega arith, λ z. idle_more s.before.before.args.es.now s.loop-k.k gain.result (s.loop-k.invariant.1 (omega (arith, both.0))) gain.ensures (omega (arith, both.1)))
+    (omega arith, λ z. idle_more s.args.es.now s.loop-k.k gain.result (s.loop-k.invariant.1 (omega (arith, both.0))) gain.ensures (omega (arith, both.1)))
 
 returns : tie.Need-returns invariant-loop-k decreases-loop-k
 returns c none =
     let s = c.before in
-    let es = s.before.before.args.es.now in
+    let es = s.args.es.now in
     let e : s.loop-k.k ≡ length es = omega arith in
     subst (λ (x : ℕ). Idle es x) e (s.loop-k.invariant.1 (eqb-true _ _ (not-false _ none)))
 

@@ -12,10 +12,10 @@ is_counted-requires : tie.Need-is_counted-requires
 is_counted-requires c κs = search rules
 
 returns-then-is_counted : tie.Need-returns-then-is_counted
-returns-then-is_counted c counts = c.before.before.edge_gain-gain.ensures.0
+returns-then-is_counted c counts = c.edge_gain-gain.ensures.0
 
 returns-else-is_counted : tie.Need-returns-else-is_counted
-returns-then-is_counted-else-is_counted c counts = absurd (both_ways counts (sym c.before.is_counted.ensures ∙ c.if-is_counted.false))
+returns-else-is_counted c counts = absurd (both_ways counts (sym c.is_counted.ensures ∙ c.if-is_counted.false))
 
 pub counted_gain_spec : {M : Type 1} → statement M
 counted_gain_spec =
@@ -24,4 +24,4 @@ counted_gain_spec =
     edge_gain-gain-requires
     is_counted-requires
     returns-then-is_counted
-    returns-then-is_counted-else-is_counted)
+    returns-else-is_counted)

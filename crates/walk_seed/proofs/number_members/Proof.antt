@@ -26,22 +26,22 @@ bounds-number-a : tie.Need-bounds-number-a invariant-loop-left decreases-loop-le
 bounds-number-a c = search rules
 
 overflow_add-width : tie.Need-overflow_add-width invariant-loop-left decreases-loop-left
-overflow_add-width c = let low = c.lowest-a.ensures in omega (arith, c.before.before.loop-left.invariant.ahead _ low.member, low.below)
+overflow_add-width c = let low = c.lowest-a.ensures in omega (arith, c.loop-left.invariant.ahead _ low.member, low.below)
 
 without_lowest-left-requires : tie.Need-without_lowest-left-requires invariant-loop-left decreases-loop-left
 without_lowest-left-requires c κs = omega arith
 
 loop-left-smaller : tie.Need-loop-left-smaller invariant-loop-left decreases-loop-left
-loop-left-smaller c = let low = c.before.lowest-a.ensures in removed_lt _ _ _ low.member (c.without_lowest-left.ensures _ low)
+loop-left-smaller c = let low = c.lowest-a.ensures in removed_lt _ _ _ low.member (c.without_lowest-left.ensures _ low)
 
 loop-left-preserved : tie.Need-loop-left-preserved invariant-loop-left decreases-loop-left
-loop-left-preserved c = let low = c.before.lowest-a.ensures in numbering_more _ low (c.without_lowest-left.ensures _ low) c.before.before.before.loop-left.invariant
+loop-left-preserved c = let low = c.lowest-a.ensures in numbering_more _ low (c.without_lowest-left.ensures _ low) c.loop-left.invariant
 
 overflow_cast-result : tie.Need-overflow_cast-result invariant-loop-left decreases-loop-left
-overflow_cast-result c = omega (arith, c.before.loop-left.invariant.few)
+overflow_cast-result c = omega (arith, c.loop-left.invariant.few)
 
 returns : tie.Need-returns invariant-loop-left decreases-loop-left
-returns c = numbering_end (omega arith) c.before.loop-left.invariant
+returns c = numbering_end (omega arith) c.loop-left.invariant
 
 pub number_members_spec : {M : Type 1} → statement M
 number_members_spec =

@@ -47,18 +47,18 @@ shape_of-d : tie.Need-shape_of-d
 shape_of-d c = search rules
 
 -- The cell that was there and the new one fit, and the table has the first.
-old_in : (s : tie.After-is_less-arg-1) → get_or (get_or s.before.args.d.now s.before.args.v []) s.before.args.k (pos 0) ≡ cell_at s.before.args.d.now s.before.args.v s.before.args.k
+old_in : (s : tie.After-is_less-arg-1) → get_or (get_or s.args.d.now s.args.v []) s.args.k (pos 0) ≡ cell_at s.args.d.now s.args.v s.args.k
 old_in s =
     let start = s.before in
     let p = start.requires in
     cell_in (get_or start.args.d.now start.args.v []) start.args.k (omega (arith, p.square.cells start.args.v p.row, p.few))
 
-old_fits : (s : tie.After-is_less-arg-1) → SFits w32 (get_or (get_or s.before.args.d.now s.before.args.v []) s.before.args.k (pos 0))
+old_fits : (s : tie.After-is_less-arg-1) → SFits w32 (get_or (get_or s.args.d.now s.args.v []) s.args.k (pos 0))
 old_fits s = sfits_of s.is_less-arg-1.given
 
 -- What the test says of the two.
-tells : (s : tie.After-is_less) → let a = s.before.before.args in Compared (cell_at a.d.now a.v a.k) a.c s.is_less.result
-tells s = rw (to_z-of_z (old_fits s.before), to_z-of_z s.before.before.ranges.c, old_in s.before) at s.is_less.ensures
+tells : (s : tie.After-is_less) → let a = s.args in Compared (cell_at a.d.now a.v a.k) a.c s.is_less.result
+tells s = rw (to_z-of_z (old_fits s.before), to_z-of_z s.ranges.c, old_in s.before) at s.is_less.ensures
 
 returns-then-is_less : tie.Need-returns-then-is_less
 returns-then-is_less c =
@@ -68,7 +68,7 @@ returns-then-is_less c =
     rw (to_z-of_z s.ranges.c) (raised_stored a.v a.k a.c a.d.now s.requires.square s.requires.row (omega (arith, s.requires.few)) (omega (arith, (tells c.before).below c.if-is_less.true, value_height old, value_height a.c)))
 
 returns-else-is_less : tie.Need-returns-else-is_less
-returns-then-is_less-else-is_less c =
+returns-else-is_less c =
     let s = c.before.before.before in
     let a = s.args in
     let old = cell_at a.d.now a.v a.k in
@@ -89,4 +89,4 @@ raise_spec =
     bounds-d-k-then-is_less
     shape_of-d
     returns-then-is_less
-    returns-then-is_less-else-is_less)
+    returns-else-is_less)

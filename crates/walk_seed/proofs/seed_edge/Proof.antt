@@ -26,22 +26,22 @@ edge s = unpack (start s).args.w
 
 -- That cell says what the edge gains.
 weighs : (s : tie.After-of_edge-c) → value s.of_edge-c.result ≡ suc ((edge s).gain - (edge s).loss)
-weighs s = omega (arith, s.of_edge-c.ensures, s.before.before.edge_gain.ensures.0, s.before.edge_loss.ensures.0)
+weighs s = omega (arith, s.of_edge-c.ensures, s.edge_gain.ensures.0, s.edge_loss.ensures.0)
 
 edge_from-from-requires : tie.Need-edge_from-from-requires
 edge_from-from-requires c κs = search rules
 
 returns-then-from-eq0 : tie.Need-returns-then-from-eq0
-returns-then-from-eq0 c = let s = c.before.before in begun_source s.args.number.now (unpack s.args.w) s.args.d-1.now s.requires.placed.square (sym c.before.edge_from-from.ensures.0 ∙ c.if-from-eq0.true)
+returns-then-from-eq0 c = let s = c.before.before in begun_source s.args.number.now (unpack s.args.w) s.args.d.now s.requires.placed.square (sym c.edge_from-from.ensures.0 ∙ c.if-from-eq0.true)
 
 bounds-number-from : tie.Need-bounds-number-from
 bounds-number-from c = search rules
 
 returns-then-k-ge64 : tie.Need-returns-then-k-ge64
-returns-then-from-eq0-then-k-ge64 c =
+returns-then-k-ge64 c =
     let f = c.before.before.before in
     let s = f.before in
-    begun_unnumbered s.args.number.now (unpack s.args.w) s.args.d-1.now s.requires.placed.square (omega (arith, ap (λ (x : ℕ). get_or s.args.number.now x 0) f.edge_from-from.ensures.0, c.if-k-ge64.true))
+    begun_unnumbered s.args.number.now (unpack s.args.w) s.args.d.now s.requires.placed.square (omega (arith, ap (λ (x : ℕ). get_or s.args.number.now x 0) f.edge_from-from.ensures.0, c.if-k-ge64.true))
 
 edge_gain-requires : tie.Need-edge_gain-requires
 edge_gain-requires c κs = search rules
@@ -61,15 +61,15 @@ place-requires c κs = search rules
 raise-requires : tie.Need-raise-requires
 raise-requires c κs =
     let p = (start c.before.before.before).requires.placed in
-    record { row = omega (arith, c.before.edge_to.ensures.0, p.row); few = omega (arith, c.place.ensures.1); square = p.square }
+    record { row = omega (arith, c.edge_to.ensures.0, p.row); few = omega (arith, c.place.ensures.1); square = p.square }
 
 shape_of-d : tie.Need-shape_of-d
 shape_of-d c = search rules
 
 returns : tie.Need-returns
-returns-then-from-eq0 c =
+returns c =
     let to = c.before.before.before in
-    let k = c.before.before.place in
+    let k = c.place in
     let o = to.before.before in
     let s = start o in
     let from = (leaving o).edge_from-from.ensures in
@@ -80,16 +80,16 @@ returns-then-from-eq0 c =
     to.edge_to.result
     k.result
     o.of_edge-c.result
-    s.args.d-1.now
-    c.before.raise.new.d-1
+    s.args.d.now
+    c.raise.new.d-1
     to.edge_to.ensures.0
     s.pre.placed.light
     s.pre.counts
-    (λ z. o.before.before.before.before.before.if-from-eq0.false (from.0 ∙ z))
+    (λ z. o.if-from-eq0.false (from.0 ∙ z))
     (omega (arith, from.0, from.1))
-    (omega (arith, k.ensures.0, ap (λ (x : ℕ). get_or s.args.number.now x 0) from.0, o.before.before.before.if-k-ge64.false))
+    (omega (arith, k.ensures.0, ap (λ (x : ℕ). get_or s.args.number.now x 0) from.0, o.if-k-ge64.false))
     (weighs o)
-    (rw (to_z-of_z fits) at c.before.raise.ensures)
+    (rw (to_z-of_z fits) at c.raise.ensures)
 
 pub seed_edge_spec : {M : Type 1} → statement M
 seed_edge_spec =
@@ -98,7 +98,7 @@ seed_edge_spec =
     edge_from-from-requires
     returns-then-from-eq0
     bounds-number-from
-    returns-then-from-eq0-then-k-ge64
+    returns-then-k-ge64
     edge_gain-requires
     edge_loss-requires
     of_edge-c-requires
@@ -106,4 +106,4 @@ seed_edge_spec =
     place-requires
     raise-requires
     shape_of-d
-    returns-then-from-eq0)
+    returns)

@@ -14,10 +14,10 @@ shape_of-d : tie.Need-shape_of-d
 shape_of-d c = search rules
 
 returns-then-begins_some : tie.Need-returns-then-begins_some
-returns-then-begins_some c = c.before.seed_words.ensures
+returns-then-begins_some c = c.seed_words.ensures
 
 returns-else-begins_some : tie.Need-returns-else-begins_some
-returns-then-begins_some-else-begins_some c = let s = c.before.before.before in begun_idle _ s.args.es.now _ s.requires.square (c.before.begins_some.ensures c.if-begins_some.false)
+returns-else-begins_some c = let s = c.before.before.before in begun_idle _ s.args.es.now _ s.requires.square (c.begins_some.ensures c.if-begins_some.false)
 
 pub seed_edges_spec : {M : Type 1} → statement M
 seed_edges_spec =
@@ -27,4 +27,4 @@ seed_edges_spec =
     seed_words-requires
     shape_of-d
     returns-then-begins_some
-    returns-then-begins_some-else-begins_some)
+    returns-else-begins_some)

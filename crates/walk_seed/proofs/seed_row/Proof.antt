@@ -60,28 +60,28 @@ without_lowest-left-requires : tie.Need-without_lowest-left-requires invariant-l
 without_lowest-left-requires c κs = omega arith
 
 loop-left-smaller : tie.Need-loop-left-smaller invariant-loop-left decreases-loop-left
-loop-left-smaller c = let low = c.before.before.before.before.before.lowest-a.ensures in removed_lt _ _ _ low.member (c.without_lowest-left.ensures _ low)
+loop-left-smaller c = let low = c.lowest-a.ensures in removed_lt _ _ _ low.member (c.without_lowest-left.ensures _ low)
 
 loop-left-preserved : tie.Need-loop-left-preserved invariant-loop-left decreases-loop-left
 loop-left-preserved c =
-    let a = c.before.before.before.before.before.lowest-a in
-    let k = c.before.before.before.place-k in
-    let least = c.before.of_least-first in
+    let a = c.lowest-a in
+    let k = c.place-k in
+    let least = c.of_least-first in
     let fits : SFits w32 least.result = sfits_of least.type_inv in
     let s = c.before.before.before.before.before.before.before in
-    let args = s.before.args in
+    let args = s.args in
     let S = s.loop-left.invariant.1.square in
     let leaves = c.without_lowest-left.ensures _ a.ensures in
-    let stored = stored_cell args.v k.result least.result s.loop-left.d (square_own S) (omega (arith, s.before.requires.0, S.rows)) k.ensures.1 in (
+    let stored = stored_cell args.v k.result least.result s.loop-left.d (square_own S) (omega (arith, s.requires.0, S.rows)) k.ensures.1 in (
       λ j h. s.loop-left.invariant.0 j (still_left s.loop-left.left c.without_lowest-left.result a.result leaves j h).0,
       rw (to_z-of_z fits) (passed_more (leasts_in args.leasts.now) args.number.now args.v args.map s.loop-left.left c.without_lowest-left.result a.result k.result least.result a.ensures.below (s.loop-left.invariant.0 _ a.ensures.member) a.ensures.member leaves k.ensures.0 least.ensures.0 (omega (arith, least.ensures.1)) s.loop-left.invariant.1 stored),
     )
 
 shape_of-d : tie.Need-shape_of-d invariant-loop-left decreases-loop-left
-shape_of-d c = c.before.loop-left.invariant.1.square.rows
+shape_of-d c = c.loop-left.invariant.1.square.rows
 
 returns : tie.Need-returns invariant-loop-left decreases-loop-left
-returns c = passed_end _ _ _ _ _ (omega arith) c.before.loop-left.invariant.1
+returns c = passed_end _ _ _ _ _ (omega arith) c.loop-left.invariant.1
 
 pub seed_row_spec : {M : Type 1} → statement M
 seed_row_spec =

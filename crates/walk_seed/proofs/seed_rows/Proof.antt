@@ -17,7 +17,7 @@ abbrev decreases-loop-v : tie.decreases-loop-v
 decreases-loop-v d₀ number leasts sets n v₀ d v = n - v
 
 loop-v-init : tie.Need-loop-v-init invariant-loop-v decreases-loop-v
-loop-v-init c = (omega arith, below_start (leasts_in c.args.leasts.now) c.args.number.now c.args.sets.now c.args.d-1.now c.requires.square)
+loop-v-init c = (omega arith, below_start (leasts_in c.args.leasts.now) c.args.number.now c.args.sets.now c.args.d.now c.requires.square)
 
 offset_bounds-sets-v : tie.Need-offset_bounds-sets-v invariant-loop-v decreases-loop-v
 offset_bounds-sets-v c = search rules
@@ -26,7 +26,7 @@ bounds-sets-v : tie.Need-bounds-sets-v invariant-loop-v decreases-loop-v
 bounds-sets-v c = search rules
 
 seed_row-requires : tie.Need-seed_row-requires invariant-loop-v decreases-loop-v
-seed_row-requires c κs = let S = c.before.before.before.loop-v.invariant.1.square in (omega (arith, c.before.before.before.before.requires.inside, S.rows), square_own S)
+seed_row-requires c κs = let S = c.loop-v.invariant.1.square in (omega (arith, c.requires.inside, S.rows), square_own S)
 
 overflow_add-v : tie.Need-overflow_add-v invariant-loop-v decreases-loop-v
 overflow_add-v c = search rules
@@ -35,17 +35,17 @@ loop-v-smaller : tie.Need-loop-v-smaller invariant-loop-v decreases-loop-v
 loop-v-smaller c = search rules
 
 loop-v-preserved : tie.Need-loop-v-preserved invariant-loop-v decreases-loop-v
-loop-v-preserved c = let s = c.before.before.before.before.before in (omega arith, below_more (leasts_in s.before.args.leasts.now) s.before.args.number.now s.before.args.sets.now s.loop-v.v s.loop-v.invariant.1 c.before.seed_row.ensures)
+loop-v-preserved c = let s = c.before.before.before.before.before in (omega arith, below_more (leasts_in s.args.leasts.now) s.args.number.now s.args.sets.now s.loop-v.v s.loop-v.invariant.1 c.seed_row.ensures)
 
 shape_of-d : tie.Need-shape_of-d invariant-loop-v decreases-loop-v
-shape_of-d c = c.before.loop-v.invariant.1.square.rows
+shape_of-d c = c.loop-v.invariant.1.square.rows
 
 returns : tie.Need-returns invariant-loop-v decreases-loop-v
 returns c =
     let s = c.before in
-    let args = s.before.args in
+    let args = s.args in
     let e : s.loop-v.v ≡ args.n = omega arith in
-    subst (λ (x : ℕ). Seeded (leasts_in args.leasts.now) args.number.now (Below args.sets.now x) args.d-1.now s.loop-v.d-1) e s.loop-v.invariant.1
+    subst (λ (x : ℕ). Seeded (leasts_in args.leasts.now) args.number.now (Below args.sets.now x) args.d.now s.loop-v.d-1) e s.loop-v.invariant.1
 
 pub seed_rows_spec : {M : Type 1} → statement M
 seed_rows_spec =

@@ -12,7 +12,7 @@ is_counted-requires : tie.Need-is_counted-requires
 is_counted-requires c κs = search rules
 
 returns-then-not-is_counted : tie.Need-returns-then-not-is_counted
-returns-then-not-is_counted c = let s = c.before.before in begun_uncounted s.args.number.now (unpack s.args.w) s.args.d-1.now s.requires.square (sym c.before.is_counted.ensures ∙ not-true _ c.if-not-is_counted.true)
+returns-then-not-is_counted c = let s = c.before.before in begun_uncounted s.args.number.now (unpack s.args.w) s.args.d.now s.requires.square (sym c.is_counted.ensures ∙ not-true _ c.if-not-is_counted.true)
 
 edge_gain-requires : tie.Need-edge_gain-requires
 edge_gain-requires c κs = search rules
@@ -21,19 +21,19 @@ edge_loss-requires : tie.Need-edge_loss-requires
 edge_loss-requires c κs = search rules
 
 returns-then-edge_gain-edge_loss : tie.Need-returns-then-edge_gain-edge_loss
-returns-then-not-is_counted-then-edge_gain-edge_loss c = let s = c.before.before.before.before.before in begun_light s.args.number.now (unpack s.args.w) s.args.d-1.now s.requires.square (omega (arith, c.before.before.edge_gain.ensures.0, c.before.edge_loss.ensures.0, c.if-edge_gain-edge_loss.true))
+returns-then-edge_gain-edge_loss c = let s = c.before.before.before.before.before in begun_light s.args.number.now (unpack s.args.w) s.args.d.now s.requires.square (omega (arith, c.edge_gain.ensures.0, c.edge_loss.ensures.0, c.if-edge_gain-edge_loss.true))
 
 seed_edge-requires : tie.Need-seed_edge-requires
 seed_edge-requires c κs =
     let counted = c.before.before.before.before.before in
-    let p = counted.before.requires in
-    record { placed = p; counts = sym counted.is_counted.ensures ∙ not-false _ c.before.before.before.before.if-not-is_counted.false }
+    let p = counted.requires in
+    record { placed = p; counts = sym counted.is_counted.ensures ∙ not-false _ c.if-not-is_counted.false }
 
 shape_of-d : tie.Need-shape_of-d
 shape_of-d c = search rules
 
 returns : tie.Need-returns
-returns-then-not-is_counted c = c.before.seed_edge.ensures
+returns c = c.seed_edge.ensures
 
 pub seed_word_spec : {M : Type 1} → statement M
 seed_word_spec =
@@ -43,7 +43,7 @@ seed_word_spec =
     returns-then-not-is_counted
     edge_gain-requires
     edge_loss-requires
-    returns-then-not-is_counted-then-edge_gain-edge_loss
+    returns-then-edge_gain-edge_loss
     seed_edge-requires
     shape_of-d
-    returns-then-not-is_counted)
+    returns)

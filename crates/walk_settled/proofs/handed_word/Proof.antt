@@ -27,10 +27,10 @@ returns c =
     fields_handed
     (said s.args.d.now)
     (unpack s.args.w)
-    c.before.before.before.before.edge_from-from.ensures.0
-    c.before.before.before.edge_to-to.ensures.0
-    c.before.before.edge_gain-gain.ensures.0
-    c.before.edge_loss-loss.ensures.0
+    c.edge_from-from.ensures.0
+    c.edge_to-to.ensures.0
+    c.edge_gain-gain.ensures.0
+    c.edge_loss-loss.ensures.0
     c.handed.ensures
 
 pub handed_word_spec : {M : Type 1} → statement M

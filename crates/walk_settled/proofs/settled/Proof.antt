@@ -18,15 +18,15 @@ settled_edges-requires c κs = search rules
 returns-then-not-settled_edges : tie.Need-returns-then-not-settled_edges
 returns-then-not-settled_edges c =
     let s = c.before.before.before in
-    λ within. sym (edges_fail (said s.args.d.now) s.args.n (leasts_in s.args.leasts.now) s.args.es.now s.args.maps.now (sym c.before.settled_edges.ensures ∙ not-true _ c.if-not-settled_edges.true))
+    λ within. sym (edges_fail (said s.args.d.now) s.args.n (leasts_in s.args.leasts.now) s.args.es.now s.args.maps.now (sym c.settled_edges.ensures ∙ not-true _ c.if-not-settled_edges.true))
 
 settled_waits-requires : tie.Need-settled_waits-requires
 settled_waits-requires c κs = search rules
 
 returns : tie.Need-returns
-returns-then-not-settled_edges c =
+returns c =
     let s = c.before.before.before.before in
-    λ within. c.settled_waits.ensures ∙ both_pass (said s.args.d.now) s.args.n (leasts_in s.args.leasts.now) s.args.es.now s.args.maps.now s.requires.0 (sym c.before.before.settled_edges.ensures ∙ not-false _ c.before.if-not-settled_edges.false) within
+    λ within. c.settled_waits.ensures ∙ both_pass (said s.args.d.now) s.args.n (leasts_in s.args.leasts.now) s.args.es.now s.args.maps.now s.requires.0 (sym c.settled_edges.ensures ∙ not-false _ c.if-not-settled_edges.false) within
 
 pub settled_spec : {M : Type 1} → statement M
 settled_spec =
@@ -35,4 +35,4 @@ settled_spec =
     settled_edges-requires
     returns-then-not-settled_edges
     settled_waits-requires
-    returns-then-not-settled_edges)
+    returns)

@@ -44,7 +44,7 @@ handed_word-requires c κs = search rules
 returns-then-not-handed_word : tie.Need-returns-then-not-handed_word invariant-loop-k decreases-loop-k
 returns-then-not-handed_word c =
     let s = c.before.before.before.before in
-    sym (graph_fails (handed_on (said s.before.before.args.d.now)) s.before.before.args.es.now s.loop-k.k (search rules) (sym c.before.handed_word.ensures ∙ not-true _ c.if-not-handed_word.true))
+    sym (graph_fails (handed_on (said s.args.d.now)) s.args.es.now s.loop-k.k (search rules) (sym c.handed_word.ensures ∙ not-true _ c.if-not-handed_word.true))
 
 overflow_add-k : tie.Need-overflow_add-k invariant-loop-k decreases-loop-k
 overflow_add-k c = search rules
@@ -55,13 +55,13 @@ loop-k-smaller c = search rules
 loop-k-preserved : tie.Need-loop-k-preserved invariant-loop-k decreases-loop-k
 loop-k-preserved c =
     let s = c.before.before.before.before in
-    let given = s.before.before.args in
-    (search rules, all_below_more (handed_at (said given.d.now) given.es.now) s.loop-k.k s.loop-k.invariant.1 (sym c.before.handed_word.ensures ∙ not-false _ c.if-not-handed_word.false))
+    let given = s.args in
+    (search rules, all_below_more (handed_at (said given.d.now) given.es.now) s.loop-k.k s.loop-k.invariant.1 (sym c.handed_word.ensures ∙ not-false _ c.if-not-handed_word.false))
 
 returns : tie.Need-returns invariant-loop-k decreases-loop-k
-returns-then-not-handed_word c =
+returns c =
     let s = c.before in
-    let given = s.before.before.args in
+    let given = s.args in
     sym (graph_passes (handed_on (said given.d.now)) given.es.now (λ k b. all_below_each (handed_at (said given.d.now) given.es.now) s.loop-k.k s.loop-k.invariant.1 k (search rules)))
 
 pub settled_edges_spec : {M : Type 1} → statement M
@@ -78,4 +78,4 @@ settled_edges_spec =
     overflow_add-k
     loop-k-smaller
     loop-k-preserved
-    returns-then-not-handed_word)
+    returns)

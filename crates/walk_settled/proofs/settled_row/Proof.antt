@@ -48,25 +48,25 @@ handed_wait-requires c κs = search rules
 returns-then-not-handed_wait : tie.Need-returns-then-not-handed_wait invariant-loop-left decreases-loop-left
 returns-then-not-handed_wait c =
     let s = c.before.before.before.before.before in
-    let low = c.before.before.before.lowest-a in
-    sym (s.loop-left.invariant ∙ members_fail (waited (said s.before.args.d.now) s.before.args.leasts.now s.before.args.i) s.loop-left.left low.result low.ensures.below low.ensures.member (sym c.before.handed_wait.ensures ∙ not-true _ c.if-not-handed_wait.true))
+    let low = c.lowest-a in
+    sym (s.loop-left.invariant ∙ members_fail (waited (said s.args.d.now) s.args.leasts.now s.args.i) s.loop-left.left low.result low.ensures.below low.ensures.member (sym c.handed_wait.ensures ∙ not-true _ c.if-not-handed_wait.true))
 
 without_lowest-left-requires : tie.Need-without_lowest-left-requires invariant-loop-left decreases-loop-left
 without_lowest-left-requires c κs = omega arith
 
 loop-left-smaller : tie.Need-loop-left-smaller invariant-loop-left decreases-loop-left
-loop-left-smaller c = let low = c.before.before.before.before.lowest-a.ensures in removed_lt _ _ _ low.member (c.without_lowest-left.ensures _ low)
+loop-left-smaller c = let low = c.lowest-a.ensures in removed_lt _ _ _ low.member (c.without_lowest-left.ensures _ low)
 
 loop-left-preserved : tie.Need-loop-left-preserved invariant-loop-left decreases-loop-left
 loop-left-preserved c =
     let s = c.before.before.before.before.before.before in
-    let low = c.before.before.before.before.lowest-a in
+    let low = c.lowest-a in
     s.loop-left.invariant
-    ∙ members_less (waited (said s.before.args.d.now) s.before.args.leasts.now s.before.args.i) s.loop-left.left c.without_lowest-left.result low.result
-    (sym c.before.before.handed_wait.ensures ∙ not-false _ c.before.if-not-handed_wait.false) (c.without_lowest-left.ensures _ low.ensures)
+    ∙ members_less (waited (said s.args.d.now) s.args.leasts.now s.args.i) s.loop-left.left c.without_lowest-left.result low.result
+    (sym c.handed_wait.ensures ∙ not-false _ c.if-not-handed_wait.false) (c.without_lowest-left.ensures _ low.ensures)
 
 returns : tie.Need-returns invariant-loop-left decreases-loop-left
-returns-then-not-handed_wait c = let s = c.before in sym (s.loop-left.invariant ∙ members_none (waited (said s.before.args.d.now) s.before.args.leasts.now s.before.args.i) s.loop-left.left (omega arith))
+returns c = let s = c.before in sym (s.loop-left.invariant ∙ members_none (waited (said s.args.d.now) s.args.leasts.now s.args.i) s.loop-left.left (omega arith))
 
 pub settled_row_spec : {M : Type 1} → statement M
 settled_row_spec =
@@ -83,4 +83,4 @@ settled_row_spec =
     without_lowest-left-requires
     loop-left-smaller
     loop-left-preserved
-    returns-then-not-handed_wait)
+    returns)

@@ -38,7 +38,7 @@ settled_row-requires : tie.Need-settled_row-requires invariant-loop-i decreases-
 settled_row-requires c κs = search rules
 
 returns-then-not-settled_row : tie.Need-returns-then-not-settled_row invariant-loop-i decreases-loop-i
-returns-then-not-settled_row c = sym (not_passing _ (λ t. both_ways (all_below_each _ _ t _ c.before.before.before.loop-i-test.true) (sym c.before.settled_row.ensures ∙ not-true _ c.if-not-settled_row.true)))
+returns-then-not-settled_row c = sym (not_passing _ (λ t. both_ways (all_below_each _ _ t _ c.loop-i-test.true) (sym c.settled_row.ensures ∙ not-true _ c.if-not-settled_row.true)))
 
 overflow_add-i : tie.Need-overflow_add-i invariant-loop-i decreases-loop-i
 overflow_add-i c = search rules
@@ -49,11 +49,11 @@ loop-i-smaller c = search rules
 loop-i-preserved : tie.Need-loop-i-preserved invariant-loop-i decreases-loop-i
 loop-i-preserved c =
     let s = c.before.before.before.before in
-    let given = s.before.args in
-    (search rules, all_below_more (λ j. waits_handed_on (said given.d.now) (leasts_in given.leasts.now) (get_or given.maps.now j 0) j) s.loop-i.i s.loop-i.invariant.1 (sym c.before.settled_row.ensures ∙ not-false _ c.if-not-settled_row.false))
+    let given = s.args in
+    (search rules, all_below_more (λ j. waits_handed_on (said given.d.now) (leasts_in given.leasts.now) (get_or given.maps.now j 0) j) s.loop-i.i s.loop-i.invariant.1 (sym c.settled_row.ensures ∙ not-false _ c.if-not-settled_row.false))
 
 returns : tie.Need-returns invariant-loop-i decreases-loop-i
-returns-then-not-settled_row c = let s = c.before in sym (all_below_by _ _ (λ j b. all_below_each _ s.loop-i.i s.loop-i.invariant.1 j (omega arith)))
+returns c = let s = c.before in sym (all_below_by _ _ (λ j b. all_below_each _ s.loop-i.i s.loop-i.invariant.1 j (omega arith)))
 
 pub settled_waits_spec : {M : Type 1} → statement M
 settled_waits_spec =
@@ -69,4 +69,4 @@ settled_waits_spec =
     overflow_add-i
     loop-i-smaller
     loop-i-preserved
-    returns-then-not-settled_row)
+    returns)

@@ -29,7 +29,7 @@ has-requires c κs = search rules
 returns-then-not-has : tie.Need-returns-then-not-has
 returns-then-not-has c =
     let s = c.before.before.before.before in
-    (swept_none s.requires.network.linked.square (λ v o. ap (test_bit s.args.marks) o ∙ sym c.before.has.ensures ∙ not-true _ c.if-not-has.true), s.requires.long)
+    (swept_none s.requires.network.linked.square (λ v o. ap (test_bit s.args.marks) o ∙ sym c.has.ensures ∙ not-true _ c.if-not-has.true), s.requires.long)
 
 remove-rest-requires : tie.Need-remove-rest-requires
 remove-rest-requires c κs = search rules
@@ -79,11 +79,11 @@ shape_of-d : tie.Need-shape_of-d
 shape_of-d c = search rules
 
 returns : tie.Need-returns
-returns-then-not-has c =
+returns c =
     let p = c.before.before.before.before.before.before.before in
     let t = taken p in
     let took = t.take-top.ensures in
-    (visited _ (leasts_in (start t).args.leasts.now) (start t).args.waiting.now _ _ _ _ _ _ _ _ _ _ _ _ _ (extent t).extent-own.ensures.0 took (removed t).remove-rest.ensures p.push_row-left.ensures (c.before.push_waits.ensures _ _), took.ready.movable.long)
+    (visited _ (leasts_in (start t).args.leasts.now) (start t).args.waiting.now _ _ _ _ _ _ _ _ _ _ _ _ _ (extent t).extent-own.ensures.0 took (removed t).remove-rest.ensures p.push_row-left.ensures (c.push_waits.ensures _ _), took.ready.movable.long)
 
 pub hand_on_spec : {M : Type 1} → statement M
 hand_on_spec =
@@ -103,4 +103,4 @@ hand_on_spec =
     bounds-leasts-u
     push_waits-requires
     shape_of-d
-    returns-then-not-has)
+    returns)

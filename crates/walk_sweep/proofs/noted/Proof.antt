@@ -30,7 +30,7 @@ without_lowest-left-requires : tie.Need-without_lowest-left-requires invariant-l
 without_lowest-left-requires c κs = omega arith
 
 loop-left-smaller : tie.Need-loop-left-smaller invariant-loop-left decreases-loop-left
-loop-left-smaller c = removed_lt _ _ _ c.before.before.before.before.lowest-v.ensures.member (c.without_lowest-left.ensures _ c.before.before.before.before.lowest-v.ensures)
+loop-left-smaller c = removed_lt _ _ _ c.lowest-v.ensures.member (c.without_lowest-left.ensures _ c.lowest-v.ensures)
 
 loop-left-preserved : tie.Need-loop-left-preserved invariant-loop-left decreases-loop-left
 loop-left-preserved c = tt

@@ -37,10 +37,10 @@ next : (s : tie.After-index-k-in-loop-k invariant-loop-k decreases-loop-k) → s
 next s = let t = turn (pushed s) in following_next (entry t).pre.linked.listed (some (pushed s)) t.loop-k.inv s.index-k-in-loop-k.ensures
 
 offset_bounds-lists-u : tie.Need-offset_bounds-lists-u invariant-loop-k decreases-loop-k
-offset_bounds-lists-u c = omega (arith, c.before.before.requires.below)
+offset_bounds-lists-u c = omega (arith, c.requires.below)
 
 bounds-lists-u : tie.Need-bounds-lists-u invariant-loop-k decreases-loop-k
-bounds-lists-u c = let p = c.before.before.before.requires in omega (arith, p.below, p.linked.listed.long)
+bounds-lists-u c = let p = c.requires in omega (arith, p.below, p.linked.listed.long)
 
 index-k-requires : tie.Need-index-k-requires invariant-loop-k decreases-loop-k
 index-k-requires c κs = search rules
@@ -55,7 +55,7 @@ offset_bounds-es-k : tie.Need-offset_bounds-es-k invariant-loop-k decreases-loop
 offset_bounds-es-k c = let t = c.before.before in omega (arith, t.loop-k.invariant.few, (entry t).requires.linked.listed.few)
 
 bounds-es-k : tie.Need-bounds-es-k invariant-loop-k decreases-loop-k
-bounds-es-k c = omega (arith, c.before.before.before.loop-k.invariant.few)
+bounds-es-k c = omega (arith, c.loop-k.invariant.few)
 
 push_word-left-requires : tie.Need-push_word-left-requires invariant-loop-k decreases-loop-k
 push_word-left-requires c κs =
@@ -87,10 +87,10 @@ loop-k-preserved : tie.Need-loop-k-preserved invariant-loop-k decreases-loop-k
 loop-k-preserved c = let s = pushed c in following_turn (some s) (next c) (listed_more s.push_word-left.ensures) (turn s).loop-k.inv
 
 shape_of-d : tie.Need-shape_of-d invariant-loop-k decreases-loop-k
-shape_of-d c = c.before.loop-k.invariant.been.square.rows
+shape_of-d c = c.loop-k.invariant.been.square.rows
 
 returns : tie.Need-returns invariant-loop-k decreases-loop-k
-returns c = following_end (omega arith) listed_as c.before.loop-k.invariant
+returns c = following_end (omega arith) listed_as c.loop-k.invariant
 
 pub push_row_spec : {M : Type 1} → statement M
 push_row_spec =

@@ -32,19 +32,19 @@ lowest s = s.before.before.before.before
 
 -- The wait of that step for u.
 abbrev wait : tie.After-without_lowest-todo invariant-loop-todo decreases-loop-todo → ℕ → Edge
-wait s u = wait_edge (λ a. (turn s).before.args.least) (record { anchor = u; target = (lowest s).lowest-i.result })
+wait s u = wait_edge (λ a. (turn s).args.least) (record { anchor = u; target = (lowest s).lowest-i.result })
 
 -- It has handed on, as an edge that gains the least and loses nothing.
 abbrev Hands : tie.After-without_lowest-todo invariant-loop-todo decreases-loop-todo → ℕ → List ℕ → Type 0
 Hands s u number =
     let t = turn s in
-    let raised = s.before.before.raise_by-left in
-    HandedAll (λ a. UsableFrom (Only (wait s u)) a) number u (lent t.before.args.row.now t.before.args.width) t.loop-todo.d-1 raised.new.0 t.loop-todo.left raised.result
+    let raised = s.raise_by-left in
+    HandedAll (λ a. UsableFrom (Only (wait s u)) a) number u (lent t.args.row.now t.args.width) t.loop-todo.d-1 raised.new.0 t.loop-todo.left raised.result
 
 handed : (s : tie.After-without_lowest-todo invariant-loop-todo decreases-loop-todo) (u : ℕ) (number : List ℕ) → Hands s u number
 handed s u number =
-    let a = (turn s).before.args in
-    handed_row (wait s u) number a.row.now a.width (turn s).before.requires.movable _ _ _ _ _ _ _ (omega (arith, (turn s).before.ranges.least.fits)) refl (gain_delta a.least) s.before.before.raise_by-left.ensures (timely_on a.width) (timely_columns (wait s u) number _ refl)
+    let a = (turn s).args in
+    handed_row (wait s u) number a.row.now a.width (turn s).requires.movable _ _ _ _ _ _ _ (omega (arith, (turn s).ranges.least.fits)) refl (gain_delta a.least) s.raise_by-left.ensures (timely_on a.width) (timely_columns (wait s u) number _ refl)
 
 loop-todo-init : tie.Need-loop-todo-init invariant-loop-todo decreases-loop-todo
 loop-todo-init c = (λ j h. h, λ u number. told_start _ _ _ _ _ _ _ c.requires.square)
@@ -55,14 +55,14 @@ lowest-i-requires c κs = omega arith
 raise_by-left-requires : tie.Need-raise_by-left-requires invariant-loop-todo decreases-loop-todo
 raise_by-left-requires c κs =
     let at-loop = c.before.before.before in
-    let p = at-loop.before.requires in
-    let low = c.before.lowest-i in
+    let p = at-loop.requires in
+    let low = c.lowest-i in
     let S = (at-loop.loop-todo.invariant.1 0 []).square in (
       low.ensures.below,
       record {
         target = record { row = omega (arith, p.inside low.result (at-loop.loop-todo.invariant.0 low.result low.ensures.member), S.rows); few = p.few; square = square_own S };
         movable = p.movable;
-        small = gain_small at-loop.before.args.least (omega (arith, at-loop.before.ranges.least.fits));
+        small = gain_small at-loop.args.least (omega (arith, at-loop.ranges.least.fits));
       },
     )
 
@@ -80,10 +80,10 @@ loop-todo-preserved c =
     (left_within _ _ _ _ s.loop-todo.inv.0 less, λ u number. told_turn _ _ _ _ _ _ _ _ _ _ _ _ _ _ s.loop-todo.inv.0 low.member less (s.loop-todo.inv.1 u number) (handed c u number))
 
 shape_of-d : tie.Need-shape_of-d invariant-loop-todo decreases-loop-todo
-shape_of-d c = (c.before.loop-todo.invariant.1 0 []).square.rows
+shape_of-d c = (c.loop-todo.invariant.1 0 []).square.rows
 
 returns : tie.Need-returns invariant-loop-todo decreases-loop-todo
-returns c = λ u number. told_end _ _ _ _ _ _ _ _ _ _ (omega arith) (c.before.loop-todo.invariant.1 u number)
+returns c = λ u number. told_end _ _ _ _ _ _ _ _ _ _ (omega arith) (c.loop-todo.invariant.1 u number)
 
 pub push_waits_spec : {M : Type 1} → statement M
 push_waits_spec =

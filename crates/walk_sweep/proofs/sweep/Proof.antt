@@ -35,13 +35,13 @@ overflow_add-k-2 : tie.Need-overflow_add-k-2 invariant-loop-k decreases-loop-k
 overflow_add-k-2 c = search rules
 
 loop-k-init : tie.Need-loop-k-init invariant-loop-k decreases-loop-k
-loop-k-init c = (omega arith, swept_none c.before.before.requires.network.linked.square (λ v o. absurd (omega (arith, o.0, o.1))), refl)
+loop-k-init c = (omega arith, swept_none c.requires.network.linked.square (λ v o. absurd (omega (arith, o.0, o.1))), refl)
 
 shape_of-d-then-left-eq0 : tie.Need-shape_of-d-then-left-eq0 invariant-loop-k decreases-loop-k
-shape_of-d-then-left-eq0 c = c.before.before.loop-k.invariant.1.square.rows
+shape_of-d-then-left-eq0 c = c.loop-k.invariant.1.square.rows
 
 returns-then-left-eq0 : tie.Need-returns-then-left-eq0 invariant-loop-k decreases-loop-k
-returns-then-left-eq0 c = swept_all (omega arith) (omega arith) c.before.before.loop-k.invariant.1
+returns-then-left-eq0 c = swept_all (omega arith) (omega arith) c.loop-k.invariant.1
 
 next_step-u-requires : tie.Need-next_step-u-requires invariant-loop-k decreases-loop-k
 next_step-u-requires c κs = search rules
@@ -51,7 +51,7 @@ hand_on-left-requires c κs =
     let t = c.before.before.before.before.before in
     let p = (start t).requires in
     let S = t.loop-k.invariant.1.square in
-    let u = c.before.before.next_step-u.ensures.0 in
+    let u = c.next_step-u.ensures.0 in
     record { below = omega (arith, u, p.few); inside = omega (arith, u, p.inside, S.rows); few = p.narrow; network = network_then p.network S; held = held_more (omega (arith, t.loop-k.invariant.0, p.room, p.few)) (t.loop-k.invariant.1.held p.level p.held); long = t.loop-k.invariant.2 }
 
 rest_of-requires : tie.Need-rest_of-requires invariant-loop-k decreases-loop-k
@@ -73,13 +73,13 @@ loop-k-preserved : tie.Need-loop-k-preserved invariant-loop-k decreases-loop-k
 loop-k-preserved c =
     let v = visited c in
     let t = turn v in
-    (omega arith, swept_down _ _ _ _ v.before.before.before.next_step-u.ensures.1 (omega arith) t.loop-k.inv.0 t.loop-k.inv.1 v.hand_on-left.ensures.0, v.hand_on-left.ensures.1)
+    (omega arith, swept_down _ _ _ _ v.next_step-u.ensures.1 (omega arith) t.loop-k.inv.0 t.loop-k.inv.1 v.hand_on-left.ensures.0, v.hand_on-left.ensures.1)
 
 shape_of-d : tie.Need-shape_of-d invariant-loop-k decreases-loop-k
-shape_of-d c = c.before.loop-k.invariant.1.square.rows
+shape_of-d c = c.loop-k.invariant.1.square.rows
 
 returns : tie.Need-returns invariant-loop-k decreases-loop-k
-returns-then-left-eq0 c = swept_part (λ v x. (omega arith, x)) (omega arith) c.before.loop-k.invariant.1
+returns c = swept_part (λ v x. (omega arith, x)) (omega arith) c.loop-k.invariant.1
 
 pub sweep_spec : {M : Type 1} → statement M
 sweep_spec =
@@ -101,4 +101,4 @@ sweep_spec =
     loop-k-smaller
     loop-k-preserved
     shape_of-d
-    returns-then-left-eq0)
+    returns)

@@ -12,7 +12,7 @@ fours-requires c κs = search rules
 
 returns : tie.Need-returns
 returns c =
-    let t = c.before.trimmed-w.ensures in
+    let t = c.trimmed-w.ensures in
     (record { fits = omega arith; none = λ k b l. t.none k (omega arith) l }, c.fours.ensures.2)
 
 pub extent_spec : {M : Type 1} → statement M

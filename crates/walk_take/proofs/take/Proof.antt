@@ -20,14 +20,14 @@ decreases-loop-k d u row₀ width t0₀ t1₀ t2₀ t3₀ k₀ row t0 t1 t2 t3 k
 
 -- The row of the table; that a turn has room for four cells; and that the next of them can be copied.
 abbrev cells_of : tie.At-loop-k invariant-loop-k decreases-loop-k → List ℤ
-cells_of s = get_or s.before.args.d.now s.before.args.u []
+cells_of s = get_or s.args.d.now s.args.u []
 
-four : (s : tie.In-loop-k invariant-loop-k decreases-loop-k) → s.before.loop-k.k + 4 ≤ s.before.before.args.width
-four s = omega (arith, s.loop-k-test.true, s.before.loop-k.invariant.0, s.before.loop-k.invariant.1, s.before.before.requires.1)
+four : (s : tie.In-loop-k invariant-loop-k decreases-loop-k) → s.loop-k.k + 4 ≤ s.args.width
+four s = omega (arith, s.loop-k-test.true, s.loop-k.invariant.0, s.loop-k.invariant.1, s.requires.1)
 
-ready : (s : tie.At-loop-k invariant-loop-k decreases-loop-k) {n : ℕ} {row : List ℤ} (k : ℕ) → k < s.before.args.width → Copied (cells_of s) row n → Takeable s.before.args.u (k + 1) s.before.args.d.now row
+ready : (s : tie.At-loop-k invariant-loop-k decreases-loop-k) {n : ℕ} {row : List ℤ} (k : ℕ) → k < s.args.width → Copied (cells_of s) row n → Takeable s.args.u (k + 1) s.args.d.now row
 ready s k b C =
-    let p = s.before.requires.0 in
+    let p = s.requires.0 in
     record { target = record { row = p.target.row; few = omega (arith, p.target.few); square = p.target.square }; low = p.low; long = C.long }
 
 -- The turn, and what is copied, from where one, two, three and four of its cells are.
@@ -43,23 +43,23 @@ turn_3 s = turn_2 s.before.before
 abbrev turn_4 : tie.After-copy_cell-t3 invariant-loop-k decreases-loop-k → tie.In-loop-k invariant-loop-k decreases-loop-k
 turn_4 s = turn_3 s.before.before
 
-copied : (s : tie.After-copy_cell-t0 invariant-loop-k decreases-loop-k) → Copied (cells_of (turn s).before) s.copy_cell-t0.new.row ((turn s).before.loop-k.k + 1)
-copied s = copied_turn _ (omega arith) s.copy_cell-t0.ensures (turn s).before.loop-k.invariant.2
+copied : (s : tie.After-copy_cell-t0 invariant-loop-k decreases-loop-k) → Copied (cells_of (turn s).before) s.copy_cell-t0.new.row ((turn s).loop-k.k + 1)
+copied s = copied_turn _ (omega arith) s.copy_cell-t0.ensures (turn s).loop-k.invariant.2
 
-copied_2 : (s : tie.After-copy_cell-t1 invariant-loop-k decreases-loop-k) → Copied (cells_of (turn_2 s).before) s.copy_cell-t1.new.row ((turn_2 s).before.loop-k.k + 2)
+copied_2 : (s : tie.After-copy_cell-t1 invariant-loop-k decreases-loop-k) → Copied (cells_of (turn_2 s).before) s.copy_cell-t1.new.row ((turn_2 s).loop-k.k + 2)
 copied_2 s = copied_turn _ (omega arith) s.copy_cell-t1.ensures (copied s.before.before)
 
-copied_3 : (s : tie.After-copy_cell-t2 invariant-loop-k decreases-loop-k) → Copied (cells_of (turn_3 s).before) s.copy_cell-t2.new.row ((turn_3 s).before.loop-k.k + 3)
+copied_3 : (s : tie.After-copy_cell-t2 invariant-loop-k decreases-loop-k) → Copied (cells_of (turn_3 s).before) s.copy_cell-t2.new.row ((turn_3 s).loop-k.k + 3)
 copied_3 s = copied_turn _ (omega arith) s.copy_cell-t2.ensures (copied_2 s.before.before)
 
-copied_4 : (s : tie.After-copy_cell-t3 invariant-loop-k decreases-loop-k) → Copied (cells_of (turn_4 s).before) s.copy_cell-t3.new.row ((turn_4 s).before.loop-k.k + 4)
+copied_4 : (s : tie.After-copy_cell-t3 invariant-loop-k decreases-loop-k) → Copied (cells_of (turn_4 s).before) s.copy_cell-t3.new.row ((turn_4 s).loop-k.k + 4)
 copied_4 s = copied_turn _ (omega arith) s.copy_cell-t3.ensures (copied_3 s.before.before)
 
 loop-k-init : tie.Need-loop-k-init invariant-loop-k decreases-loop-k
 loop-k-init c = (omega arith, omega arith, copied_start _ _ c.requires.0.long, λ b l₀ l₁ l₂ l₃ j q. absurd (omega arith))
 
 copy_cell-t0-requires : tie.Need-copy_cell-t0-requires invariant-loop-k decreases-loop-k
-copy_cell-t0-requires c κs = let s = c.before in ready s.before _ (omega (arith, four s)) s.before.loop-k.invariant.2
+copy_cell-t0-requires c κs = let s = c.before in ready s.before _ (omega (arith, four s)) s.loop-k.invariant.2
 
 overflow_add-k : tie.Need-overflow_add-k invariant-loop-k decreases-loop-k
 overflow_add-k c = search rules
@@ -91,7 +91,7 @@ loop-k-preserved c =
     let second = third.before.before in
     let first = second.before.before in
     let s = turn first in
-    let b = s.before.loop-k in (
+    let b = s.loop-k in (
       four s,
       omega (arith, b.inv.1),
       copied_4 c,
@@ -109,7 +109,7 @@ loop-k-preserved c =
 returns : tie.Need-returns invariant-loop-k decreases-loop-k
 returns c =
     let s = c.before in
-    let e : s.loop-k.k ≡ s.before.args.width = omega arith in
+    let e : s.loop-k.k ≡ s.args.width = omega arith in
     rw e at (taken_end _ _ _ _ s.loop-k.invariant.1 s.loop-k.invariant.2 s.loop-k.invariant.3)
 
 pub take_spec : {M : Type 1} → statement M

@@ -36,7 +36,7 @@ is_walk-requires : tie.Need-is_walk-requires invariant-loop-w decreases-loop-w
 is_walk-requires c κs = search rules
 
 returns-then-is_walk : tie.Need-returns-then-is_walk invariant-loop-w decreases-loop-w
-returns-then-is_walk c = c.before.before.before.before.loop-w.invariant
+returns-then-is_walk c = c.loop-w.invariant
 
 overflow_sub-w-in-loop-w : tie.Need-overflow_sub-w-in-loop-w invariant-loop-w decreases-loop-w
 overflow_sub-w-in-loop-w c = search rules
@@ -51,12 +51,12 @@ loop-w-preserved c =
     let at-loop = read.before.before in
     let start = at-loop.before in
     let cells = start.args.cells.now in
-    let place = cell_in cells (at-loop.loop-w.w - 1) (omega (arith, at-loop.loop-w.invariant.fits, start.requires.long, read.before.loop-w-test.true)) in
+    let place = cell_in cells (at-loop.loop-w.w - 1) (omega (arith, at-loop.loop-w.invariant.fits, start.requires.long, read.loop-w-test.true)) in
     let says : tested.is_walk.result ≡ ltb 0 (value (cell_of cells (at-loop.loop-w.w - 1))) = tested.is_walk.ensures ∙ ap (λ (x : ℤ). ltb 0 (value x)) (to_z-of_z (sfits_of read.is_walk-arg-1.given) ∙ place) in
-    trimmed_turn cells _ at-loop.loop-w.w at-loop.loop-w.invariant (omega (arith, read.before.loop-w-test.true)) (sym says ∙ c.if-is_walk.false)
+    trimmed_turn cells _ at-loop.loop-w.w at-loop.loop-w.invariant (omega (arith, read.loop-w-test.true)) (sym says ∙ c.if-is_walk.false)
 
 returns : tie.Need-returns invariant-loop-w decreases-loop-w
-returns-then-is_walk c = c.before.loop-w.invariant
+returns c = c.loop-w.invariant
 
 pub trimmed_spec : {M : Type 1} → statement M
 trimmed_spec =
@@ -73,4 +73,4 @@ trimmed_spec =
     overflow_sub-w-in-loop-w
     loop-w-smaller
     loop-w-preserved
-    returns-then-is_walk)
+    returns)

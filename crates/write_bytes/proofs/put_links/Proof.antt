@@ -33,13 +33,13 @@ long : (s : tie.Start invariant-loop-i decreases-loop-i) → length s.args.t1 �
 long s = s.well_formed.0.1.0.1
 
 inside : (k : tie.After-index-k invariant-loop-i decreases-loop-i) → k.index-k.result < 512
-inside k = omega (arith, k.index-k.ensures, (start (head k)).pre.ordered.inside (head k).loop-i.i k.before.before.loop-i-test.true)
+inside k = omega (arith, k.index-k.ensures, (start (head k)).pre.ordered.inside (head k).loop-i.i k.loop-i-test.true)
 
 -- The texts of the records with r numbers are what is to be put, and there is room for these.
 listed : (s : tie.Start invariant-loop-i decreases-loop-i) → texts (link_text s.args.t1 s.args.order.now) s.args.r ≡ links_text s.args.t1 s.args.order.now s.args.r
 listed s = links_listed s.args.t1 s.args.order.now s.args.r s.requires.ordered.long
 
-room : (s : tie.Start invariant-loop-i decreases-loop-i) → s.args.at + length (texts (link_text s.args.t1 s.args.order.now) s.args.r) ≤ length s.args.out-1.now
+room : (s : tie.Start invariant-loop-i decreases-loop-i) → s.args.at + length (texts (link_text s.args.t1 s.args.order.now) s.args.r) ≤ length s.args.out.now
 room s = omega (arith, ap length (listed s), s.requires.room)
 
 loop-i-init : tie.Need-loop-i-init invariant-loop-i decreases-loop-i

@@ -23,18 +23,18 @@ abbrev head_put : tie.After-put_steps-c → tie.After-put_number-b
 head_put p = p.before.before.before.before
 
 -- There is room for each part.
-rooms : (s : tie.Start) → SheetRooms s.args.n s.args.steps s.args.r s.args.links s.args.order.now (length s.args.out-1.now)
-rooms s = sheet_rooms _ _ _ _ _ (length s.args.out-1.now) s.requires.room
+rooms : (s : tie.Start) → SheetRooms s.args.n s.args.steps s.args.r s.args.links s.args.order.now (length s.args.out.now)
+rooms s = sheet_rooms _ _ _ _ _ (length s.args.out.now) s.requires.room
 
 -- What has been put, up to R and up to the steps.
 to_head : (p : tie.After-put_number-b) →
     let s = start (count_put p) in
-    Put ((s.args.n ∷ []) ++ two_bytes_of s.args.r) 0 p.put_number-b.result s.args.out-1.now p.put_number-b.new.out-1
+    Put ((s.args.n ∷ []) ++ two_bytes_of s.args.r) 0 p.put_number-b.result s.args.out.now p.put_number-b.new.out-1
 to_head p = put_then (count_put p).put_byte-a.ensures p.put_number-b.ensures (omega arith)
 
 to_steps : (p : tie.After-put_steps-c) →
     let s = start (count_put (head_put p)) in
-    Put ((s.args.n ∷ []) ++ two_bytes_of s.args.r ++ steps_text s.args.steps s.args.n) 0 p.put_steps-c.result s.args.out-1.now p.put_steps-c.new.out-1
+    Put ((s.args.n ∷ []) ++ two_bytes_of s.args.r ++ steps_text s.args.steps s.args.n) 0 p.put_steps-c.result s.args.out.now p.put_steps-c.new.out-1
 to_steps p = put_then (to_head (head_put p)) p.put_steps-c.ensures (omega arith)
 
 overflow_cast-n : tie.Need-overflow_cast-n

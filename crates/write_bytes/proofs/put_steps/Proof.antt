@@ -31,7 +31,7 @@ long s = s.well_formed.0.1.0.1
 listed : (s : tie.Start invariant-loop-i decreases-loop-i) → texts (step_text s.args.t1) s.args.n ≡ steps_text s.args.t1 s.args.n
 listed s = steps_listed s.args.t1 s.args.n (omega (arith, long s, s.requires.few))
 
-room : (s : tie.Start invariant-loop-i decreases-loop-i) → s.args.at + length (texts (step_text s.args.t1) s.args.n) ≤ length s.args.out-1.now
+room : (s : tie.Start invariant-loop-i decreases-loop-i) → s.args.at + length (texts (step_text s.args.t1) s.args.n) ≤ length s.args.out.now
 room s = omega (arith, ap length (listed s), s.requires.room)
 
 loop-i-init : tie.Need-loop-i-init invariant-loop-i decreases-loop-i

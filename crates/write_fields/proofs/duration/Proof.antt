@@ -11,13 +11,13 @@ enum_known-d : tie.Need-enum_known-d
 enum_known-d c = search rules
 
 returns-then-x-eq0 : tie.Need-returns-then-x-eq0
-returns-then-x-eq0 c = duration_none c.before.before.d-1.given.1 c.if-x-eq0.true
+returns-then-x-eq0 c = duration_none c.in-Fixed.is c.if-x-eq0.true
 
 returns-in-Open : tie.Need-returns-in-Open
-returns-then-x-eq0-in-Open c = duration_open c.enum_told-1.given.1
+returns-in-Open c = duration_open c.in-Open.is
 
 returns-else-x-eq0 : tie.Need-returns-else-x-eq0
-returns-then-x-eq0-else-x-eq0 c = duration_there c.before.before.d-1.given.1 c.if-x-eq0.false
+returns-else-x-eq0 c = duration_there c.in-Fixed.is c.if-x-eq0.false
 
 pub duration_spec : {M : Type 1} → statement M
-duration_spec = tie.close (tie.spec enum_told-1 enum_known-d returns-then-x-eq0 returns-then-x-eq0-in-Open returns-then-x-eq0-else-x-eq0)
+duration_spec = tie.close (tie.spec enum_told-1 enum_known-d returns-then-x-eq0 returns-in-Open returns-else-x-eq0)

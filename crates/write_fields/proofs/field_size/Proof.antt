@@ -8,13 +8,13 @@ enum_told-1 : tie.Need-enum_told-1
 enum_told-1 c = search rules
 
 enum_told-in-Ticks : tie.Need-enum_told-in-Ticks
-enum_told-1-in-Ticks c = search rules
+enum_told-in-Ticks c = search rules
 
 returns-in-Absent : tie.Need-returns-in-Absent
-returns-in-Absent c = size_absent c.enum_told-1.given.1
+returns-in-Absent c = size_absent c.in-Absent.is
 
 returns-in-Ticks : tie.Need-returns-in-Ticks
-returns-in-Absent-in-Ticks c = size_there c.enum_told-in-Ticks-1.given.1
+returns-in-Ticks c = size_there c.in-Ticks.is
 
 pub field_size_spec : {M : Type 1} → statement M
-field_size_spec = tie.close (tie.spec enum_told-1 enum_told-1-in-Ticks returns-in-Absent returns-in-Absent-in-Ticks)
+field_size_spec = tie.close (tie.spec enum_told-1 enum_told-in-Ticks returns-in-Absent returns-in-Ticks)

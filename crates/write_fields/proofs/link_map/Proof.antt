@@ -33,7 +33,7 @@ overflow_add-result-4 c = search rules
 
 returns : tie.Need-returns
 returns c =
-    link_mapped _ c.before.before.before.before.after_bit.ensures.same c.before.before.before.bound_bit.ensures.same c.before.before.bound_bit-2.ensures.same c.before.bound_bit-3.ensures.same c.bound_bit-4.ensures.same
+    link_mapped _ c.after_bit.ensures.same c.bound_bit.ensures.same c.bound_bit-2.ensures.same c.bound_bit-3.ensures.same c.bound_bit-4.ensures.same
 
 pub link_map_spec : {M : Type 1} → statement M
 link_map_spec =

@@ -29,7 +29,7 @@ overflow_add-result-4 : tie.Need-overflow_add-result-4
 overflow_add-result-4 c = search rules
 
 returns : tie.Need-returns
-returns c = link_sized _ c.before.before.before.field_size.ensures c.before.before.field_size-2.ensures c.before.field_size-3.ensures c.field_size-4.ensures
+returns c = link_sized _ c.field_size.ensures c.field_size-2.ensures c.field_size-3.ensures c.field_size-4.ensures
 
 pub link_size_spec : {M : Type 1} → statement M
 link_size_spec =

@@ -15,17 +15,17 @@ enum_known-b c = search rules
 put_number-requires : tie.Need-put_number-requires
 put_number-requires c κs =
     let s = c.before.before.before.before.before in
-    omega (arith, s.requires, (size_there c.before.before.b-1.given.1).same)
+    omega (arith, s.requires, (size_there c.in-Ticks.is).same)
 
 returns-in-Absent : tie.Need-returns-in-Absent
-returns-in-Absent c = put_as (field_absent c.enum_told-1.given.1) (put_none _ _)
+returns-in-Absent c = put_as (field_absent c.in-Absent.is) (put_none _ _)
 
 shape_of-out : tie.Need-shape_of-out
 shape_of-out c = search rules
 
 returns-in-Ticks : tie.Need-returns-in-Ticks
-returns-in-Absent-in-Ticks c = put_as (field_there c.before.before.before.before.before.b-1.given.1) c.before.before.put_number.ensures
+returns-in-Ticks c = put_as (field_there c.in-Ticks.is) c.put_number.ensures
 
 pub put_field_spec : {M : Type 1} → statement M
 put_field_spec =
-    tie.close (tie.spec enum_told-1 enum_known-b put_number-requires returns-in-Absent shape_of-out returns-in-Absent-in-Ticks)
+    tie.close (tie.spec enum_told-1 enum_known-b put_number-requires returns-in-Absent shape_of-out returns-in-Ticks)

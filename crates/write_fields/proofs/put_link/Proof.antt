@@ -26,12 +26,12 @@ abbrev maximum_put : tie.After-put_field-t → tie.After-put_field-s
 maximum_put p = p.before.before.before.before
 
 -- There is room for each part.
-rooms : (s : tie.Start) → LinkRooms s.args.at (length s.args.out-1.now) s.args.l
+rooms : (s : tie.Start) → LinkRooms s.args.at (length s.args.out.now) s.args.l
 rooms s = link_rooms _ _ s.args.l s.requires
 
 -- What has been put, up to each field.
 abbrev PutUpTo : tie.Start → List ℕ → ℕ → List ℕ → Type 0
-PutUpTo s text next new = Put text s.args.at next s.args.out-1.now new
+PutUpTo s text next new = Put text s.args.at next s.args.out.now new
 
 to_minimum : (p : tie.After-put_field-q) →
     let s = start (pair_put p) in

@@ -18,7 +18,7 @@ shape_of-out c = search rules
 
 returns : tie.Need-returns
 unfolding two_bytes_of
-returns c = c.before.before.put_two.ensures
+returns c = c.put_two.ensures
 
 pub put_number_spec : {M : Type 1} → statement M
 put_number_spec =

@@ -24,7 +24,7 @@ returns : tie.Need-returns
 returns c =
     let last = c.before.before in
     let p = last.before.before.before.before in
-    let mapped = put_as (ap (λ m. m ∷ []) p.before.before.link_map.ensures) p.put_byte-p.ensures in
+    let mapped = put_as (ap (λ m. m ∷ []) p.link_map.ensures) p.put_byte-p.ensures in
     put_as (front_parts _) (put_then mapped last.put_two.ensures (omega arith))
 
 pub put_pair_spec : {M : Type 1} → statement M

@@ -26,7 +26,7 @@ overflow_add-result-2 : tie.Need-overflow_add-result-2
 overflow_add-result-2 c = search rules
 
 returns : tie.Need-returns
-returns c = step_mapped _ c.before.before.before.unbounded_bit.ensures.same (c.before.bound_bit.ensures.same ∙ ap (λ (b : Bound). bit_of b 2) c.before.before.duration.ensures) c.bound_bit-2.ensures.same
+returns c = step_mapped _ c.unbounded_bit.ensures.same (c.bound_bit.ensures.same ∙ ap (λ (b : Bound). bit_of b 2) c.duration.ensures) c.bound_bit-2.ensures.same
 
 pub step_map_spec : {M : Type 1} → statement M
 step_map_spec =

@@ -25,8 +25,8 @@ overflow_add-result-2 c = search rules
 
 returns : tie.Need-returns
 returns c =
-    let sized = c.before.field_size.ensures in
-    step_sized _ (subst (λ (b : Bound). Sized 2 (field_of b) c.before.field_size.result) c.before.before.duration.ensures sized) c.field_size-2.ensures
+    let sized = c.field_size.ensures in
+    step_sized _ (subst (λ (b : Bound). Sized 2 (field_of b) c.field_size.result) c.duration.ensures sized) c.field_size-2.ensures
 
 pub step_size_spec : {M : Type 1} → statement M
 step_size_spec =

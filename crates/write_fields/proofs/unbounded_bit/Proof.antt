@@ -8,13 +8,13 @@ enum_told-1 : tie.Need-enum_told-1
 enum_told-1 c = search rules
 
 enum_told-in-Fixed : tie.Need-enum_told-in-Fixed
-enum_told-1-in-Fixed c = search rules
+enum_told-in-Fixed c = search rules
 
 returns-in-Open : tie.Need-returns-in-Open
-returns-in-Open c = open_there c.enum_told-1.given.1
+returns-in-Open c = open_there c.in-Open.is
 
 returns-in-Fixed : tie.Need-returns-in-Fixed
-returns-in-Open-in-Fixed c = open_absent c.enum_told-in-Fixed-1.given.1
+returns-in-Fixed c = open_absent c.in-Fixed.is
 
 pub unbounded_bit_spec : {M : Type 1} → statement M
-unbounded_bit_spec = tie.close (tie.spec enum_told-1 enum_told-1-in-Fixed returns-in-Open returns-in-Open-in-Fixed)
+unbounded_bit_spec = tie.close (tie.spec enum_told-1 enum_told-in-Fixed returns-in-Open returns-in-Fixed)

@@ -7,11 +7,11 @@ use Rattle.write_numbers.proofs.bound_from.Tie as tie
 
 returns-then-there : tie.Need-returns-then-there
 unfolding bound_from
-returns-then-there c = sym (ap (λ (b : Bool). bound_from b c.before.args.ticks) c.if-there.true)
+returns-then-there c = sym (ap (λ (b : Bool). bound_from b c.args.ticks) c.if-there.true)
 
 returns : tie.Need-returns
 unfolding bound_from
-returns-then-there c = sym (ap (λ (b : Bool). bound_from b c.before.args.ticks) c.if-there.false)
+returns c = sym (ap (λ (b : Bool). bound_from b c.args.ticks) c.if-there.false)
 
 pub bound_from_spec : {M : Type 1} → statement M
-bound_from_spec = tie.close (tie.spec returns-then-there returns-then-there)
+bound_from_spec = tie.close (tie.spec returns-then-there returns)

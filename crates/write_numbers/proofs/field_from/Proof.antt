@@ -13,7 +13,7 @@ bound_from-requires : tie.Need-bound_from-requires
 bound_from-requires c κs = search rules
 
 returns : tie.Need-returns
-returns c = c.bound_from.ensures ∙ ap (λ (b : Bool). bound_from b c.before.before.args.ticks) c.before.has.ensures
+returns c = c.bound_from.ensures ∙ ap (λ (b : Bool). bound_from b c.args.ticks) c.has.ensures
 
 pub field_from_spec : {M : Type 1} → statement M
 field_from_spec = tie.close (tie.spec has-requires bound_from-requires returns)

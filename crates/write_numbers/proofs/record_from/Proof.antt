@@ -32,14 +32,14 @@ field_from-requires-4 : tie.Need-field_from-requires-4
 field_from-requires-4 c κs = search rules
 
 returns : tie.Need-returns
-returns-then-map-gt31 c =
+returns c =
     let third = c.before in
     let second = third.before in
     let first = second.before in
     let after = first.before in
     let to = after.before in
     let from = to.before in
-    record_known _ _ _ _ _ _ _ from.before.if-map-gt31.false _ from.end_from.ensures to.end_from-2.ensures after.has.ensures first.field_from.ensures second.field_from-2.ensures third.field_from-3.ensures c.field_from-4.ensures
+    record_known _ _ _ _ _ _ _ from.if-map-gt31.false _ from.end_from.ensures to.end_from-2.ensures after.has.ensures first.field_from.ensures second.field_from-2.ensures third.field_from-3.ensures c.field_from-4.ensures
 
 pub record_from_spec : {M : Type 1} → statement M
 record_from_spec =
@@ -54,4 +54,4 @@ record_from_spec =
     field_from-requires-2
     field_from-requires-3
     field_from-requires-4
-    returns-then-map-gt31)
+    returns)

@@ -17,7 +17,7 @@ unless-requires c κs = search rules
 
 returns : tie.Need-returns
 unfolding sequenced
-returns c = c.unless.ensures ∙ ap₂ (λ (x y : Bool). x || not y) c.before.before.has.ensures c.before.has-2.ensures
+returns c = c.unless.ensures ∙ ap₂ (λ (x y : Bool). x || not y) c.has.ensures c.has-2.ensures
 
 pub is_sequenced_spec : {M : Type 1} → statement M
 is_sequenced_spec = tie.close (tie.spec has-requires has-requires-2 unless-requires returns)

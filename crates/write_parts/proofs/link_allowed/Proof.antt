@@ -10,7 +10,7 @@ returns-then-m-lt1 : tie.Need-returns-then-m-lt1
 returns-then-m-lt1 c = link_empty c.if-m-lt1.true
 
 returns-then-m-gt31 : tie.Need-returns-then-m-gt31
-returns-then-m-lt1-then-m-gt31 c = link_unknown c.if-m-gt31.true
+returns-then-m-gt31 c = link_unknown c.if-m-gt31.true
 
 has-requires : tie.Need-has-requires
 has-requires c κs = search rules
@@ -22,10 +22,10 @@ unless-requires : tie.Need-unless-requires
 unless-requires c κs = search rules
 
 returns : tie.Need-returns
-returns-then-m-lt1 c =
+returns c =
     let known = c.before.before.before in
-    link_known known.before.if-m-lt1.false known.if-m-gt31.false (c.unless.ensures ∙ ap₂ (λ (x y : Bool). x || not y) c.before.before.has.ensures c.before.has-2.ensures)
+    link_known known.if-m-lt1.false known.if-m-gt31.false (c.unless.ensures ∙ ap₂ (λ (x y : Bool). x || not y) c.has.ensures c.has-2.ensures)
 
 pub link_allowed_spec : {M : Type 1} → statement M
 link_allowed_spec =
-    tie.close (tie.spec returns-then-m-lt1 returns-then-m-lt1-then-m-gt31 has-requires has-requires-2 unless-requires returns-then-m-lt1)
+    tie.close (tie.spec returns-then-m-lt1 returns-then-m-gt31 has-requires has-requires-2 unless-requires returns)

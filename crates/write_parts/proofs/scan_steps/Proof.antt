@@ -22,7 +22,7 @@ long : (s : tie.Start invariant-loop-i decreases-loop-i) → length s.args.t1 �
 long s = s.well_formed.0.1.0.1
 
 seen_few : (l : tie.At-loop-i invariant-loop-i decreases-loop-i) → l.loop-i.seen.size ≤ largest_step * most_steps
-seen_few l = omega (arith, l.loop-i.invariant.1.small, length-take l.loop-i.i l.before.args.t1, long l.before)
+seen_few l = omega (arith, l.loop-i.invariant.1.small, length-take l.loop-i.i l.args.t1, long l.before)
 
 loop-i-init : tie.Need-loop-i-init invariant-loop-i decreases-loop-i
 loop-i-init c = (omega arith, steps_none)
@@ -50,8 +50,8 @@ loop-i-preserved c =
 returns : tie.Need-returns invariant-loop-i decreases-loop-i
 returns c =
     let l = c.before in
-    let e : l.loop-i.i ≡ l.before.args.n = omega arith in
-    subst (λ (k : ℕ). StepsScanned (take k l.before.args.t1) l.loop-i.seen) e l.loop-i.invariant.1
+    let e : l.loop-i.i ≡ l.args.n = omega arith in
+    subst (λ (k : ℕ). StepsScanned (take k l.args.t1) l.loop-i.seen) e l.loop-i.invariant.1
 
 pub scan_steps_spec : {M : Type 1} → statement M
 scan_steps_spec =

@@ -42,11 +42,11 @@ returns c =
     let maps = limits.before.before in
     let read = maps.before.before in
     let mapped = read.link_map-m.ensures in
-    let seen = read.before.args.seen in
+    let seen = read.args.seen in
     record {
-      maps = maps.unless.ensures ∙ ap (λ (x : Bool). seen.unmapped || not x) (maps.before.link_allowed.ensures ∙ ap link_map mapped);
-      limits = limits.unless-2.ensures ∙ ap (λ (x : Bool). seen.unsequenced || not x) (limits.before.is_sequenced.ensures ∙ ap sequenced mapped);
-      ends = ends.unless-3.ensures ∙ ap (λ (x : Bool). seen.misplaced || not x) ends.before.endpoints_allowed.ensures;
+      maps = maps.unless.ensures ∙ ap (λ (x : Bool). seen.unmapped || not x) (maps.link_allowed.ensures ∙ ap link_map mapped);
+      limits = limits.unless-2.ensures ∙ ap (λ (x : Bool). seen.unsequenced || not x) (limits.is_sequenced.ensures ∙ ap sequenced mapped);
+      ends = ends.unless-3.ensures ∙ ap (λ (x : Bool). seen.misplaced || not x) ends.endpoints_allowed.ensures;
       size = omega (arith, sized.link_size.ensures.same);
       small = omega (arith, sized.link_size.ensures.small);
     }

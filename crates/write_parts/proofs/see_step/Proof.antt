@@ -29,7 +29,7 @@ returns c =
     let allowed = joined.before in
     let s = allowed.before.before in
     record {
-      mapped = joined.both.ensures ∙ ap (λ (x : Bool). s.args.seen.mapped && x) (allowed.step_allowed-allowed.ensures ∙ ap (operation_map s.args.first) allowed.before.step_map.ensures);
+      mapped = joined.both.ensures ∙ ap (λ (x : Bool). s.args.seen.mapped && x) (allowed.step_allowed-allowed.ensures ∙ ap (operation_map s.args.first) allowed.step_map.ensures);
       size = omega (arith, sized.step_size.ensures.same);
       small = omega (arith, sized.step_size.ensures.small);
     }

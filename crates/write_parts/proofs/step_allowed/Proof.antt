@@ -7,10 +7,10 @@ returns-then-first : tie.Need-returns-then-first
 returns-then-first c = step_first _ c.if-first.true
 
 returns-then-m-le2 : tie.Need-returns-then-m-le2
-returns-then-first-then-m-le2 c = step_low c.before.if-first.false c.if-m-le2.true
+returns-then-m-le2 c = step_low c.if-first.false c.if-m-le2.true
 
 returns : tie.Need-returns
-returns-then-first c = step_high c.before.if-first.false c.if-m-le2.false
+returns c = step_high c.if-first.false c.if-m-le2.false
 
 pub step_allowed_spec : {M : Type 1} → statement M
-step_allowed_spec = tie.close (tie.spec returns-then-first returns-then-first-then-m-le2 returns-then-first)
+step_allowed_spec = tie.close (tie.spec returns-then-first returns-then-m-le2 returns)

@@ -44,7 +44,7 @@ faultless p =
       blank = replicate 512 0;
       steps_seen = (steps_scanned f).scan_steps-found.ensures;
       links_seen = (links_scanned f).scan_links-seen.ensures;
-      none = subst (Faults (steps_scanned f).scan_steps-found.result (links_scanned f).scan_links-seen.result) p.enum_told-1.given.1 f.fault-status.ensures;
+      none = subst (Faults (steps_scanned f).scan_steps-found.result (links_scanned f).scan_links-seen.result) p.in_default.is f.fault-status.ensures;
     }
 
 scan_steps-found-requires : tie.Need-scan_steps-found-requires
@@ -65,7 +65,7 @@ enum_known-status c = search rules
 returns-in-Refused : tie.Need-returns-in-Refused
 returns-in-Refused c =
     let f = c.before.before.before in
-    leaves_refused (parts_refused _ _ _ (steps_scanned f).scan_steps-found.ensures (links_scanned f).scan_links-seen.ensures.shown (subst (Faults (steps_scanned f).scan_steps-found.result (links_scanned f).scan_links-seen.result) c.before.status-1.given.1 f.fault-status.ensures))
+    leaves_refused (parts_refused _ _ _ (steps_scanned f).scan_steps-found.ensures (links_scanned f).scan_links-seen.ensures.shown (subst (Faults (steps_scanned f).scan_steps-found.result (links_scanned f).scan_links-seen.result) c.in-Refused.is f.fault-status.ensures))
 
 enum_told-1 : tie.Need-enum_told-1
 enum_told-1 c = search rules
@@ -83,18 +83,18 @@ order_cells-requires : tie.Need-order_cells-requires
 order_cells-requires c κs = ready (faultless c.before.before) refl
 
 returns-then-order_cells : tie.Need-returns-then-order_cells
-returns-in-Refused-then-order_cells c =
+returns-then-order_cells c =
     let o = c.before.before in
     leaves_refused (verdict_twice (faultless (passed o)) o.order_cells.ensures _ c.if-order_cells.true)
 
 returns-then-a-n : tie.Need-returns-then-a-n
-returns-in-Refused-then-a-n c =
+returns-then-a-n c =
     let m = c.before in
     let o = ordered m in
     leaves_refused (verdict_fewer_steps (faultless (passed o)) o.order_cells.ensures m.if-order_cells.false _ c.if-a-n.true)
 
 returns-then-b-r : tie.Need-returns-then-b-r
-returns-in-Refused-then-b-r c =
+returns-then-b-r c =
     let m = c.before.before in
     let o = ordered m in
     leaves_refused (verdict_fewer_links (faultless (passed o)) o.order_cells.ensures m.if-order_cells.false _ c.if-b-r.true)
@@ -113,18 +113,18 @@ write_whole-requires c κs =
     let w = c.before.before.before.before in
     let m = w.before.before in
     let o = ordered m in
-    whole_ready (faultless (passed o)) o.order_cells.ensures m.if-order_cells.false w.before.if-a-n.false w.if-b-r.false refl
+    whole_ready (faultless (passed o)) o.order_cells.ensures m.if-order_cells.false w.if-a-n.false w.if-b-r.false refl
 
 shape_of-out : tie.Need-shape_of-out
 shape_of-out c = search rules
 
 returns : tie.Need-returns
-returns-in-Refused c =
+returns c =
     let l = c.before.before in
     let w = l.before.before.before.before.before in
     let m = w.before.before in
     let o = ordered m in
-    whole_left (faultless (passed o)) o.order_cells.ensures m.if-order_cells.false w.before.if-a-n.false w.if-b-r.false l.write_whole.ensures
+    whole_left (faultless (passed o)) o.order_cells.ensures m.if-order_cells.false w.if-a-n.false w.if-b-r.false l.write_whole.ensures
 
 pub write_counted_spec : {M : Type 1} → statement M
 write_counted_spec =
@@ -141,12 +141,12 @@ write_counted_spec =
     slice_bounds-order_cells-end
     slice_bounds-order_cells-end-2
     order_cells-requires
-    returns-in-Refused-then-order_cells
-    returns-in-Refused-then-a-n
-    returns-in-Refused-then-b-r
+    returns-then-order_cells
+    returns-then-a-n
+    returns-then-b-r
     slice_bounds-write_whole-end
     overflow_add-found
     overflow_add-found-2
     write_whole-requires
     shape_of-out
-    returns-in-Refused)
+    returns)

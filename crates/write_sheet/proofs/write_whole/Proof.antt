@@ -17,11 +17,11 @@ shape_of-out : tie.Need-shape_of-out
 shape_of-out c = search rules
 
 returns : tie.Need-returns
-returns-then-out-size c =
+returns c =
     let p = c.before.before in
     let fits = p.before.before in
     let s = fits.before.before.before in
     leaves_given s.requires.long (omega (arith, fits.if-out-size.false, s.requires.long)) p.put_sheet.ensures
 
 pub write_whole_spec : {M : Type 1} → statement M
-write_whole_spec = tie.close (tie.spec returns-then-out-size put_sheet-requires shape_of-out returns-then-out-size)
+write_whole_spec = tie.close (tie.spec returns-then-out-size put_sheet-requires shape_of-out returns)
