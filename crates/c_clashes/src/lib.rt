@@ -1,4 +1,6 @@
 // What C and Rust call for the few records of an impossible sheet that clash (request L14), on numbers and slices: thin over clash_sheet, and its answer is that of the definitions for every input.
+#![tactic(auto)]
+
 ghost use Rattle.definitions.specs.Clashes.{few_answer};
 ghost use Rattle.data_numbers.specs.Codes.{CountsInto};
 

@@ -1,5 +1,7 @@
 // What C and Rust call to plan: judging, waits, plans and start times, and what a run is begun with, on numbers and slices. A verdict is returned as one number: 0 or 1 where the sheet is accepted, 256 + k where it is refused by k.
 // Each function is thin over one of judge_sheet, plan_sheet, plan_times or run_sheet, and its answer is that of the definitions for every input. Nothing that is lent changes on a refusal.
+#![tactic(auto)]
+
 ghost use Rattle.std.specs.Prelude.{◌≡◌};
 ghost use Rattle.definitions.specs.Answers.{judged, planned, starts_answer, steps_answer, waits_answer};
 ghost use Rattle.data_numbers.specs.Codes.{code};

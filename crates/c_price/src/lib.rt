@@ -1,4 +1,6 @@
 // What C and Rust call for the price of a sheet's control box (request L5), on numbers and slices: thin over price_sheet, and its answer is that of the definitions for every input.
+#![tactic(auto)]
+
 ghost use Rattle.definitions.specs.Price.{price_answer, printed_table};
 ghost use Rattle.c_price.specs.Memory.{PricesInto};
 

@@ -1,5 +1,7 @@
 // What C and Rust call to run a plan: the dispatcher's calls on memory that is lent. The state is taken from it; where the call goes through, what it returns is stored in it, and on a refusal all of it stays as lent.
 // Each function is thin over the dispatcher's, and its answer is that of the definitions for every input.
+#![tactic(auto)]
+
 ghost use Rattle.std.specs.Prelude.{◌≡◌};
 ghost use Rattle.definitions.specs.Dispatcher as Dispatcher;
 ghost use Rattle.definitions.specs.Dispatcher.{Returns};

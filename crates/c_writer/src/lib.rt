@@ -1,4 +1,6 @@
 // What C and Rust call to write a sheet (request L4): its parts as numbers, thin over write_sheet, and its answer is that of the definitions for every input.
+#![tactic(auto)]
+
 ghost use Rattle.c_writer.specs.Memory.{WritesSheet};
 
 use definitions::{MOST_RECORDS, Tally};

@@ -1,1 +1,2 @@
 // Runs of the dispatcher: theorems alone, in specs/ and proofs/.
+#![tactic(auto)]

@@ -1,4 +1,6 @@
 // Request L14, "the few records that clash": from the last record to the first, each one is dropped whose loss leaves the sheet impossible. Words stand for edges, as in the crate data_edges.
+#![tactic(auto)]
+
 ghost use Rattle.std.specs.Prelude.{◌≡◌};
 ghost use Rattle.definitions.specs.Bytes.{Records};
 ghost use Rattle.definitions.specs.Clashes.{impossible};

@@ -1,4 +1,6 @@
 // Request L14, "the few records that clash": what makes the words of a part of a sheet's records. Words stand for edges, as in the crate data_edges.
+#![tactic(auto)]
+
 ghost use Rattle.std.specs.Prelude.{◌≡◌, ℕ, ◌≤◌, length};
 ghost use Rattle.std.proofs.Math.Seq.{paste};
 ghost use Rattle.definitions.specs.Basics.{any, test_bit};

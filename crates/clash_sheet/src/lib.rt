@@ -1,4 +1,6 @@
 // The library over bytes: the few records of an impossible sheet that clash (request L14).
+#![tactic(auto)]
+
 ghost use Rattle.std.specs.Prelude.{◌≡◌, ◌++◌, ◌≤◌, eqb, length, drop};
 ghost use Rattle.definitions.specs.Answers.{count_of, edges_of};
 ghost use Rattle.definitions.specs.Bytes.{Records};

@@ -1,4 +1,6 @@
 // Sets of numbers below 64 and their single members. A set is a u64: bit k stands where k is a member. Contracts say of every number whether it is a member.
+#![tactic(auto)]
+
 ghost use Rattle.std.specs.Prelude.{◌≡◌, not, ◌&&◌, ◌||◌, ℕ, ◌<◌, eqb};
 ghost use Rattle.definitions.specs.Basics.{test_bit};
 ghost use Rattle.data_bits.specs.Members.{Lowest, Highest};

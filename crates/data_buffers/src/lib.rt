@@ -1,4 +1,6 @@
 // Bytes put into a lent buffer. A writer puts its text at a position and returns the next one; all else stays as lent.
+#![tactic(auto)]
+
 ghost use Rattle.std.specs.Prelude.{[], ◌∷◌, ◌<◌, length};
 ghost use Rattle.data_buffers.specs.Texts.{Put};
 

@@ -1,4 +1,6 @@
 // Edges held as words: specs/Words.antt has their layout, with its reasons.
+#![tactic(auto)]
+
 ghost use Rattle.std.specs.Prelude.{◌≡◌, not, ◌&&◌, ℕ, ◌<◌};
 ghost use Rattle.definitions.specs.Basics.{test_bit};
 ghost use Rattle.definitions.specs.Links.{late_into};

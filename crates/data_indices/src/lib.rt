@@ -1,4 +1,6 @@
 // Numbers that are held in one byte or two, as those that places and lengths are counted in.
+#![tactic(auto)]
+
 ghost use Rattle.std.specs.Prelude.{◌≡◌, ◌<◌, ◌%◌};
 ghost use Rattle.definitions.specs.Limits.{most_steps};
 

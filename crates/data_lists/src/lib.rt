@@ -1,4 +1,6 @@
 // Adjacency lists: the edges that leave a step, one after the other, and the returns, one after the other (see specs/Lists.antt).
+#![tactic(auto)]
+
 ghost use Rattle.std.specs.Prelude.{◌≡◌, ◌+◌, ◌<◌, length};
 ghost use Rattle.definitions.specs.Limits.{most_edges};
 ghost use Rattle.data_edges.specs.Words.{unpack};

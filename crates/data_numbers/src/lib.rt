@@ -1,4 +1,6 @@
 // Document 01's numbers for the answers that are enums: refusals, verdicts, the status of a call and how many numbers it wrote; and whether a verdict accepts.
+#![tactic(auto)]
+
 ghost use Rattle.std.specs.Prelude.{◌≡◌, ◌≤◌};
 ghost use Rattle.definitions.specs.Dispatcher.{Progress};
 ghost use Rattle.definitions.specs.Numbers.{number, status_of, tally_of, verdict_of};

@@ -1,4 +1,6 @@
 // Relations between the numbers below 64, held as 64 maps of bits: see specs/Rows.antt.
+#![tactic(auto)]
+
 ghost use Rattle.std.specs.Prelude.{◌≡◌, ◌&&◌, ℕ, ◌<◌, ◌≤◌, ltb, length, replicate};
 ghost use Rattle.definitions.specs.Basics.{any_below};
 ghost use Rattle.data_relations.specs.Rows.{row_bit, Spread};

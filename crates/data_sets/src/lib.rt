@@ -1,4 +1,6 @@
 // Operations on whole sets of numbers below 64, each a u64 as in the crate data_bits. Contracts say of every number whether it is a member.
+#![tactic(auto)]
+
 ghost use Rattle.std.specs.Prelude.{◌≡◌, not, ◌&&◌, ◌||◌, ℕ, ◌≤◌, ltb, length};
 ghost use Rattle.definitions.specs.Basics.{select_below, test_bit};
 

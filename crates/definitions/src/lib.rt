@@ -1,4 +1,5 @@
 // The types of the planner's answers. What each of them means is said in specs/, in the order of document 01.
+#![tactic(auto)]
 
 // The limits that the code needs as constants; specs/Limits.antt has each with its reason.
 pub const MOST_RECORDS: usize = 512;

@@ -1,4 +1,6 @@
 // The analysis of a sheet's edges: its verdict and its waits, by the kernels in document 01's order of refusals. Words stand for edges, as in the crate data_edges.
+#![tactic(auto)]
+
 ghost use Rattle.std.specs.Prelude.{◌≡◌, true, List, ℕ, replicate};
 ghost use Rattle.definitions.specs.Answers.{judge_edges, unserializable};
 ghost use Rattle.definitions.specs.Links.{Edge, members};

@@ -1,4 +1,6 @@
 // Refusals 8, 10 and 11 alone, for who asks whether a sheet is impossible and no more (request L14). Words stand for edges, as in the crate data_edges.
+#![tactic(auto)]
+
 ghost use Rattle.std.specs.Prelude.{◌≡◌, true, ℕ};
 ghost use Rattle.definitions.specs.Answers.{inconsistent, judge_edges};
 ghost use Rattle.definitions.specs.Basics.{refused};

@@ -1,4 +1,6 @@
 // Whether the waits can be put in: refusal 28. The edges with their waits are tried as the edges as sent are for 8 and 10.
+#![tactic(auto)]
+
 ghost use Rattle.std.specs.Prelude.{◌≡◌, false, not, ◌&&◌, ◌||◌, ℕ, ◌<◌, ◌≤◌, ltb, length};
 ghost use Rattle.definitions.specs.Answers.{closes_circle, infeasible, unserializable};
 ghost use Rattle.definitions.specs.Basics.{any};

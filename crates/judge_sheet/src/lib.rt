@@ -1,4 +1,6 @@
 // The library over bytes: judging a sheet and listing its waits. Each answer is that of the definitions, for every input.
+#![tactic(auto)]
+
 ghost use Rattle.plan_answer.specs.Returned.{JudgeReturned, WaitsReturned};
 
 use definitions::{Verdict, WaitMaps};

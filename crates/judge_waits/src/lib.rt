@@ -1,4 +1,6 @@
 // Refusal 11 and the waits, from what reaches what and the anchor sets: see specs/Reaching.antt.
+#![tactic(auto)]
+
 ghost use Rattle.std.specs.Prelude.{◌≡◌, true, ℕ, ◌≤◌, length, get_or, replicate};
 ghost use mathlib.Core.List.{List, flat_map};
 ghost use Rattle.definitions.specs.Answers.{inconsistent};

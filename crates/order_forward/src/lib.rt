@@ -1,4 +1,6 @@
 // Refusal 8, an order of the steps along the forward edges, and their anchor sets: see specs/Sorting.antt.
+#![tactic(auto)]
+
 ghost use Rattle.std.specs.Prelude.{◌≡◌, ◌&&◌, ◌||◌, ℕ};
 ghost use Rattle.definitions.specs.Basics.{any_below, test_bit};
 ghost use Rattle.definitions.specs.Links.{members};

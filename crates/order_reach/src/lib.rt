@@ -1,4 +1,6 @@
 // Which anchors reach which vertices: each step hands on, along its edges, the anchors of its row, in an order and back, until nothing is left to hand on. See specs/Pushes.antt.
+#![tactic(auto)]
+
 ghost use Rattle.std.specs.Prelude.{◌≡◌, cond, true, false, ◌<◌, ◌≤◌, length, replicate};
 ghost use Rattle.data_relations.specs.Sets.{AnchorSets};
 ghost use Rattle.definitions.specs.Links.{UsableFrom, members};

@@ -1,4 +1,6 @@
 // What comes right before what, and an order of the steps in which each comes behind those right before it; where there is none, a circle is closed (refusals 8 and 28). See specs/Orders.antt.
+#![tactic(auto)]
+
 ghost use Rattle.std.specs.Prelude.{◌≡◌, ◌<◌, ◌≤◌, length, replicate};
 ghost use Rattle.data_edges.specs.Words.{graph};
 ghost use Rattle.order_steps.specs.Orders.{Arranged, Counted, PassedOver, Placing, Predecessors, Room, Tried};

@@ -1,5 +1,7 @@
 // The calls over bytes, in one: a sheet is read and analysed once, and what is asked of it is answered, with the waits beside it. The crates judge_sheet, plan_sheet and plan_times each ask one question.
 // What is large and local has few sizes, of which the least that is enough is cleared (an array's length is part of its type): the ladders of sizes stand here and nowhere else.
+#![tactic(auto)]
+
 ghost use Rattle.std.specs.Prelude.{◌≡◌, true, false, List, ◌++◌, ◌≤◌, length, drop};
 ghost use Rattle.definitions.specs.Bytes.{read};
 ghost use Rattle.definitions.specs.Limits.{most_steps};

@@ -1,6 +1,8 @@
 // Deciding sets (irredundant anchor sets), read off the working tables: heaviest walks and anchor sets.
 // d: the cell of row v in the column of a, its number, is the weight of a walk from a to v, counted from the start of a, or below 0 where none comes. sets: bit a of map v stands where a is in the anchor set of v.
 // Every function is safe for any tables with a row for v and for each member of its set; on orderly ones, as those of an accepted sheet are, its answer is the definition's.
+#![tactic(auto)]
+
 ghost use Rattle.std.specs.Prelude.{◌≡◌, not, ◌&&◌, ℕ, ◌<◌, ◌≤◌, eqb, get_or};
 ghost use Rattle.definitions.specs.Basics.{test_bit};
 ghost use Rattle.definitions.specs.Rounds.{entry};

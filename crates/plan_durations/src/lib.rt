@@ -1,4 +1,6 @@
 // Lists of delays: whether a list is within its limits, by the map of the open steps, whose delays it gives, and their leasts.
+#![tactic(auto)]
+
 ghost use Rattle.std.specs.Prelude.{◌≡◌, ◌<◌, ◌≤◌};
 ghost use Rattle.definitions.specs.Limits.{most_steps};
 ghost use Rattle.plan_durations.specs.Delays.{Judged, outside};

@@ -1,4 +1,6 @@
 // A row of a plan, asked for: the part of the caller's table that holds it, or a refusal.
+#![tactic(auto)]
+
 ghost use Rattle.std.specs.Prelude.{◌≡◌};
 ghost use Rattle.definitions.specs.Answers.{row_answer};
 ghost use Rattle.definitions.specs.Numbers.{status_of};

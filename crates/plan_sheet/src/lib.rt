@@ -1,4 +1,6 @@
 // The library over bytes: the plan of a sheet. The answer is that of the definitions, for every input. The crate plan_rows has a row of a plan.
+#![tactic(auto)]
+
 ghost use Rattle.plan_answer.specs.Returned.{PlanReturned};
 
 use definitions::Verdict;

@@ -1,5 +1,7 @@
 // Start times (relative start times) for a list of delays, from the working tables: see crate plan_deciding for what d, number and sets hold. leasts: the least duration of each step.
 // Every function is safe for any tables with a row for each step; on those of an edge list its answer is the definition's.
+#![tactic(auto)]
+
 ghost use Rattle.std.specs.Prelude.{◌≡◌, ℕ, ◌+◌, ◌≤◌, min, max, eqb};
 ghost use Rattle.definitions.specs.Basics.{all_below, largest, test_bit};
 ghost use Rattle.definitions.specs.Limits.{most_steps};

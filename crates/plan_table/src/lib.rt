@@ -1,5 +1,7 @@
 // The plan's table (the relative schedule), from the working tables: see crate plan_deciding for what d, number and sets hold. leasts: the least duration of each step.
 // Every function is safe for any tables with a row for each step and each member; on orderly ones, as those of an accepted sheet are, its answer is the definition's.
+#![tactic(auto)]
+
 ghost use Rattle.std.specs.Prelude.{◌≡◌, ◌++◌, ℕ, ◌<◌, ◌≤◌, length, drop, get_or};
 ghost use Rattle.definitions.specs.Basics.{tabulate, test_bit};
 ghost use Rattle.definitions.specs.Plan.{undecided};

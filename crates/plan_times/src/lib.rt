@@ -1,4 +1,6 @@
 // The library over bytes: the start times of a sheet for a list of durations. The answer is that of the definitions, for every input.
+#![tactic(auto)]
+
 ghost use Rattle.plan_answer.specs.Returned.{StartsReturned};
 
 use definitions::Verdict;

@@ -1,4 +1,6 @@
 // The working table and the anchor sets of a sheet, from its edges: what plans and start times are read off. Words stand for edges, as in the crate data_edges.
+#![tactic(auto)]
+
 ghost use Rattle.std.specs.Prelude.{◌≡◌, true, ◌&&◌, ◌||◌, ℕ, ◌<◌, ◌≤◌, eqb, ltb, length};
 ghost use Rattle.definitions.specs.Limits.{most_steps};
 ghost use Rattle.definitions.specs.Links.{members};

@@ -1,4 +1,6 @@
 // Registers and comparisons of a plan (request L5), counted over its own entries. A plan of n steps has n × n numbers: at v × n + a the offset of v for a, or UNDECIDED where a does not decide v.
+#![tactic(auto)]
+
 ghost use Rattle.std.specs.Prelude.{◌≡◌, cond, not, ◌<◌, max, eqb, get_or};
 ghost use Rattle.definitions.specs.Basics.{test_bit};
 ghost use Rattle.definitions.specs.Plan.{undecided};

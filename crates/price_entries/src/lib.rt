@@ -1,4 +1,6 @@
 // The printed table of register counts (request L5): entry n is the smallest b whose power of two is at least n, and entry 0 is 0. It is a constant, as it was printed; its rule is proved by one test over all entries.
+#![tactic(auto)]
+
 ghost use Rattle.std.specs.Prelude.{◌≡◌};
 ghost use Rattle.definitions.specs.Price.{printed_table};
 

@@ -1,4 +1,6 @@
 // The library over bytes: the price of the control box of a sheet (request L5), registers and comparisons counted over its plan. The answer is that of the definitions, for every input.
+#![tactic(auto)]
+
 ghost use Rattle.std.specs.Prelude.{◌≡◌, ℕ};
 ghost use Rattle.definitions.specs.Basics.{given, test_bit};
 ghost use Rattle.definitions.specs.Numbers.{verdict_of};

@@ -1,4 +1,6 @@
 // The text that the price program prints of a sheet, formatted into a lent buffer: its price where the sheet is priced with waits allowed, else its refusal (request L5).
+#![tactic(auto)]
+
 ghost use Rattle.std.specs.Prelude.{◌≤◌, length};
 ghost use Rattle.definitions.specs.Price.{price_report};
 ghost use Rattle.print_line.specs.Texts.{Printed};

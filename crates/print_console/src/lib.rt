@@ -1,4 +1,5 @@
 // Text of the test programs, written to standard output. No contract of io says what is written, so none is given here: what the programs print is compared with what is stored.
+#![tactic(auto)]
 
 // The bytes of a word.
 pub fn write(word: &[u8]) {

@@ -1,4 +1,6 @@
 // The lines of what the programs print, each formatted into a lent buffer. A writer puts its text at a position and returns the next one.
+#![tactic(auto)]
+
 ghost use Rattle.std.specs.Prelude.{[], ◌∷◌, ◌+◌, ◌<◌, ◌≤◌, length};
 ghost use Rattle.definitions.specs.Output.{decimal, field, newline};
 ghost use Rattle.data_buffers.specs.Texts.{Put};

@@ -1,4 +1,6 @@
 // What `standplan` prints, formatted into a lent buffer line by line.
+#![tactic(auto)]
+
 ghost use Rattle.std.specs.Prelude.{◌+◌, ◌*◌, ◌≤◌, length};
 ghost use Rattle.definitions.specs.Limits.{most_steps};
 ghost use Rattle.data_buffers.specs.Texts.{Put};

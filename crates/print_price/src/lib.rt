@@ -1,4 +1,6 @@
 // What the price program prints, formatted into a lent buffer line by line (request L5).
+#![tactic(auto)]
+
 ghost use Rattle.std.specs.Prelude.{◌+◌, ◌≤◌, length};
 ghost use Rattle.definitions.specs.Basics.{test_bit};
 ghost use Rattle.definitions.specs.Limits.{most_steps};

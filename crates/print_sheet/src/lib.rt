@@ -1,4 +1,6 @@
 // The text that `standplan` prints of a sheet, formatted into a lent buffer: the plan where the sheet is accepted with waits allowed, else its refusal.
+#![tactic(auto)]
+
 ghost use Rattle.std.specs.Prelude.{◌≡◌, ◌≤◌, length, get_or};
 ghost use Rattle.definitions.specs.Output.{standplan};
 ghost use Rattle.print_line.specs.Texts.{Printed};

@@ -1,1 +1,2 @@
 // The demands of what the planner returns: theorems alone, in specs/ and proofs/.
+#![tactic(auto)]

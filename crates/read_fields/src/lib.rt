@@ -1,4 +1,6 @@
 // What the records of a sheet are made of, at a place of the bytes: a map whose bits say which fields are there, and numbers of two bytes.
+#![tactic(auto)]
+
 ghost use Rattle.std.specs.Prelude.{◌≡◌, Bool, ◌+◌, ◌≤◌, ◌<◌, leb, length};
 ghost use Rattle.std.proofs.Common.{Fits};
 ghost use Rattle.std.specs.Int.{w64};

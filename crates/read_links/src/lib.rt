@@ -1,4 +1,6 @@
 // A link record from its fields on: they are read, and then its edges are written as words. And the links that are added, once all records are read (request L3).
+#![tactic(auto)]
+
 ghost use Rattle.std.specs.Prelude.{◌≡◌, true, false, List, ℕ, ◌+◌, ◌≤◌, ◌<◌, eqb, length};
 ghost use Rattle.definitions.specs.Limits.{most_steps, most_ticks};
 ghost use Rattle.definitions.specs.Links.{sequencing_edge, finish_edge};

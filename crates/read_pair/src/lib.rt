@@ -1,4 +1,6 @@
 // A link record of a sheet: its map and its pair, and then the fields that its map says are there.
+#![tactic(auto)]
+
 ghost use Rattle.std.specs.Prelude.{◌≡◌, ◌+◌, ◌≤◌, length, drop};
 ghost use Rattle.definitions.specs.Numbers.{number};
 ghost use Rattle.definitions.specs.Bytes.{endpoints, link};

@@ -1,4 +1,6 @@
 // The link records of a sheet, read one by one; the edges of each are written as words, and behind them those of the links that are added (request L3).
+#![tactic(auto)]
+
 ghost use Rattle.read_records.specs.Answers.{Fits, LinksReads};
 
 use data_indices::byte_index;

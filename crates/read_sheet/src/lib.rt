@@ -1,4 +1,6 @@
 // A sheet is read from its bytes: the map of its open steps, its least durations, and its edges as words; or the first fault, refusals 1 to 7 and 26.
+#![tactic(auto)]
+
 ghost use Rattle.std.specs.Prelude.{◌≡◌, List, ℕ, ◌≤◌, drop};
 ghost use Rattle.definitions.specs.Basics.{refused};
 ghost use Rattle.definitions.specs.Limits.{most_steps};

@@ -1,4 +1,6 @@
 // The step records of a sheet, read one by one; what each step adds to the words of the after links that leave it is written, and the least durations, and the open steps are gathered in a map.
+#![tactic(auto)]
+
 ghost use Rattle.std.specs.Prelude.{◌≡◌, List, ℕ, ◌*◌, ◌≤◌, ◌<◌, eqb, length};
 ghost use Rattle.definitions.specs.Bytes.{operation};
 ghost use Rattle.definitions.specs.Limits.{most_steps};

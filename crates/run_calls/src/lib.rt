@@ -1,4 +1,6 @@
 // The dispatcher: begins a run, moves its clock, takes finishes, and has each step start when its row of the plan is due.
+#![tactic(auto)]
+
 ghost use Rattle.std.specs.Prelude.{◌≡◌, not, ◌||◌, ◌+◌, ◌*◌, ◌<◌, ◌≤◌, ltb};
 ghost use Rattle.definitions.specs.Basics.{test_bit, refused};
 ghost use Rattle.definitions.specs.Limits.{last_tick, most_steps};

@@ -1,4 +1,6 @@
 // Whether a step is ready to start, by its row of the plan: the row names some step, and each that it names has finished and its offset has run out.
+#![tactic(auto)]
+
 ghost use Rattle.std.specs.Prelude.{◌≡◌, ◌<◌, ◌≤◌, length};
 ghost use Rattle.definitions.specs.Limits.{most_steps};
 ghost use Rattle.run_ready.specs.Rows.{RowThere, due_in, ready_in, row_ready};

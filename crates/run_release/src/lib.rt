@@ -1,4 +1,6 @@
 // The sweep after a call of the dispatcher that is not refused: every step that is ready starts.
+#![tactic(auto)]
+
 ghost use Rattle.std.specs.Prelude.{◌≡◌, ◌^◌, ◌<◌};
 ghost use Rattle.definitions.specs.Dispatcher.{starting, start_ticks};
 ghost use Rattle.run_release.specs.Sweeps.{Room, Swept};

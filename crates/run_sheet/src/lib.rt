@@ -1,4 +1,6 @@
 // What a run of a sheet is begun with (request L6): N, the map of its open steps and its least durations, so that nobody who runs a sheet has to read its bytes.
+#![tactic(auto)]
+
 ghost use Rattle.std.specs.Prelude.{◌≡◌, ◌||◌, ◌++◌, ℕ, ◌≤◌, eqb, drop};
 ghost use Rattle.definitions.specs.Basics.{bits_below, tabulate, test_bit};
 ghost use Rattle.definitions.specs.Limits.{most_steps};

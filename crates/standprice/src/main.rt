@@ -1,4 +1,5 @@
 // Reads one sheet from standard input, allows waits, and prints the price of its control box or its refusal (request L5).
+#![tactic(auto)]
 
 // More bytes than the longest sheet has, so those of an input that are read decide what is printed of it: `front_decides` (crates/demands/proofs/Demands.antt).
 const INPUT_ROOM: usize = 8192;

@@ -4,6 +4,8 @@
 // a byte, the number of lists, and the lists.
 // A list is a byte that says whether waits are allowed (1), two bytes, the number of its entries, two bytes, the length of the list that is lent for the start times, and the entries, four bytes each.
 // Numbers have the low byte first. Lent numbers are 4,294,967,294, which no answer holds.
+#![tactic(auto)]
+
 ghost use Rattle.std.specs.Prelude.{◌<◌, ◌≤◌};
 
 use data_indices::byte_index;

@@ -1,4 +1,6 @@
 // Runs the examples of document 01 that are not proved, but the run, and compares: the limits on N, on R and on durations.
+#![tactic(auto)]
+
 ghost use Rattle.std.specs.Prelude.{◌<◌};
 
 // The line of an example: its name, its number, what was answered, and whether document 01 says so.

@@ -1,4 +1,6 @@
 // Cells of the working table: the one crate that knows how a cell is held. A cell is the weight of a walk, or a number below 0 where there is none. See specs/Cells.antt.
+#![tactic(auto)]
+
 ghost use Rattle.std.specs.Prelude.{◌≡◌, suc, ◌+◌, ◌-◌, ◌≤◌, ◌<◌, eqb, leb, ltb, pos};
 ghost use Rattle.definitions.specs.Limits.{most_ticks};
 ghost use Rattle.definitions.specs.Rounds.{extend};

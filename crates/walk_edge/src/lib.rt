@@ -1,4 +1,6 @@
 // The row of a step handed on along one edge: see specs/Columns.antt.
+#![tactic(auto)]
+
 ghost use Rattle.std.specs.Prelude.{◌≢◌, ◌<◌, get_or};
 ghost use Rattle.definitions.specs.Links.{UsableFrom};
 ghost use Rattle.data_edges.specs.Words.{unpack};

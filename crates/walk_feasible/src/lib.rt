@@ -1,4 +1,6 @@
 // Whether no closed walk weighs more than 0: refusal 10. Passes over one row of cells, from weight 0 everywhere, until nothing is left to hand on or a walk that closes above 0 is found. See specs/Search.antt.
+#![tactic(auto)]
+
 ghost use Rattle.std.specs.Prelude.{◌≡◌, true, ◌<◌, ◌≤◌};
 ghost use Rattle.data_lists.specs.Lists.{WithLists};
 ghost use Rattle.definitions.specs.Limits.{most_steps};

@@ -1,4 +1,6 @@
 // Heaviest walks for every anchor at once: the columns of the anchors are numbered and begun, and steps hand on until nothing is left to hand on.
+#![tactic(auto)]
+
 ghost use Rattle.std.specs.Prelude.{◌≡◌, true, List, ◌-◌, ◌≤◌, ℤ};
 ghost use Rattle.data_lists.specs.Lists.{WithLists};
 ghost use Rattle.definitions.specs.Limits.{most_steps};

@@ -1,4 +1,6 @@
 // A row of cells taken in by another row, all numbered columns at once: see specs/Lifts.antt. The loops over a row have no branch, so that the compiler makes vectors of them.
+#![tactic(auto)]
+
 ghost use Rattle.std.specs.Prelude.{◌≡◌, false, ◌<◌, pos};
 ghost use Rattle.walk_lift.specs.Lifts.{Liftable, LiftableCell, Lifted, Raised, Still};
 

@@ -1,4 +1,6 @@
 // What the columns of a working table begin with, and their numbers: see specs/Seeds.antt.
+#![tactic(auto)]
+
 ghost use Rattle.std.specs.Prelude.{◌≡◌, true, false, ℕ, ◌+◌, ◌<◌, ◌≤◌, length};
 ghost use Rattle.definitions.specs.Basics.{any_below, test_bit};
 ghost use Rattle.definitions.specs.Links.{members};

@@ -1,4 +1,6 @@
 // Whether start times are left: every edge, and every wait, has handed on in the source's column of the working table. See specs/Settled.antt.
+#![tactic(auto)]
+
 ghost use Rattle.std.specs.Prelude.{◌≡◌, ◌++◌, ◌<◌, ◌≤◌, leb, get_or};
 ghost use Rattle.definitions.specs.Basics.{all, all_below};
 ghost use Rattle.definitions.specs.Rounds.{entry, extend};

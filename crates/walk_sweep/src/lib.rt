@@ -1,4 +1,6 @@
 // Steps that hand on, along their edges and to what waits for them, the rows that were raised since they last did. See walk_edge's specs/Columns.antt and specs/Graphs.antt.
+#![tactic(auto)]
+
 ghost use Rattle.std.specs.Prelude.{◌≡◌, List, ℕ, ◌-◌, ◌<◌, ◌≤◌, pos, length};
 ghost use Rattle.definitions.specs.Links.{UsableFrom, members};
 ghost use Rattle.data_edges.specs.Serial.{leasts_in};

@@ -1,4 +1,6 @@
 // A row of cells made ready to be handed on, all numbered columns at once: see specs/Rows.antt. The loop that copies a row has no branch, so that the compiler makes vectors of it.
+#![tactic(auto)]
+
 ghost use Rattle.std.specs.Prelude.{◌≡◌, [], ◌+◌, ◌%◌, ◌≤◌, get_or};
 ghost use Rattle.walk_take.specs.Rows.{CopiedCell, Takeable, Taken, Trimmable, Trimmed};
 

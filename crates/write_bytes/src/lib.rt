@@ -1,4 +1,6 @@
 // The bytes of a sheet (request L4), put into a lent buffer that has room for them: N and R, the steps, and the link records in a given order.
+#![tactic(auto)]
+
 ghost use Rattle.std.specs.Prelude.{◌+◌, ◌≤◌};
 ghost use Rattle.data_buffers.specs.Texts.{Put};
 ghost use Rattle.write_bytes.specs.Sheets.{LinksFit, SheetFits, StepsFit, links_text, sheet_text, steps_text};

@@ -1,4 +1,6 @@
 // The records of a sheet as bytes (request L4): the map of a step and of a link record, how many bytes each has, and its bytes put into a lent buffer.
+#![tactic(auto)]
+
 ghost use Rattle.std.specs.Prelude.{◌≡◌, cond, [], ◌∷◌, ◌+◌, ◌≤◌, length};
 ghost use Rattle.definitions.specs.Limits.{longest_record};
 ghost use Rattle.definitions.specs.Writer.{bit_of, duration_of, field_of, link_bytes, link_map_of, open_bit, operation_bytes, operation_map_of, two_bytes_of};

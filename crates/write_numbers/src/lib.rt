@@ -1,4 +1,6 @@
 // Parts of a sheet from numbers of 16 bits (request L4): what callers of the sheet writer that cannot hand over its types give in the place of them (specs/Decoding.antt).
+#![tactic(auto)]
+
 ghost use Rattle.std.specs.Prelude.{◌≡◌, ◌+◌, ◌*◌, ◌≤◌, ◌<◌, length, take};
 ghost use Rattle.definitions.specs.Basics.{test_bit};
 ghost use Rattle.definitions.specs.Bytes.{bound_from};

@@ -1,4 +1,6 @@
 // The parts of a sheet that is to be written (request L4), seen once each: what is wrong with them, and how many bytes they have.
+#![tactic(auto)]
+
 ghost use Rattle.std.specs.Prelude.{◌≡◌, not, ◌&&◌, ◌||◌, ◌≤◌, take};
 ghost use Rattle.definitions.specs.Bytes.{link_map, operation_map, sequenced};
 ghost use Rattle.definitions.specs.Limits.{most_steps};

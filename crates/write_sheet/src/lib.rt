@@ -1,4 +1,6 @@
 // The sheet writer (request L4): the bytes of a sheet from its steps and link records, which may come in any order.
+#![tactic(auto)]
+
 ghost use Rattle.std.specs.Prelude.{◌≡◌, not, ◌||◌, ◌≤◌, min, take};
 ghost use Rattle.definitions.specs.Limits.{most_records, most_steps};
 ghost use Rattle.definitions.specs.Writer.{sheet_bytes};
