@@ -91,8 +91,23 @@ def turned(text, it, where):
         for word in ("invariant", "decreases"):
             text = re.sub(r"(?<![\w'.-])%s[-_]%s(?![\w'-])" % (word, old.replace("_", "[-_]")), f"{word}-{new}", text)
     # The steps, as fields; and what a call left behind its arguments, by the parameter's name.
+    held = {"args", "new", "auto", "last"} | set(steps.values())
+    # What a loop, a test and the start say, where port.py did not see whose field it is. Records of ours have some of these names too: they turn behind a step alone.
+    for old, new in (("inv", "invariant"), ("pre", "requires")):
+        text = re.sub(r"(?<=[\w')\]₀-₉])\.%s(?![\w'-])" % old, "." + new, text)
+
+    def of_step(m):
+        now = {"taken": "true", "left": "false", "last": "new"}[m.group(2)]
+        return f".{m.group(1)}.{now}" if plain(m.group(1)) in steps or m.group(1) in held else m.group()
+
+    text = re.sub(r"\.([\w'-]+)\.(taken|left|last)(?![\w'-])", of_step, text)
+
     def field(m):
         said = plain(m.group(1))
+        # A variable of a loop, an argument or what a call left is no step, though it may have a step's old name.
+        holder = re.search(r"\.([\w'-]+)$", text[: m.start()])
+        if holder and (holder.group(1) in held or plain(holder.group(1)) in steps):
+            return m.group()
         if said in steps:
             return "." + steps[said]
         if said in ("type_inv", "well_formed"):

@@ -49,10 +49,10 @@ abbrev Held : Found → Type 0
 Held s =
     let l = turn s in
     let a = start l in
-    Filtering a.pre.0.sheet a.args.es.now l.loop-k.part-1 l.loop-k.kept-1 l.loop-k.numbers l.loop-k.front l.loop-k.back l.loop-k.at (suc (l.loop-k.k - 1))
+    Filtering a.requires.0.sheet a.args.es.now l.loop-k.part l.loop-k.kept l.loop-k.numbers l.loop-k.front l.loop-k.back l.loop-k.at (suc (l.loop-k.k - 1))
 
 held : (s : Found) → Held s
-held s = let l = turn s in own _ _ _ _ (start l).pre.0 _ _ _ _ _ _ _ _ l.loop-k.inv s.loop-k-test.taken
+held s = let l = turn s in own _ _ _ _ (start l).requires.0 _ _ _ _ _ _ _ _ l.loop-k.invariant s.loop-k-test.true
 
 loop-k-init : tie.Need-loop-k-init invariant-loop-k decreases-loop-k
 loop-k-init c = let a = c.before.before.before.before in working_begins _ _ _ _ _ _ _ a.requires.0 a.requires.1
@@ -81,7 +81,7 @@ impossible_with-requires : tie.Need-impossible_with-requires invariant-loop-k de
 impossible_with-requires c κs =
     let s = c.before.before.before.before in
     let l = turn s in
-    working_triable _ _ _ _ (start l).pre.0 _ _ _ _ _ _ _ _ l.loop-k.inv s.loop-k-test.true _ s.record_start-first.ensures _ (part_rest l.loop-k.kept-1 l.loop-k.back)
+    working_triable _ _ _ _ (start l).requires.0 _ _ _ _ _ _ _ _ l.loop-k.invariant s.loop-k-test.true _ s.record_start-first.ensures _ (part_rest l.loop-k.kept l.loop-k.back)
 
 overflow_sub-back : tie.Need-overflow_sub-back invariant-loop-k decreases-loop-k
 overflow_sub-back c = let s = found (judged c.before) in omega (arith, s.record_start-first.ensures.below)
@@ -105,19 +105,19 @@ put-requires : tie.Need-put-requires invariant-loop-k decreases-loop-k
 put-requires c κs =
     let s = found (judged c.before.before.before) in
     let l = turn s in
-    working_room _ _ _ _ (start l).pre.0 _ _ _ _ _ _ _ _ l.loop-k.inv s.loop-k-test.taken _ s.record_start-first.ensures
+    working_room _ _ _ _ (start l).requires.0 _ _ _ _ _ _ _ _ l.loop-k.invariant s.loop-k-test.true _ s.record_start-first.ensures
 
 overflow_sub-at : tie.Need-overflow_sub-at invariant-loop-k decreases-loop-k
 overflow_sub-at c = let s = found (judged (needed c.before.before).before) in omega (arith, (held s).places)
 
 overflow_cast-numbers : tie.Need-overflow_cast-numbers invariant-loop-k decreases-loop-k
-overflow_cast-numbers c = let s = found (judged (needed c.before.before).before) in omega (arith, (held s).places, (held s).at_within, (turn s).loop-k.inv.long)
+overflow_cast-numbers c = let s = found (judged (needed c.before.before).before) in omega (arith, (held s).places, (held s).at_within, (turn s).loop-k.invariant.long)
 
 offset_bounds-numbers-at : tie.Need-offset_bounds-numbers-at invariant-loop-k decreases-loop-k
-offset_bounds-numbers-at c = let s = found (judged (needed c.before.before).before) in omega (arith, (held s).places, (held s).at_within, (turn s).loop-k.inv.long)
+offset_bounds-numbers-at c = let s = found (judged (needed c.before.before).before) in omega (arith, (held s).places, (held s).at_within, (turn s).loop-k.invariant.long)
 
 bounds-numbers-at : tie.Need-bounds-numbers-at invariant-loop-k decreases-loop-k
-bounds-numbers-at c = let s = found (judged (needed c.before.before).before) in omega (arith, (held s).places, (held s).at_within, (turn s).loop-k.inv.long)
+bounds-numbers-at c = let s = found (judged (needed c.before.before).before) in omega (arith, (held s).places, (held s).at_within, (turn s).loop-k.invariant.long)
 
 loop-k-smaller-then-not-impossible_with : tie.Need-loop-k-smaller-then-not-impossible_with invariant-loop-k decreases-loop-k
 loop-k-smaller-then-not-impossible_with c = search rules
@@ -129,7 +129,7 @@ loop-k-preserved-then-not-impossible_with c =
     let j = judged t.before in
     let s = found j in
     let l = turn s in
-    working_kept _ _ _ _ (start l).pre.0 _ _ _ _ _ _ _ _ l.loop-k.inv s.loop-k-test.taken _ s.record_start-first.ensures _ (part_rest l.loop-k.kept-1 l.loop-k.back) _ _ _ j.impossible_with.ensures (search rules) (search rules) _ p.put.ensures (not-true _ t.if-not-impossible_with.taken)
+    working_kept _ _ _ _ (start l).requires.0 _ _ _ _ _ _ _ _ l.loop-k.invariant s.loop-k-test.true _ s.record_start-first.ensures _ (part_rest l.loop-k.kept l.loop-k.back) _ _ _ j.impossible_with.ensures (search rules) (search rules) _ p.put.ensures (not-true _ t.if-not-impossible_with.true)
 
 loop-k-smaller : tie.Need-loop-k-smaller invariant-loop-k decreases-loop-k
 loop-k-smaller c = search rules
@@ -139,7 +139,7 @@ loop-k-preserved c =
     let j = judged c.before in
     let s = found j in
     let l = turn s in
-    working_dropped _ _ _ _ (start l).pre.0 _ _ _ _ _ _ _ _ l.loop-k.inv s.loop-k-test.taken _ s.record_start-first.ensures _ (part_rest l.loop-k.kept-1 l.loop-k.back) _ _ _ j.impossible_with.ensures (search rules) (search rules) (not-false _ c.if-not-impossible_with.false)
+    working_dropped _ _ _ _ (start l).requires.0 _ _ _ _ _ _ _ _ l.loop-k.invariant s.loop-k-test.true _ s.record_start-first.ensures _ (part_rest l.loop-k.kept l.loop-k.back) _ _ _ j.impossible_with.ensures (search rules) (search rules) (not-false _ c.if-not-impossible_with.false)
 
 shape_of-part : tie.Need-shape_of-part invariant-loop-k decreases-loop-k
 shape_of-part c = let l = c.before in l.loop-k.invariant.part_long ∙ sym (start l).requires.1.part_long

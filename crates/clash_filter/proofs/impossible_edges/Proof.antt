@@ -20,7 +20,7 @@ clear-requires c κs = search rules
 list-requires : tie.Need-list-requires
 list-requires c κs =
     let s = cleared c in
-    sheet_unlisted _ _ _ (start s).pre _ (search rules) s.clear.ensures
+    sheet_unlisted _ _ _ (start s).requires _ (search rules) s.clear.ensures
 
 is_impossible-requires : tie.Need-is_impossible-requires
 is_impossible-requires c κs =

@@ -32,12 +32,12 @@ slice_bounds-impossible_edges-end c = search rules
 slice_bounds-impossible_edges-end-2 : tie.Need-slice_bounds-impossible_edges-end-2
 slice_bounds-impossible_edges-end-2 c =
     let s = completed c in
-    sym (length-take-le _ _ (omega (arith, s.complete_part-all.ensures.few, (start s).pre.within)))
+    sym (length-take-le _ _ (omega (arith, s.complete_part-all.ensures.few, (start s).requires.within)))
 
 impossible_edges-requires : tie.Need-impossible_edges-requires
 impossible_edges-requires c κs =
     let s = completed c.before in
-    part_judgeable _ _ _ _ _ (start s).pre _ (joined s).put.ensures _ _ s.complete_part-all.ensures (search rules)
+    part_judgeable _ _ _ _ _ (start s).requires _ (joined s).put.ensures _ _ s.complete_part-all.ensures (search rules)
 
 shape_of-part : tie.Need-shape_of-part
 shape_of-part c = search rules
@@ -49,7 +49,7 @@ returns : tie.Need-returns
 returns c =
     let i = c.before.before in
     let s = completed i.before.before in
-    part_tried _ _ _ _ _ (start s).pre _ (joined s).put.ensures _ _ s.complete_part-all.ensures _ i.impossible_edges.ensures
+    part_tried _ _ _ _ _ (start s).requires _ (joined s).put.ensures _ _ s.complete_part-all.ensures _ i.impossible_edges.ensures
 
 pub impossible_with_spec : {M : Type 1} → statement M
 impossible_with_spec =

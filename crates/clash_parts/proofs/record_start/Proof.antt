@@ -48,7 +48,7 @@ pair_of-requires c κs = search rules
 returns-then-pair_of-pair : tie.Need-returns-then-pair_of-pair invariant-loop-first decreases-loop-first
 returns-then-pair_of-pair c =
     let l = turn c in
-    going_stops _ _ _ _ l.loop-first.inv (omega arith) _ c.pair_of.ensures c.if-pair_of-pair.true
+    going_stops _ _ _ _ l.loop-first.invariant (omega arith) _ c.pair_of.ensures c.if-pair_of-pair.true
 
 overflow_sub-first-in-loop-first-2 : tie.Need-overflow_sub-first-in-loop-first-2 invariant-loop-first decreases-loop-first
 overflow_sub-first-in-loop-first-2 c = search rules

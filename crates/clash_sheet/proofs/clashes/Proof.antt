@@ -15,7 +15,7 @@ abbrev reported : tie.In_default → tie.After-read-report
 reported s = s.before.before.before
 
 -- What was read: the sheet, held in the words. Bytes are below 256.
-read_whole : (s : tie.In_default) → let r = reported s in Whole (start r).args.s.now r.read-report.last.1.0 r.read-report.last.1.1.0 r.read-report.result
+read_whole : (s : tie.In_default) → let r = reported s in Whole (start r).args.s.now r.read-report.new.words r.read-report.new.leasts r.read-report.result
 read_whole s =
     let r = reported s in
     whole (start r).args.s.now _ _ _ (λ i. (r.shared_slice_known-1.given i).fits) r.read-report.ensures s.in_default.is

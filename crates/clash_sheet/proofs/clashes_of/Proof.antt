@@ -21,7 +21,7 @@ abbrev stopped : tie.In-Refused-2 → tie.After-judge
 stopped s = s.before.before
 
 -- The status, as a refusal is told.
-told : (s : tie.In-Refused-2) (q : Records) → (let a = (stopped s).args in Holding q a.words.now a.count a.linked a.records a.n) → status_of (Statuses.Refused s.in-Refused.k-1) tt ≡ judge_possible (count_of q) (edges_of q)
+told : (s : tie.In-Refused-2) (q : Records) → (let a = (stopped s).args in Holding q a.words.now a.count a.linked a.records a.n) → status_of (Statuses.Refused s.in-Refused.k) tt ≡ judge_possible (count_of q) (edges_of q)
 told s q H = ap (λ (st : Status). status_of st tt) (sym s.in-Refused.is) ∙ (stopped s).judge.ensures q H.completed
 
 slice_bounds-judge-end : tie.Need-slice_bounds-judge-end
@@ -42,7 +42,7 @@ is_circle-requires c κs = search rules
 returns-then-is_circle : tie.Need-returns-then-is_circle
 returns-then-is_circle c q H =
     let s = c.before.before.before in
-    answered_circle q _ s.in-Refused.k-1 (told s q H) (sym c.is_circle.ensures ∙ c.if-is_circle.true)
+    answered_circle q _ s.in-Refused.k (told s q H) (sym c.is_circle.ensures ∙ c.if-is_circle.true)
 
 slice_bounds-report-end : tie.Need-slice_bounds-report-end
 slice_bounds-report-end c = sym (length-take-le _ _ c.requires.linked_within)
@@ -61,7 +61,7 @@ returns-else-is_circle c q H =
     let called = c.before.before in
     let other = called.before.before.before in
     let s = other.before.before.before in
-    answered_report q _ s.in-Refused.k-1 (told s q H) (sym other.is_circle.ensures ∙ other.if-is_circle.false) (called.report.ensures q H.recorded)
+    answered_report q _ s.in-Refused.k (told s q H) (sym other.is_circle.ensures ∙ other.if-is_circle.false) (called.report.ensures q H.recorded)
 
 pub clashes_of_spec : {M : Type 1} → statement M
 clashes_of_spec =

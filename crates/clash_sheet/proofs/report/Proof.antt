@@ -17,7 +17,7 @@ abbrev start : tie.After-clash-at → tie.Start
 start c = c.before.before.before.before
 
 -- What is reported of the sheet that there is.
-reported : (c : tie.After-clash-at) → Reported (start c).requires.sheet c.clash-at.new.numbers-1 c.clash-at.result
+reported : (c : tie.After-clash-at) → Reported (start c).requires.sheet c.clash-at.new.numbers c.clash-at.result
 reported c = let p = (start c).requires in c.clash-at.ensures p.sheet p.holds
 
 within : (c : tie.After-clash-at) → c.clash-at.result ≤ 512
@@ -48,11 +48,11 @@ returns : tie.Need-returns
 returns c q R =
     let called = c.before.before in
     let s = called.before.before.before.before in
-    let numbers = s.clash-at.new.numbers-1 in
+    let numbers = s.clash-at.new.numbers in
     let at = s.clash-at.result in
     let report = s.clash-at.ensures q R in
     let all : take (512 - at) (drop at numbers) ≡ drop at numbers = take_all (512 - at) (drop at numbers) (omega (arith, report.long, length-drop at numbers)) in
-    subst (λ (l : List ℕ). Handed l (start s).args.list.now called.hand_out.result called.hand_out.new.list-1) (all ∙ report.same) called.hand_out.ensures
+    subst (λ (l : List ℕ). Handed l (start s).args.list.now called.hand_out.result called.hand_out.new.list) (all ∙ report.same) called.hand_out.ensures
 
 pub report_spec : {M : Type 1} → statement M
 report_spec =

@@ -25,7 +25,7 @@ turn s = s.before.before.before.before
 abbrev linked : tie.After-shared_slice_known-in-loop-k-2-1 invariant-loop-k decreases-loop-k → tie.After-link invariant-loop-k decreases-loop-k
 linked s = s.before.before.before.before
 
-kept : (s : tie.After-link invariant-loop-k decreases-loop-k) → length s.link.new.lists-1 ≡ length (turn s).loop-k.lists-1
+kept : (s : tie.After-link invariant-loop-k decreases-loop-k) → length s.link.new.lists ≡ length (turn s).loop-k.lists
 kept s = ap length s.link.ensures ∙ first_length _ _ (turn s).loop-k.k
 
 overflow_add-at : tie.Need-overflow_add-at invariant-loop-k decreases-loop-k
@@ -55,7 +55,7 @@ append-at-requires : tie.Need-append-at-requires invariant-loop-k decreases-loop
 append-at-requires c κs =
     let s = linked c in
     let t = turn s in
-    (omega (arith, (start t).pre.few), omega (arith, listing_room t.loop-k.inv.0 t.loop-k.inv.2, kept s))
+    (omega (arith, (start t).requires.few), omega (arith, listing_room t.loop-k.invariant.0 t.loop-k.invariant.2, kept s))
 
 overflow_add-k : tie.Need-overflow_add-k invariant-loop-k decreases-loop-k
 overflow_add-k c = search rules
@@ -70,8 +70,8 @@ loop-k-preserved c =
     let t = turn s in
     let put = a.append-at.ensures.put in (
       omega arith,
-      ap length put ∙ length-set {A = ℕ} s.link.last.0 t.loop-k.at (t.loop-k.k + 1) ∙ kept s ∙ t.loop-k.inv.1,
-      listing_more _ t.loop-k.lists-1 _ t.loop-k.k _ t.loop-k.at _ (omega arith) refl t.loop-k.inv.2 (rw s.link.ensures at a.append-at.ensures),
+      ap length put ∙ length-set {A = ℕ} s.link.new.lists t.loop-k.at (t.loop-k.k + 1) ∙ kept s ∙ t.loop-k.invariant.1,
+      listing_more _ t.loop-k.lists _ t.loop-k.k _ t.loop-k.at _ (omega arith) refl t.loop-k.invariant.2 (rw s.link.ensures at a.append-at.ensures),
     )
 
 offset_bounds-lists-at : tie.Need-offset_bounds-lists-at invariant-loop-k decreases-loop-k
@@ -83,7 +83,7 @@ bounds-lists-at : tie.Need-bounds-lists-at invariant-loop-k decreases-loop-k
 bounds-lists-at c = listing_room c.loop-k.invariant.0 c.loop-k.invariant.2
 
 shape_of-lists : tie.Need-shape_of-lists invariant-loop-k decreases-loop-k
-shape_of-lists c = length-set {A = ℕ} c.loop-k.lists-1 c.loop-k.at 0 ∙ c.loop-k.invariant.1
+shape_of-lists c = length-set {A = ℕ} c.loop-k.lists c.loop-k.at 0 ∙ c.loop-k.invariant.1
 
 returns : tie.Need-returns invariant-loop-k decreases-loop-k
 returns c =

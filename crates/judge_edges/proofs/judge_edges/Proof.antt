@@ -39,7 +39,7 @@ returns-then-not-feasible : tie.Need-returns-then-not-feasible
 returns-then-not-feasible c sheet =
     let f = c.before.before in
     let s = sorted (passing f) in
-    let p = (start s).pre in
+    let p = (start s).requires in
     let u = c.refused-then-not-feasible.ensures in
     let passed = sorting_order _ _ (s.sort.ensures sheet.shape sheet.entered) (not-false _ (passing f).if-not-sort.false) in
     let settles = f.feasible.ensures sheet.shape (all_rooted _ _ passed p.0.some sheet.shape sheet.entered) in
@@ -56,7 +56,7 @@ returns c sheet =
     let passes = not-false _ (passing f).if-not-sort.false in
     let found = s.sort.ensures sheet.shape sheet.entered in
     let passed = sorting_order _ _ found passes in
-    let settles = f.feasible.ensures sheet.shape (all_rooted _ _ passed (start s).pre.0.some sheet.shape sheet.entered) in
+    let settles = f.feasible.ensures sheet.shape (all_rooted _ _ passed (start s).requires.0.some sheet.shape sheet.entered) in
     let done = first_done _ _ passed (sym settles ∙ not-false _ t.if-not-feasible.false) in
     let unweighed = c.serialize.ensures.1 (record { sheet = sheet; anchors = found.found passes; passes = passed }) in
     edges_go_on _ _ _ _ _ _ _ done (unweighed.serialized done)

@@ -42,7 +42,7 @@ returns-then-is_inconsistent c =
       λ h.
           let R = r.reach.ensures.0 h.anchors in
           let own = sym (i.is_inconsistent.ensures.1 _ (reached_reaches h.sheet.shape R)) ∙ c.if-is_inconsistent.true in
-          unweighed_11 _ _ _ _ _ _ _ h.sheet.shape R own (ap verdict_of u.0) (start r).pre.1.no_maps u.1.none,
+          unweighed_11 _ _ _ _ _ _ _ h.sheet.shape R own (ap verdict_of u.0) (start r).requires.1.no_maps u.1.none,
     )
 
 wait_maps-requires : tie.Need-wait_maps-requires
@@ -62,7 +62,7 @@ returns c =
           let reaches = reached_reaches h.sheet.shape R in
           let consistent = sym (i.is_inconsistent.ensures.1 _ reaches) ∙ m.if-is_inconsistent.false in
           let maps = m.wait_maps.ensures.1 _ (record { shape = h.sheet.shape; reaches = reaches; anchors = h.anchors }) in
-          let some = (start r).pre.0.some in
+          let some = (start r).requires.0.some in
           unweighed_rest _ _ _ _ _ _ _ h.sheet.shape R consistent (λ first.
           c.put_in.ensures.1 (record { well = passed_well _ _ some h.sheet.shape h.sheet.entered first consistent; acyclic = order_acyclic _ _ h.passes some h.sheet.shape; gains = h.sheet.gains; leasts = h.sheet.leasts; waits = maps })),
     )

@@ -51,7 +51,7 @@ waits : (w : tie.After-waits_for_itself) → let s = (passing (keeping w).before
 waits w sheet =
     let f = (keeping w).before in
     let found = (passing f).sort.ensures sheet.0 sheet.1 in
-    w.waits_for_itself.ensures (record { shape = sheet.0; anchors = found.found (not-false _ (passing f).if-not-sort.left); passes = passed f sheet })
+    w.waits_for_itself.ensures (record { shape = sheet.0; anchors = found.found (not-false _ (passing f).if-not-sort.false); passes = passed f sheet })
 
 sort-requires : tie.Need-sort-requires
 sort-requires c κs = search rules

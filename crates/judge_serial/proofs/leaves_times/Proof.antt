@@ -34,7 +34,7 @@ start s = s.before.before.before.before.before.before
 
 -- What the table then says, and that its first column holds the source's offsets over the edges and the waits.
 abbrev table : tie.Else-not-walks_if_possible → List (List ℕ)
-table s = said (walked s).walks_if_possible.new.d-1
+table s = said (walked s).walks_if_possible.new.d
 
 abbrev steps : tie.Else-not-walks_if_possible → ℕ
 steps s = (start (walked s)).args.n
@@ -56,8 +56,8 @@ offsets s well leasts waits =
 none_told : (s : tie.After-is_none) → s.is_none.result ≡ eqb (entry (table s.before.before) 0 0) 0
 none_told s =
     let w = walked s.before.before in
-    let square : Square 64 w.walks_if_possible.last.0 = w.walks_if_possible.ensures.square in
-    rw (read_says w.walks_if_possible.last.0 square {v = 0} {k = 0} (search rules) (search rules) s.is_none-arg-1.given) at s.is_none.ensures
+    let square : Square 64 w.walks_if_possible.new.d = w.walks_if_possible.ensures.square in
+    rw (read_says w.walks_if_possible.new.d square {v = 0} {k = 0} (search rules) (search rules) s.is_none-arg-1.given) at s.is_none.ensures
 
 slice_bounds-walks_if_possible-end : tie.Need-slice_bounds-walks_if_possible-end
 slice_bounds-walks_if_possible-end c = search rules

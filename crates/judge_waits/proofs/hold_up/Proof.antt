@@ -59,7 +59,7 @@ returns c =
     let e = ends (users c) in
     let s = start e in
     let to = e.edge_to-i.ensures in
-    held_store s.args.reach.now s.args.sets.now _ (unpack s.args.w) s.pre.0 _ _ _ _ _ to.0 to.1 e.edge_from-j.ensures.0 s.pre.1 (users c).usable_by-users.ensures c.minus-held.ensures c.union-map.ensures
+    held_store s.args.reach.now s.args.sets.now _ (unpack s.args.w) s.requires.0 _ _ _ _ _ to.0 to.1 e.edge_from-j.ensures.0 s.requires.1 (users c).usable_by-users.ensures c.minus-held.ensures c.union-map.ensures
 
 pub hold_up_spec : {M : Type 1} → statement M
 hold_up_spec =

@@ -52,7 +52,7 @@ loop-k-init : tie.Need-loop-k-init invariant-loop-k decreases-loop-k
 loop-k-init c =
     let s = start c in
     let given = s.args in
-    returning_start s.pre.0 (held_pass given.reach.now given.sets.now given.es.now given.maps.now) c.index-k.ensures (held_start given.reach.now given.sets.now given.es.now _ s.pre.1)
+    returning_start s.requires.0 (held_pass given.reach.now given.sets.now given.es.now given.maps.now) c.index-k.ensures (held_start given.reach.now given.sets.now given.es.now _ s.requires.1)
 
 overflow_sub-k : tie.Need-overflow_sub-k invariant-loop-k decreases-loop-k
 overflow_sub-k c = search rules
@@ -69,26 +69,26 @@ hold_up-requires c κs =
     ((L.been (omega arith)).long, L.back (omega arith))
 
 overflow_add-at-in-loop-k : tie.Need-overflow_add-at-in-loop-k invariant-loop-k decreases-loop-k
-overflow_add-at-in-loop-k c = omega (arith, below c, (entry (turn c)).pre.0.few)
+overflow_add-at-in-loop-k c = omega (arith, below c, (entry (turn c)).requires.0.few)
 
 offset_bounds-lists-at-in-loop-k : tie.Need-offset_bounds-lists-at-in-loop-k invariant-loop-k decreases-loop-k
-offset_bounds-lists-at-in-loop-k c = omega (arith, below c, (entry (turn c)).pre.0.few)
+offset_bounds-lists-at-in-loop-k c = omega (arith, below c, (entry (turn c)).requires.0.few)
 
 bounds-lists-at-in-loop-k : tie.Need-bounds-lists-at-in-loop-k invariant-loop-k decreases-loop-k
-bounds-lists-at-in-loop-k c = let s = c.before in omega (arith, below s, (entry (turn s)).pre.0.long)
+bounds-lists-at-in-loop-k c = let s = c.before in omega (arith, below s, (entry (turn s)).requires.0.long)
 
 index-k-requires-in-loop-k : tie.Need-index-k-requires-in-loop-k invariant-loop-k decreases-loop-k
 index-k-requires-in-loop-k c κs = search rules
 
 loop-k-smaller : tie.Need-loop-k-smaller invariant-loop-k decreases-loop-k
-loop-k-smaller c = let s = held c in omega (arith, below s, (entry (turn s)).pre.0.long)
+loop-k-smaller c = let s = held c in omega (arith, below s, (entry (turn s)).requires.0.long)
 
 loop-k-preserved : tie.Need-loop-k-preserved invariant-loop-k decreases-loop-k
 loop-k-preserved c =
     let s = held c in
     let t = turn s in
     let given = (entry t).args in
-    returning_turn (entry t).pre.0 (held_pass given.reach.now given.sets.now given.es.now _) (some s) c.index-k-in-loop-k.ensures (λ G. held_more given.reach.now given.sets.now given.es.now _ _ (t.loop-k.k - 1) (omega (arith, t.loop-k.inv.few)) G s.hold_up.ensures) t.loop-k.inv
+    returning_turn (entry t).requires.0 (held_pass given.reach.now given.sets.now given.es.now _) (some s) c.index-k-in-loop-k.ensures (λ G. held_more given.reach.now given.sets.now given.es.now _ _ (t.loop-k.k - 1) (omega (arith, t.loop-k.invariant.few)) G s.hold_up.ensures) t.loop-k.invariant
 
 returns : tie.Need-returns invariant-loop-k decreases-loop-k
 returns c =

@@ -61,11 +61,11 @@ loop-k-smaller c = search rules
 loop-k-preserved : tie.Need-loop-k-preserved invariant-loop-k decreases-loop-k
 loop-k-preserved c =
     let t = turn c in
-    let O = t.loop-k.inv.0 in
+    let O = t.loop-k.invariant.0 in
     let p = (placed c).place-u in
     let inside : t.loop-k.k < t.args.n = search rules in
-    let at : p.result ≡ get_or t.args.order.now t.loop-k.k 0 = omega (arith, p.ensures.0, O.filled t.loop-k.k inside, t.before.pre.few) in
-    (O, drawing_more O _ t.before.pre.few t.loop-k.k t.loop-k.rows t.loop-k.inv.1 inside p.result c.gather-row.result at c.gather-row.ensures)
+    let at : p.result ≡ get_or t.args.order.now t.loop-k.k 0 = omega (arith, p.ensures.0, O.filled t.loop-k.k inside, t.requires.few) in
+    (O, drawing_more O _ t.requires.few t.loop-k.k t.loop-k.rows t.loop-k.invariant.1 inside p.result c.gather-row.result at c.gather-row.ensures)
 
 returns : tie.Need-returns invariant-loop-k decreases-loop-k
 returns c = let i = c.loop-k.invariant in drawing_end i.0 _ _ _ (search rules) i.1

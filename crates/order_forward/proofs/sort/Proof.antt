@@ -52,14 +52,14 @@ bounds-sets-0-2 c = search rules
 draw-requires : tie.Need-draw-requires
 draw-requires c κs =
     let f = found (entered c) in
-    record { few = (start f.before).requires.few; ordered = f.arrange.ensures.ordered (not-false _ f.if-not-arrange.left); long = (enters (entered c)).long }
+    record { few = (start f.before).requires.few; ordered = f.arrange.ensures.ordered (not-false _ f.if-not-arrange.false); long = (enters (entered c)).long }
 
 returns : tie.Need-returns
 returns c shape into =
     let i = entered c.before in
     let a = (found i).before in
-    let p = (start a).pre in
-    let ok = (found i).if-not-arrange.left in
+    let p = (start a).requires in
+    let ok = (found i).if-not-arrange.false in
     let P = (direct a).predecessors.ensures.0 in
     let O = a.arrange.ensures.ordered (not-false _ ok) in
     let E = enters i in

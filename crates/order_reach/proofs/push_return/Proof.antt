@@ -34,7 +34,7 @@ returns : tie.Need-returns
 returns c =
     let e = ends c in
     let s = start e in
-    returned_by (unpack s.args.w) _ _ _ _ _ _ _ e.edge_from-from.ensures.0 e.edge_to-to.ensures.0 s.pre.1 c.usable_by-h.ensures c.join.ensures
+    returned_by (unpack s.args.w) _ _ _ _ _ _ _ e.edge_from-from.ensures.0 e.edge_to-to.ensures.0 s.requires.1 c.usable_by-h.ensures c.join.ensures
 
 pub push_return_spec : {M : Type 1} → statement M
 push_return_spec =

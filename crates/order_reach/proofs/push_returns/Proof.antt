@@ -65,25 +65,25 @@ push_return-marks-requires c κs =
     ((L.been (omega arith)).long, L.back (omega arith))
 
 overflow_add-at-in-loop-k : tie.Need-overflow_add-at-in-loop-k invariant-loop-k decreases-loop-k
-overflow_add-at-in-loop-k c = omega (arith, below c, (entry (turn c)).pre.listed.few)
+overflow_add-at-in-loop-k c = omega (arith, below c, (entry (turn c)).requires.listed.few)
 
 offset_bounds-lists-at-in-loop-k : tie.Need-offset_bounds-lists-at-in-loop-k invariant-loop-k decreases-loop-k
-offset_bounds-lists-at-in-loop-k c = omega (arith, below c, (entry (turn c)).pre.listed.few)
+offset_bounds-lists-at-in-loop-k c = omega (arith, below c, (entry (turn c)).requires.listed.few)
 
 bounds-lists-at-in-loop-k : tie.Need-bounds-lists-at-in-loop-k invariant-loop-k decreases-loop-k
-bounds-lists-at-in-loop-k c = let s = c.before in omega (arith, below s, (entry (turn s)).pre.listed.long)
+bounds-lists-at-in-loop-k c = let s = c.before in omega (arith, below s, (entry (turn s)).requires.listed.long)
 
 index-k-requires-in-loop-k : tie.Need-index-k-requires-in-loop-k invariant-loop-k decreases-loop-k
 index-k-requires-in-loop-k c κs = search rules
 
 loop-k-smaller : tie.Need-loop-k-smaller invariant-loop-k decreases-loop-k
-loop-k-smaller c = let s = pushed c in omega (arith, below s, (entry (turn s)).pre.listed.long)
+loop-k-smaller c = let s = pushed c in omega (arith, below s, (entry (turn s)).requires.listed.long)
 
 loop-k-preserved : tie.Need-loop-k-preserved invariant-loop-k decreases-loop-k
 loop-k-preserved c =
     let s = pushed c in
     let t = turn s in
-    returning_turn (entry t).pre.listed (homing_pass _ _ _ _) (some s) c.index-k-in-loop-k.ensures (λ S. homing_turn _ _ _ _ _ _ _ (omega (arith, t.loop-k.inv.few)) S s.push_return-marks.ensures) t.loop-k.inv
+    returning_turn (entry t).requires.listed (homing_pass _ _ _ _) (some s) c.index-k-in-loop-k.ensures (λ S. homing_turn _ _ _ _ _ _ _ (omega (arith, t.loop-k.invariant.few)) S s.push_return-marks.ensures) t.loop-k.invariant
 
 returns : tie.Need-returns invariant-loop-k decreases-loop-k
 returns c = homing_end _ _ _ _ _ (omega arith) (c.loop-k.invariant.done (omega arith))

@@ -32,7 +32,7 @@ returns-then-is_late : tie.Need-returns-then-is_late
 returns-then-is_late c =
     let g = given c.before.before.before.before in
     let s = start g in
-    word_handed (unpack s.args.w) _ _ _ s.pre.1 g.begun-given.ensures c.usable_by-some.ensures _ _ _ _ _ g.edge_to-to.ensures.0 c.join.ensures
+    word_handed (unpack s.args.w) _ _ _ s.requires.1 g.begun-given.ensures c.usable_by-some.ensures _ _ _ _ _ g.edge_to-to.ensures.0 c.join.ensures
 
 join-requires-2 : tie.Need-join-requires-2
 join-requires-2 c κs = search rules
@@ -43,7 +43,7 @@ returns c =
     let g = given l in
     let s = start g in
     let timely = sym l.is_late.ensures ∙ c.if-is_late.false in
-    word_handed (unpack s.args.w) _ _ _ s.pre.1 g.begun-given.ensures (λ a. timely_may _ _ a timely) _ _ _ _ _ g.edge_to-to.ensures.0 c.join-2.ensures
+    word_handed (unpack s.args.w) _ _ _ s.requires.1 g.begun-given.ensures (λ a. timely_may _ _ a timely) _ _ _ _ _ g.edge_to-to.ensures.0 c.join-2.ensures
 
 pub push_word_spec : {M : Type 1} → statement M
 push_word_spec =

@@ -33,12 +33,12 @@ pass-next-requires c κs = let t = c.before.before.before in (t.requires.0, t.lo
 returns-then-next-front : tie.Need-returns-then-next-front invariant-loop-front decreases-loop-front
 returns-then-next-front c =
     let s = passed c.before in
-    placing_stuck (omega (arith, s.loop-front-test.taken)) (omega arith) (turn s).loop-front.inv s.pass-next.ensures
+    placing_stuck (omega (arith, s.loop-front-test.true)) (omega arith) (turn s).loop-front.invariant s.pass-next.ensures
 
 loop-front-smaller : tie.Need-loop-front-smaller invariant-loop-front decreases-loop-front
 loop-front-smaller c =
     let s = passed c.before in
-    omega (arith, s.loop-front-test.taken, s.pass-next.ensures.further, c.if-next-front.false)
+    omega (arith, s.loop-front-test.true, s.pass-next.ensures.further, c.if-next-front.false)
 
 loop-front-preserved : tie.Need-loop-front-preserved invariant-loop-front decreases-loop-front
 loop-front-preserved c = (passed c.before).pass-next.ensures.placing

@@ -97,8 +97,8 @@ loop-i-preserved c =
     let from = b.edge_from-u.ensures in
     let inside : t.loop-i.i < length es = search rules in (
       omega arith,
-      relate_more (λ e. e.to) (λ e. e.from) (λ e. not e.back) unpack es t.loop-i.i 0 (first c).insert_if-row.result inside t.loop-i.inv.1 to.0 to.1 from.0 (ap not b.is_back-forward.ensures) (first c).insert_if-row.ensures,
-      relate_more (λ e. e.to) (λ e. e.from) (λ e. e.counted) unpack es t.loop-i.i 0 c.insert_if-anchors.result inside t.loop-i.inv.2 to.0 to.1 from.0 c.is_counted-counts.ensures c.insert_if-anchors.ensures,
+      relate_more (λ e. e.to) (λ e. e.from) (λ e. not e.back) unpack es t.loop-i.i 0 (first c).insert_if-row.result inside t.loop-i.invariant.1 to.0 to.1 from.0 (ap not b.is_back-forward.ensures) (first c).insert_if-row.ensures,
+      relate_more (λ e. e.to) (λ e. e.from) (λ e. e.counted) unpack es t.loop-i.i 0 c.insert_if-anchors.result inside t.loop-i.invariant.2 to.0 to.1 from.0 c.is_counted-counts.ensures c.insert_if-anchors.ensures,
     )
 
 returns : tie.Need-returns invariant-loop-i decreases-loop-i

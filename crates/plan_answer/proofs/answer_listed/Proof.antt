@@ -39,7 +39,7 @@ returns-in-Judgement : tie.Need-returns-in-Judgement
 returns-in-Judgement c os o =
     let told = c.before.before.before in
     let st = start told.before.before in
-    judged_responds _ _ _ st.args.allow os st.args.list.now st.args.out.now told.in-Judgement.is (c.judge_edges.ensures st.pre.0.sheet.formed)
+    judged_responds _ _ _ st.args.allow os st.args.list.now st.args.out.now told.in-Judgement.is (c.judge_edges.ensures st.requires.0.sheet.formed)
 
 slice_bounds-answer_on-end : tie.Need-slice_bounds-answer_on-end
 slice_bounds-answer_on-end c = search rules

@@ -61,7 +61,7 @@ loop-i-smaller c = search rules
 loop-i-preserved : tie.Need-loop-i-preserved invariant-loop-i decreases-loop-i
 loop-i-preserved c =
     let s = top c.before in
-    (omega arith, any_below_more _ _ s.loop-i.inv.1 (outside_there _ _ _ _ _ (omega arith) (sym c.delay_bad.ensures ∙ c.if-delay_bad.false)))
+    (omega arith, any_below_more _ _ s.loop-i.invariant.1 (outside_there _ _ _ _ _ (omega arith) (sym c.delay_bad.ensures ∙ c.if-delay_bad.false)))
 
 returns : tie.Need-returns invariant-loop-i decreases-loop-i
 returns c =

@@ -33,12 +33,12 @@ pub record InTable (n v : ℕ) (table : List ℕ) : Type 0 where
   pub small : n * n ≤ longest_table
   pub room : n * n ≤ length table
 
-same : (s : tie.At-loop-v invariant-loop-v decreases-loop-v) → length s.loop-v.table-1 ≡ length (start s).args.table.now
+same : (s : tie.At-loop-v invariant-loop-v decreases-loop-v) → length s.loop-v.table ≡ length (start s).args.table.now
 same s = s.loop-v.invariant.1 ∙ clear_length _ _ _ (start s).requires.room (clearing s).clear.ensures
 
-in_table : (c : tie.In-loop-v invariant-loop-v decreases-loop-v) → InTable (start c.before).args.n c.loop-v.v c.loop-v.table-1
+in_table : (c : tie.In-loop-v invariant-loop-v decreases-loop-v) → InTable (start c.before).args.n c.loop-v.v c.loop-v.table
 in_table c =
-    let p = (start c.before).pre in
+    let p = (start c.before).requires in
     record { row = row_end _ _ (omega arith); small = square_small _ p.rows.few; room = omega (arith, same c.before, p.room) }
 
 overflow_mul-n : tie.Need-overflow_mul-n invariant-loop-v decreases-loop-v
@@ -68,7 +68,7 @@ slice_bounds-fill_row-end c = search rules
 fill_row-requires : tie.Need-fill_row-requires invariant-loop-v decreases-loop-v
 fill_row-requires c κs =
     let l = c.before in
-    let p = (start l.before).pre in
+    let p = (start l.before).requires in
     (record { own = record { below = omega (arith, p.rows.few); inside = omega (arith, p.rows.inside); square = p.rows.square }; members = λ a. p.members _ a (omega arith) }, record { few = p.rows.few; fits = simp (length-take, length-drop) (omega (arith, in_table l)) })
 
 overflow_add-v : tie.Need-overflow_add-v invariant-loop-v decreases-loop-v

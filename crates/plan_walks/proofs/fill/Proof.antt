@@ -47,14 +47,14 @@ returns c =
     let walked = c.before in
     let sourced = walked.before.before.before.before in
     let st = start (looked sourced) in
-    let sheet = st.pre.0.sheet in
+    let sheet = st.requires.0.sheet in
     let told = walked.walks_if_possible.ensures in (
       λ rooted long. told.told sheet.formed.shape rooted sheet.formed.gains sheet.formed.leasts (source_in st.args.sets.now sourced.add_source.new.rows (sourced.add_source.ensures long)),
       λ possible k p. record {
         well = p.well;
         serial = p.serial;
-        rows = record { few = sheet.few; inside = omega (arith, st.pre.0.rows, told.square.rows); square = square_own told.square };
-        holds = plannable_holds sourced.add_source.new.rows (read_by walked.walks_if_possible.new.number walked.walks_if_possible.new.d-1) sheet.few p (told.cells possible) (sourced.add_source.ensures p.long);
+        rows = record { few = sheet.few; inside = omega (arith, st.requires.0.rows, told.square.rows); square = square_own told.square };
+        holds = plannable_holds sourced.add_source.new.rows (read_by walked.walks_if_possible.new.number walked.walks_if_possible.new.d) sheet.few p (told.cells possible) (sourced.add_source.ensures p.long);
       },
     )
 

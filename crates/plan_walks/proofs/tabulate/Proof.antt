@@ -24,7 +24,7 @@ sorted s = s.before.before.before.before.before.before
 told : (s : tie.After-fill) → s.fill.result ≡ feasible (start (analysed (sorted s))).args.n (graph (start (analysed (sorted s))).args.es.now)
 told s =
     let a = analysed (sorted s) in
-    let sheet = (start a).pre.0.sheet in
+    let sheet = (start a).requires.0.sheet in
     let presumed = a.judge_assuming_feasible-found.ensures sheet.formed in
     let passes = not-false _ (sorted s).if-not-found.false in
     s.fill.ensures.0 (sorted_rooted presumed sheet.some sheet.formed passes) (presumed.long passes)
@@ -52,7 +52,7 @@ returns-then-fill : tie.Need-returns-then-fill
 returns-then-fill c =
     let f = c.before.before in
     let a = analysed (sorted f) in
-    let sheet = (start a).pre.0.sheet in
+    let sheet = (start a).requires.0.sheet in
     let presumed = a.judge_assuming_feasible-found.ensures sheet.formed in
     let passes = not-false _ (sorted f).if-not-found.false in
     let possible = sym (told f) ∙ c.if-fill.true in
@@ -68,7 +68,7 @@ returns : tie.Need-returns
 returns c =
     let f = c.before.before.before in
     let a = analysed (sorted f) in
-    let sheet = (start a).pre.0.sheet in
+    let sheet = (start a).requires.0.sheet in
     let presumed = a.judge_assuming_feasible-found.ensures sheet.formed in
     let impossible = sym (told f) ∙ c.if-fill.false in
     record { listed = infeasible_listed presumed (not-false _ (sorted f).if-not-found.false) impossible refl; held = λ h. absurd (false≢true h) }

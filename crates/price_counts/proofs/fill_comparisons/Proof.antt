@@ -21,25 +21,25 @@ loop-v-init : tie.Need-loop-v-init invariant-loop-v decreases-loop-v
 loop-v-init c = filling_none
 
 comparisons-count-requires : tie.Need-comparisons-count-requires invariant-loop-v decreases-loop-v
-comparisons-count-requires c κs = record { planned = (start c.before).pre.planned; step = search rules }
+comparisons-count-requires c κs = record { planned = (start c.before).requires.planned; step = search rules }
 
 offset_bounds-list-v : tie.Need-offset_bounds-list-v invariant-loop-v decreases-loop-v
-offset_bounds-list-v c = let s = start c.before.before in omega (arith, s.pre.planned.few)
+offset_bounds-list-v c = let s = start c.before.before in omega (arith, s.requires.planned.few)
 
 bounds-list-v : tie.Need-bounds-list-v invariant-loop-v decreases-loop-v
-bounds-list-v c = let s = start c.before.before in omega (arith, s.pre.room, c.loop-v.invariant.long)
+bounds-list-v c = let s = start c.before.before in omega (arith, s.requires.room, c.loop-v.invariant.long)
 
 overflow_add-total : tie.Need-overflow_add-total invariant-loop-v decreases-loop-v
-overflow_add-total c = let s = start c.before.before in omega (arith, s.pre.planned.few, c.comparisons-count.ensures.small, c.loop-v.invariant.small)
+overflow_add-total c = let s = start c.before.before in omega (arith, s.requires.planned.few, c.comparisons-count.ensures.small, c.loop-v.invariant.small)
 
 overflow_add-v : tie.Need-overflow_add-v invariant-loop-v decreases-loop-v
-overflow_add-v c = let s = start c.before.before in omega (arith, s.pre.planned.few)
+overflow_add-v c = let s = start c.before.before in omega (arith, s.requires.planned.few)
 
 loop-v-smaller : tie.Need-loop-v-smaller invariant-loop-v decreases-loop-v
 loop-v-smaller c = omega arith
 
 loop-v-preserved : tie.Need-loop-v-preserved invariant-loop-v decreases-loop-v
-loop-v-preserved c = filling_more c.loop-v.invariant c.comparisons-count.ensures (omega arith) (start c.before.before).pre.room
+loop-v-preserved c = filling_more c.loop-v.invariant c.comparisons-count.ensures (omega arith) (start c.before.before).requires.room
 
 shape_of-list : tie.Need-shape_of-list invariant-loop-v decreases-loop-v
 shape_of-list c = search rules

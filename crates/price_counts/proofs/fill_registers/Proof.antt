@@ -22,25 +22,25 @@ loop-a-init : tie.Need-loop-a-init invariant-loop-a decreases-loop-a
 loop-a-init c = filling_none
 
 registers-count-requires : tie.Need-registers-count-requires invariant-loop-a decreases-loop-a
-registers-count-requires c κs = record { planned = (start c.before).pre.planned; step = search rules }
+registers-count-requires c κs = record { planned = (start c.before).requires.planned; step = search rules }
 
 offset_bounds-list-a : tie.Need-offset_bounds-list-a invariant-loop-a decreases-loop-a
-offset_bounds-list-a c = let s = start c.before.before in omega (arith, s.pre.planned.few)
+offset_bounds-list-a c = let s = start c.before.before in omega (arith, s.requires.planned.few)
 
 bounds-list-a : tie.Need-bounds-list-a invariant-loop-a decreases-loop-a
-bounds-list-a c = let s = start c.before.before in omega (arith, s.pre.room, c.loop-a.invariant.long)
+bounds-list-a c = let s = start c.before.before in omega (arith, s.requires.room, c.loop-a.invariant.long)
 
 overflow_add-total : tie.Need-overflow_add-total invariant-loop-a decreases-loop-a
-overflow_add-total c = let s = start c.before.before in omega (arith, s.pre.planned.few, c.registers-count.ensures.small, c.loop-a.invariant.small)
+overflow_add-total c = let s = start c.before.before in omega (arith, s.requires.planned.few, c.registers-count.ensures.small, c.loop-a.invariant.small)
 
 overflow_add-a : tie.Need-overflow_add-a invariant-loop-a decreases-loop-a
-overflow_add-a c = let s = start c.before.before in omega (arith, s.pre.planned.few)
+overflow_add-a c = let s = start c.before.before in omega (arith, s.requires.planned.few)
 
 loop-a-smaller : tie.Need-loop-a-smaller invariant-loop-a decreases-loop-a
 loop-a-smaller c = omega arith
 
 loop-a-preserved : tie.Need-loop-a-preserved invariant-loop-a decreases-loop-a
-loop-a-preserved c = filling_more c.loop-a.invariant c.registers-count.ensures (omega arith) (start c.before.before).pre.room
+loop-a-preserved c = filling_more c.loop-a.invariant c.registers-count.ensures (omega arith) (start c.before.before).requires.room
 
 shape_of-list : tie.Need-shape_of-list invariant-loop-a decreases-loop-a
 shape_of-list c = search rules

@@ -42,7 +42,7 @@ loop-a-smaller c = search rules
 loop-a-preserved : tie.Need-loop-a-preserved invariant-loop-a decreases-loop-a
 loop-a-preserved c =
     let s = top c.before in
-    (omega arith, any_below_more _ _ s.loop-a.inv.1 (sym c.large.ensures ∙ c.if-large.false))
+    (omega arith, any_below_more _ _ s.loop-a.invariant.1 (sym c.large.ensures ∙ c.if-large.false))
 
 returns : tie.Need-returns invariant-loop-a decreases-loop-a
 returns c =

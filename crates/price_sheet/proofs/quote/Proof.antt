@@ -38,7 +38,7 @@ held s =
 
 -- N after it is known.
 abbrev count_after : tie.After-steps → ℕ
-count_after s = s.steps.new.n-1
+count_after s = s.steps.new.n
 
 small : (s : tie.After-steps) → count_after s * count_after s ≤ longest_table
 small s = plan_small (held (passed s)) (search rules) s.steps.ensures

@@ -44,7 +44,7 @@ refuse-requires-then-comparisons-n c κs = search rules
 returns-then-comparisons-n : tie.Need-returns-then-comparisons-n
 returns-then-comparisons-n c v e =
     let s = not_large c.before.before in
-    quotes_refused _ _ _ _ _ _ TooShort (short_comparisons _ _ _ _ _ _ (sym s.too_large.ensures ∙ s.if-too_large.left) c.if-comparisons-n.true) c.refuse-then-comparisons-n.ensures
+    quotes_refused _ _ _ _ _ _ TooShort (short_comparisons _ _ _ _ _ _ (sym s.too_large.ensures ∙ s.if-too_large.false) c.if-comparisons-n.true) c.refuse-then-comparisons-n.ensures
 
 fill_registers-register_total-requires : tie.Need-fill_registers-register_total-requires
 fill_registers-register_total-requires c κs = search rules
@@ -62,7 +62,7 @@ returns : tie.Need-returns
 returns c v e =
     let b = both_long c in
     let s = not_large b.before in
-    quotes_priced _ _ _ _ _ v _ _ e (sym s.too_large.ensures ∙ s.if-too_large.left) b.if-registers-n.left b.if-comparisons-n.left (first_filled c).fill_registers-register_total.ensures (filled c).fill_comparisons-comparison_total.ensures
+    quotes_priced _ _ _ _ _ v _ _ e (sym s.too_large.ensures ∙ s.if-too_large.false) b.if-registers-n.false b.if-comparisons-n.false (first_filled c).fill_registers-register_total.ensures (filled c).fill_comparisons-comparison_total.ensures
 
 pub quote_plan_spec : {M : Type 1} → statement M
 quote_plan_spec =

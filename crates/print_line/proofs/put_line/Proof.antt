@@ -27,14 +27,14 @@ put_fields-q-requires : tie.Need-put_fields-q-requires
 put_fields-q-requires c κs =
     let p = c.before.before.before in
     let s = start p in
-    put_room p.put_word-p.ensures (fields s.args.numbers.now) (line_fields_room s.args.word.now s.args.numbers.now s.args.at _ s.pre)
+    put_room p.put_word-p.ensures (fields s.args.numbers.now) (line_fields_room s.args.word.now s.args.numbers.now s.args.at _ s.requires)
 
 put_newline-requires : tie.Need-put_newline-requires
 put_newline-requires c κs =
     let p = c.before.before.before in
     let s = start (word_put p) in
     let text = put_then (word_put p).put_word-p.ensures p.put_fields-q.ensures (omega arith) in
-    let room = put_room text newline (line_all_room s.args.word.now s.args.numbers.now s.args.at _ s.pre) in
+    let room = put_room text newline (line_all_room s.args.word.now s.args.numbers.now s.args.at _ s.requires) in
     omega arith
 
 shape_of-out : tie.Need-shape_of-out

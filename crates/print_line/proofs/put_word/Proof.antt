@@ -51,7 +51,7 @@ returns c =
     let a = c.before in
     let word = a.args.word.now in
     let e : a.loop-i.i ≡ length word = omega arith in
-    subst (λ (s : List ℕ). Put s a.args.at a.loop-i.p a.args.out.now a.loop-i.out-1) (ap (texts (byte_text word)) e ∙ texts_word word) a.loop-i.invariant.1
+    subst (λ (s : List ℕ). Put s a.args.at a.loop-i.p a.args.out.now a.loop-i.out) (ap (texts (byte_text word)) e ∙ texts_word word) a.loop-i.invariant.1
 
 pub put_word_spec : {M : Type 1} → statement M
 put_word_spec =

@@ -21,7 +21,7 @@ print_plan-requires : tie.Need-print_plan-requires
 print_plan-requires c κs =
     let a = start c.before in
     let e = c.first_byte-n.ensures in
-    (omega (arith, e, steps_few a.pre.0), subst (λ (n : ℕ). n * n ≤ length a.args.table.now) (sym e) (steps_room a.pre.0), search rules)
+    (omega (arith, e, steps_few a.requires.0), subst (λ (n : ℕ). n * n ≤ length a.args.table.now) (sym e) (steps_room a.requires.0), search rules)
 
 shape_of-out : tie.Need-shape_of-out
 shape_of-out c = search rules
@@ -31,7 +31,7 @@ returns c =
     let printed = c.before.before in
     let counted = printed.before.before in
     let a = start counted in
-    printed_as (ap (plan_text a.args.verdict a.args.count a.args.maps.now a.args.table.now) counted.first_byte-n.ensures ∙ plans_text a.pre.0) printed.print_plan.ensures
+    printed_as (ap (plan_text a.args.verdict a.args.count a.args.maps.now a.args.table.now) counted.first_byte-n.ensures ∙ plans_text a.requires.0) printed.print_plan.ensures
 
 pub print_accepted_spec : {M : Type 1} → statement M
 print_accepted_spec =

@@ -51,7 +51,7 @@ push-next-requires : tie.Need-push-next-requires invariant-loop-left decreases-l
 push-next-requires c κs =
     let p = picked c in
     let l = turn p in
-    completing_room _ _ _ l.loose_steps-left.ensures _ _ _ _ _ _ l.loop-left.inv _ p.lowest-v.ensures (start l).pre
+    completing_room _ _ _ l.loose_steps-left.ensures _ _ _ _ _ _ l.loop-left.invariant _ p.lowest-v.ensures (start l).requires
 
 without_lowest-left-requires : tie.Need-without_lowest-left-requires invariant-loop-left decreases-loop-left
 without_lowest-left-requires c κs = search rules
@@ -67,7 +67,7 @@ loop-left-preserved c =
     let k = picked p.before in
     let l = turn k in
     let low = k.lowest-v.ensures in
-    completing_more _ _ _ l.loose_steps-left.ensures _ _ _ _ _ _ l.loop-left.inv _ _ low (c.without_lowest-left.ensures _ low) _ _ _ p.sequencing_word-w.ensures p.push-next.ensures
+    completing_more _ _ _ l.loose_steps-left.ensures _ _ _ _ _ _ l.loop-left.invariant _ _ low (c.without_lowest-left.ensures _ low) _ _ _ p.sequencing_word-w.ensures p.push-next.ensures
 
 shape_of-words : tie.Need-shape_of-words invariant-loop-left decreases-loop-left
 shape_of-words c = search rules

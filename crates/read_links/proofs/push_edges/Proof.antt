@@ -62,7 +62,7 @@ returns c =
     let r = third u in
     let q = second r in
     let p = first q in
-    link_pushed _ _ _ _ _ _ _ _ _ (start p).pre.gap
+    link_pushed _ _ _ _ _ _ _ _ _ (start p).requires.gap
     (record {
       after = p.sequencing_word-after.ensures;
       least = q.minimum_word-least.ensures;

@@ -61,10 +61,10 @@ abbrev PairAnswered : Read → PairRead → Type 0
 PairAnswered s r =
     let l = turn s in
     let a = (start l).args in
-    PairReads a.part.now (l.loop-i.next + 3) a.n (link a.n l.loop-i.inv.1.previous (drop l.loop-i.next a.part.now)) r
+    PairReads a.part.now (l.loop-i.next + 3) a.n (link a.n l.loop-i.invariant.1.previous (drop l.loop-i.next a.part.now)) r
 
 pair_answered : (s : Read) → PairAnswered s s.read_link.result
-pair_answered s = let so = (turn s).loop-i.inv.1 in s.read_link.ensures so.previous so.ranked
+pair_answered s = let so = (turn s).loop-i.invariant.1 in s.read_link.ensures so.previous so.ranked
 
 pair_found : (s : Paired) → PairAnswered (read s) (Pair s.in-Pair.m-1 s.in-Pair.from s.in-Pair.to)
 pair_found s = subst (PairAnswered (read s)) s.in-Pair.is (pair_answered (read s))
@@ -75,7 +75,7 @@ LinkAnswered s r =
     let p = (paired s).m-1.given.0 in
     let l = turn (read (paired s)) in
     let a = (start l).args in
-    LinkReads p.0 p.1.0 p.1.1.0 (get_or a.digits.now s.byte_index-source.result 0) a.part.now (l.loop-i.next + 3) l.loop-i.words-1 s.push_link.last.1.1.1.0 l.loop-i.count r
+    LinkReads p.0 p.1.0 p.1.1.0 (get_or a.digits.now s.byte_index-source.result 0) a.part.now (l.loop-i.next + 3) l.loop-i.words s.push_link.new.words l.loop-i.count r
 
 loop-i-init : tie.Need-loop-i-init invariant-loop-i decreases-loop-i
 loop-i-init c = (refl, edged_none _ _ _ _ _)
@@ -92,12 +92,12 @@ byte_index-source-requires c κs = search rules
 offset_bounds-digits-source : tie.Need-offset_bounds-digits-source invariant-loop-i decreases-loop-i
 offset_bounds-digits-source c =
     let p = c.before.before in
-    omega (arith, c.byte_index-source.ensures.0, (pair_found p).inside.from, (start (turn (read p))).pre.steps)
+    omega (arith, c.byte_index-source.ensures.0, (pair_found p).inside.from, (start (turn (read p))).requires.steps)
 
 bounds-digits-source : tie.Need-bounds-digits-source invariant-loop-i decreases-loop-i
 bounds-digits-source c =
     let p = c.before.before in
-    omega (arith, c.byte_index-source.ensures.0, (pair_found p).inside.from, (start (turn (read p))).pre.steps)
+    omega (arith, c.byte_index-source.ensures.0, (pair_found p).inside.from, (start (turn (read p))).requires.steps)
 
 overflow_add-next : tie.Need-overflow_add-next invariant-loop-i decreases-loop-i
 overflow_add-next c = omega (arith, (pair_found c.before.before.before).inside.begins)
@@ -107,8 +107,8 @@ push_link-requires c κs =
     let p = c.before.before.before.before in
     let W = (pair_found p).inside in
     let l = turn (read p) in
-    let so = l.loop-i.inv in
-    let pre = (start l).pre in
+    let so = l.loop-i.invariant in
+    let pre = (start l).requires in
     record {
       begins = W.begins;
       room = record { room = omega (arith, so.0, so.1.few, pre.room); ends = (omega (arith, W.from, pre.steps), omega (arith, W.to, pre.steps)) };
@@ -123,7 +123,7 @@ rank-last-requires c κs = search rules
 with_entered-entered-requires : tie.Need-with_entered-entered-requires invariant-loop-i decreases-loop-i
 with_entered-entered-requires c κs =
     let p = paired (linked c.before.before.before.before) in
-    omega (arith, (pair_found p).inside.to, (start (turn (read p))).pre.steps)
+    omega (arith, (pair_found p).inside.to, (start (turn (read p))).requires.steps)
 
 overflow_add-i : tie.Need-overflow_add-i invariant-loop-i decreases-loop-i
 overflow_add-i c = search rules
@@ -140,7 +140,7 @@ loop-i-preserved c =
     let F = pair_found p in
     let T = subst (LinkAnswered s) taken.in-Item.is s.push_link.ensures in
     let source = s.byte_index-source.ensures.0 in
-    (T.pushed.long ∙ l.inv.0, edged_more _ _ _ _ l.i _ _ _ _ _ l.inv.1 _ _ _ _ _ F.same _ _ _ T (omega arith) source F.inside.from _ c.rank-last.ensures _ c.with_entered-entered.ensures)
+    (T.pushed.long ∙ l.invariant.0, edged_more _ _ _ _ l.i _ _ _ _ _ l.invariant.1 _ _ _ _ _ F.same _ _ _ T (omega arith) source F.inside.from _ c.rank-last.ensures _ c.with_entered-entered.ensures)
 
 enum_known-k : tie.Need-enum_known-k invariant-loop-i decreases-loop-i
 enum_known-k c = search rules
@@ -155,7 +155,7 @@ returns-in-Refused-push_link c =
     let p = paired s in
     let l = (turn (read p)).loop-i in
     let cut = subst (LinkAnswered s) c.in-Refused-push_link.is s.push_link.ensures in
-    answers_refused _ _ _ _ _ _ (links_refused _ _ _ (edged_refused _ _ _ _ l.i _ _ _ _ _ l.inv.1 (omega arith) _ (sym (pair_found p).same ∙ cut)))
+    answers_refused _ _ _ _ _ _ (links_refused _ _ _ (edged_refused _ _ _ _ l.i _ _ _ _ _ l.invariant.1 (omega arith) _ (sym (pair_found p).same ∙ cut)))
 
 enum_known-k-in-Refused-read_link : tie.Need-enum_known-k-in-Refused-read_link invariant-loop-i decreases-loop-i
 enum_known-k-in-Refused-read_link c = search rules
@@ -169,7 +169,7 @@ returns-in-Refused c =
     let s = c.before.before.before in
     let l = (turn s).loop-i in
     let item = subst (PairAnswered s) c.in-Refused.is (pair_answered s) in
-    answers_refused _ _ _ _ _ _ (links_refused _ _ _ (edged_refused _ _ _ _ l.i _ _ _ _ _ l.inv.1 (omega arith) _ (sym item.same)))
+    answers_refused _ _ _ _ _ _ (links_refused _ _ _ (edged_refused _ _ _ _ l.i _ _ _ _ _ l.invariant.1 (omega arith) _ (sym item.same)))
 
 shape_of-words-then-next-part : tie.Need-shape_of-words-then-next-part invariant-loop-i decreases-loop-i
 shape_of-words-then-next-part c = search rules
@@ -186,8 +186,8 @@ bounds-digits-0 c = search rules
 complete-all-requires : tie.Need-complete-all-requires invariant-loop-i decreases-loop-i
 complete-all-requires c κs =
     let l = ended c in
-    let so = l.loop-i.inv in
-    let pre = (start l).pre in
+    let so = l.loop-i.invariant in
+    let pre = (start l).requires in
     record { steps = pre.steps; room = omega (arith, so.0, so.1.few, so.1.within, pre.room) }
 
 shape_of-words : tie.Need-shape_of-words invariant-loop-i decreases-loop-i
@@ -197,7 +197,7 @@ returns : tie.Need-returns invariant-loop-i decreases-loop-i
 returns c =
     let s = c.before.before in
     let l = (ended s.before).loop-i in
-    answers_whole _ _ _ _ l.i _ _ _ _ _ l.inv.1 _ _ s.complete-all.ensures (omega arith) (links_whole _ _ _ l.next (edged_all _ _ _ _ l.i _ _ _ _ _ l.inv.1 (omega arith)) s.if-next-part.false)
+    answers_whole _ _ _ _ l.i _ _ _ _ _ l.invariant.1 _ _ s.complete-all.ensures (omega arith) (links_whole _ _ _ l.next (edged_all _ _ _ _ l.i _ _ _ _ _ l.invariant.1 (omega arith)) s.if-next-part.false)
 
 pub read_links_spec : {M : Type 1} → statement M
 read_links_spec =

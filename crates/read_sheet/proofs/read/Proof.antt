@@ -30,7 +30,7 @@ read_tail-tail-requires c κs =
     let row = s.read_operations-steps in
     record {
       inside = row_inside (start h).args.s.now head.at head.n row.last.1.1.1.0 row.last.1.1.1.1.0 row.result.unbounded row.result.place row.ensures;
-      fits = record { steps = heads.steps; room = omega (arith, heads.room, (start h).pre.room) };
+      fits = record { steps = heads.steps; room = omega (arith, heads.room, (start h).requires.room) };
     }
 
 shape_of-words : tie.Need-shape_of-words

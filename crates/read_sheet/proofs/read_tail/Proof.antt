@@ -62,7 +62,7 @@ returns-in-At c =
     let a = (start (whole s)).args in
     let bytes = a.s.now in
     let middle = s.in-At.middle in
-    let in_part : LinksReads (take (length bytes - middle) (drop middle bytes)) a.n a.r a.digits.now t.read_links.new.words-1 t.read_links.result = t.read_links.ensures in
+    let in_part : LinksReads (take (length bytes - middle) (drop middle bytes)) a.n a.r a.digits.now t.read_links.new.words t.read_links.result = t.read_links.ensures in
     rw ((whole s).in-Whole.is, s.in-At.is) (rw (part_rest bytes middle) at in_part)
 
 pub read_tail_spec : {M : Type 1} → statement M

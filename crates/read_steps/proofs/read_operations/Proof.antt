@@ -68,9 +68,9 @@ loop-i-preserved c =
     let l = (turn s).loop-i in
     let step = subst (Answered s) taken.in-Item.is s.Read-step.ensures in (
       step.inside,
-      length-set l.digits l.i _ ∙ l.inv.1,
-      leasts_long l.i _ l.leasts _ step.put ∙ l.inv.2,
-      stepping_more _ _ l.i _ l.digits l.leasts l.unbounded l.inv.3 _ _ _ _ _ step.same step.adds (omega arith) (omega (arith, l.inv.1)) (omega (arith, l.inv.2)) step.put c.insert_if-unbounded.ensures,
+      length-set l.digits l.i _ ∙ l.invariant.1,
+      leasts_long l.i _ l.leasts _ step.put ∙ l.invariant.2,
+      stepping_more _ _ l.i _ l.digits l.leasts l.unbounded l.invariant.3 _ _ _ _ _ step.same step.adds (omega arith) (omega (arith, l.invariant.1)) (omega (arith, l.invariant.2)) step.put c.insert_if-unbounded.ensures,
     )
 
 enum_known-k : tie.Need-enum_known-k invariant-loop-i decreases-loop-i
@@ -81,7 +81,7 @@ returns-in-Refused c =
     let s = c.before.before.before in
     let l = (turn s).loop-i in
     let refusal = subst (Answered s) c.in-Refused.is s.Read-step.ensures in
-    stepping_refused _ _ l.i _ l.digits l.leasts l.unbounded l.inv.3 (omega arith) _ refusal
+    stepping_refused _ _ l.i _ l.digits l.leasts l.unbounded l.invariant.3 (omega arith) _ refusal
 
 returns : tie.Need-returns invariant-loop-i decreases-loop-i
 returns c =

@@ -37,7 +37,7 @@ slice_bounds-row_due-start : tie.Need-slice_bounds-row_due-start
 slice_bounds-row_due-start c = search rules
 
 slice_bounds-row_due-end : tie.Need-slice_bounds-row_due-end
-slice_bounds-row_due-end c = let s = start c in row_inside s.args.n s.args.v _ s.pre.exists s.pre.long
+slice_bounds-row_due-end c = let s = start c in row_inside s.args.n s.args.v _ s.requires.exists s.requires.long
 
 row_due-requires : tie.Need-row_due-requires
 row_due-requires c κs = search rules

@@ -40,7 +40,7 @@ by_edge : (s : tie.After-delta-delta) → Delta (unpack (start s).args.w).gain (
 by_edge s = rw (← (gaining s).edge_gain-gain.ensures.0, ← (losing s).edge_loss-loss.ensures.0) s.delta-delta.ensures.0
 
 delta_fits : (s : tie.After-delta-delta) → SFits w32 s.delta-delta.result
-delta_fits s = sfits_of s.delta-delta.type_inv
+delta_fits s = sfits_of s.delta-delta.type-inv
 
 -- The row of the end is there to be raised.
 target : (s : tie.After-delta-delta) → ((ending s).edge_to-to.result < 64) × Liftable (ending s).edge_to-to.result (start s).args.width s.delta-delta.result (start s).args.row.now (start s).args.d.now

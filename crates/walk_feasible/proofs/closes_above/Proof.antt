@@ -54,13 +54,13 @@ edge_gain-gains-requires : tie.Need-edge_gain-gains-requires invariant-loop-k de
 edge_gain-gains-requires c κs = search rules
 
 overflow_add-gains : tie.Need-overflow_add-gains invariant-loop-k decreases-loop-k
-overflow_add-gains c = let t = turn c.before.before in omega (arith, t.loop-k.inv.light, t.loop-k.inv.inside, c.edge_gain-gains.ensures.1, t.before.before.pre.1)
+overflow_add-gains c = let t = turn c.before.before in omega (arith, t.loop-k.invariant.light, t.loop-k.invariant.inside, c.edge_gain-gains.ensures.1, t.requires.1)
 
 edge_loss-losses-requires : tie.Need-edge_loss-losses-requires invariant-loop-k decreases-loop-k
 edge_loss-losses-requires c κs = search rules
 
 overflow_add-losses : tie.Need-overflow_add-losses invariant-loop-k decreases-loop-k
-overflow_add-losses c = let t = turn c.before.before.before in omega (arith, t.loop-k.inv.small, t.loop-k.inv.inside, c.edge_loss-losses.ensures.1, t.before.before.pre.1)
+overflow_add-losses c = let t = turn c.before.before.before in omega (arith, t.loop-k.invariant.small, t.loop-k.invariant.inside, c.edge_loss-losses.ensures.1, t.requires.1)
 
 edge_from-v-requires : tie.Need-edge_from-v-requires invariant-loop-k decreases-loop-k
 edge_from-v-requires c κs = search rules

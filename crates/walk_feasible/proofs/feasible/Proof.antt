@@ -35,7 +35,7 @@ pass-marks-requires c κs =
     (p.few, record { listed = p.listed; room = searched_room _ _ _ (omega (arith, p.few)) t.loop-k.invariant; noted = t.loop-k.invariant.noted })
 
 returns-then-marks-eq0 : tie.Need-returns-then-marks-eq0 invariant-loop-k decreases-loop-k
-returns-then-marks-eq0 c = let s = c.before in let t = turn s in searched_rest _ _ (start t).pre.some (start t).pre.few t.loop-k.inv s.pass-marks.ensures (omega arith)
+returns-then-marks-eq0 c = let s = c.before in let t = turn s in searched_rest _ _ (start t).requires.some (start t).requires.few t.loop-k.invariant s.pass-marks.ensures (omega arith)
 
 lowest-x-requires : tie.Need-lowest-x-requires invariant-loop-k decreases-loop-k
 lowest-x-requires c κs = omega arith
@@ -44,10 +44,10 @@ far_back-y-requires : tie.Need-far_back-y-requires invariant-loop-k decreases-lo
 far_back-y-requires c κs = c.lowest-x.ensures.below-marks
 
 closes_above-requires : tie.Need-closes_above-requires invariant-loop-k decreases-loop-k
-closes_above-requires c κs = let s = c.before in (s.far_back-y.ensures, (start (turn (passed s))).pre.few)
+closes_above-requires c κs = let s = c.before in (s.far_back-y.ensures, (start (turn (passed s))).requires.few)
 
 returns-then-closes_above : tie.Need-returns-then-closes_above invariant-loop-k decreases-loop-k
-returns-then-closes_above c = circle_found _ _ (start (turn (passed c.before.before.before))).pre.some (c.closes_above.ensures c.if-closes_above.true)
+returns-then-closes_above c = circle_found _ _ (start (turn (passed c.before.before.before))).requires.some (c.closes_above.ensures c.if-closes_above.true)
 
 overflow_add-k : tie.Need-overflow_add-k invariant-loop-k decreases-loop-k
 overflow_add-k c = search rules
@@ -61,7 +61,7 @@ loop-k-preserved c =
     let x = back.lowest-x.ensures in
     let s = passed back in
     let t = turn s in
-    searched_more _ _ (start t).pre.some (start t).pre.few t.loop-k.inv s.pass-marks.ensures _ x.below-marks x.member s.loop-k-test.taken
+    searched_more _ _ (start t).requires.some (start t).requires.few t.loop-k.invariant s.pass-marks.ensures _ x.below-marks x.member s.loop-k-test.true
 
 returns : tie.Need-returns invariant-loop-k decreases-loop-k
 returns c = let t = c.before in searched_spent _ _ (start t).requires.some (start t).requires.few t.loop-k.invariant (omega arith)

@@ -29,7 +29,7 @@ highest-last-requires c κs = omega arith
 pass_step-m-requires : tie.Need-pass_step-m-requires invariant-loop-left decreases-loop-left
 pass_step-m-requires c κs =
     let h = c.before.before in
-    let p = (start (turn h)).pre in
+    let p = (start (turn h)).requires in
     let F = (turn h).loop-left.invariant in
     (h.highest-last.ensures.below, record { listed = p.listed; room = falling_room _ _ _ _ _ _ _ F _ h.highest-last.ensures p.room; noted = F.passed.noted })
 

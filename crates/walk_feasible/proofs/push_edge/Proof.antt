@@ -40,10 +40,10 @@ own_fits : (s : tie.After-delta-by) → SFits w32 (start s).args.own
 own_fits s = (start s).ranges.own
 
 by_fits : (s : tie.After-delta-by) → SFits w32 s.delta-by.result
-by_fits s = sfits_of s.delta-by.type_inv
+by_fits s = sfits_of s.delta-by.type-inv
 
 moved_fits : (s : tie.After-moved-c) → SFits w32 s.moved-c.result
-moved_fits s = sfits_of s.moved-c.type_inv
+moved_fits s = sfits_of s.moved-c.type-inv
 
 old_fits : (s : tie.After-is_less) → SFits w32 (old (came s))
 old_fits s = sfits_of s.is_less-arg-1.given
@@ -110,7 +110,7 @@ returns-then-is_less c =
     let s = entry m in
     let a = s.args in
     let to = (ending m).edge_to-to.ensures in
-    word_stored (unpack a.w) a.row.now a.via.now a.marks (height a.own) (moved m) s.pre.long s.pre.noted to.0 (weighs m)
+    word_stored (unpack a.w) a.row.now a.via.now a.marks (height a.own) (moved m) s.requires.long s.requires.noted to.0 (weighs m)
     _ _ to.1 (above l c.if-is_less.true) c.insert.ensures
 
 returns : tie.Need-returns
@@ -119,7 +119,7 @@ returns c =
     let m = came l in
     let s = entry m in
     let a = s.args in
-    word_kept (unpack a.w) a.row.now a.via.now a.marks (height a.own) (moved m) s.pre.long s.pre.noted (ending m).edge_to-to.ensures.0 (weighs m)
+    word_kept (unpack a.w) a.row.now a.via.now a.marks (height a.own) (moved m) s.requires.long s.requires.noted (ending m).edge_to-to.ensures.0 (weighs m)
     (below l c.if-is_less.false)
 
 pub push_edge_spec : {M : Type 1} → statement M

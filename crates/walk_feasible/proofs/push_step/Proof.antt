@@ -80,22 +80,22 @@ push_edge-m-requires c κs =
     record { long = h.long; noted = h.noted; movable = back_has Movable (own_fits (turn i).before) (room_movable p.1.room _) }
 
 overflow_add-next : tie.Need-overflow_add-next invariant-loop-next decreases-loop-next
-overflow_add-next c = let i = indexed c in omega (arith, (turn i).loop-next.inv.few, i.index-k.ensures, (entry i).pre.1.listed.few)
+overflow_add-next c = let i = indexed c in omega (arith, (turn i).loop-next.invariant.few, i.index-k.ensures, (entry i).requires.1.listed.few)
 
 offset_bounds-lists-k : tie.Need-offset_bounds-lists-k invariant-loop-next decreases-loop-next
-offset_bounds-lists-k c = let i = indexed c in omega (arith, (turn i).loop-next.inv.few, i.index-k.ensures, (entry i).pre.1.listed.few)
+offset_bounds-lists-k c = let i = indexed c in omega (arith, (turn i).loop-next.invariant.few, i.index-k.ensures, (entry i).requires.1.listed.few)
 
 bounds-lists-k : tie.Need-bounds-lists-k invariant-loop-next decreases-loop-next
-bounds-lists-k c = let i = indexed c.before in omega (arith, (turn i).loop-next.inv.few, i.index-k.ensures, (entry i).pre.1.listed.long)
+bounds-lists-k c = let i = indexed c.before in omega (arith, (turn i).loop-next.invariant.few, i.index-k.ensures, (entry i).requires.1.listed.long)
 
 loop-next-smaller : tie.Need-loop-next-smaller invariant-loop-next decreases-loop-next
-loop-next-smaller c = let i = indexed c.before in following_less (some i) (following i) (turn i).loop-next.inv
+loop-next-smaller c = let i = indexed c.before in following_less (some i) (following i) (turn i).loop-next.invariant
 
 loop-next-preserved : tie.Need-loop-next-preserved invariant-loop-next decreases-loop-next
 loop-next-preserved c =
     let i = indexed c.before in
     let own = height_back (own_fits (turn i).before) in
-    following_turn (some i) (following i) (pushed_more (pushed_at (entry i).args.es.now i.index-k.ensures own c.push_edge-m.ensures)) (turn i).loop-next.inv
+    following_turn (some i) (following i) (pushed_more (pushed_at (entry i).args.es.now i.index-k.ensures own c.push_edge-m.ensures)) (turn i).loop-next.invariant
 
 returns : tie.Need-returns invariant-loop-next decreases-loop-next
 returns c = following_end (omega arith) pushed_as c.loop-next.invariant

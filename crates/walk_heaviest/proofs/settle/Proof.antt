@@ -35,7 +35,7 @@ returns-then-not-possible c =
     record {
       square = f.sweep_first-marks.ensures.swept.square;
       settled = λ q. absurd (both_ways q refl);
-      told = λ shape rooted rest. sym (not-true _ c.if-not-possible.true) ∙ c.possible.ensures shape rooted (rest f.sweep_first-marks.new.d-1 f.sweep_first-marks.result f.sweep_first-marks.ensures);
+      told = λ shape rooted rest. sym (not-true _ c.if-not-possible.true) ∙ c.possible.ensures shape rooted (rest f.sweep_first-marks.new.d f.sweep_first-marks.result f.sweep_first-marks.ensures);
     }
 
 sweep_on-requires : tie.Need-sweep_on-requires
@@ -51,11 +51,11 @@ returns c =
     let s = start f in
     let a = s.args in
     let first = f.sweep_first-marks.ensures in
-    let settled = c.sweep_on.ensures _ (settling_opened a.es.now (leasts_in a.leasts.now) a.waiting.now a.number.now a.width a.n a.d-1.now s.pre.network.linked.square first) in
+    let settled = c.sweep_on.ensures _ (settling_opened a.es.now (leasts_in a.leasts.now) a.waiting.now a.number.now a.width a.n a.d-1.now s.requires.network.linked.square first) in
     record {
       square = settled.square;
       settled = λ q. settled;
-      told = λ shape rooted rest. sym (not-false _ tested.if-not-possible.false) ∙ tested.possible.ensures shape rooted (rest f.sweep_first-marks.new.d-1 f.sweep_first-marks.result first);
+      told = λ shape rooted rest. sym (not-false _ tested.if-not-possible.false) ∙ tested.possible.ensures shape rooted (rest f.sweep_first-marks.new.d f.sweep_first-marks.result first);
     }
 
 pub settle_spec : {M : Type 1} → statement M

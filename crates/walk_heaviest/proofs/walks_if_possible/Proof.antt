@@ -40,7 +40,7 @@ told w shape rooted gains leasts sources =
     let s = start t in
     let a = s.args in
     w.settle.ensures.told shape rooted
-    (λ d₁ m opened. rest_stable a.es.now (leasts_in a.leasts.now) a.maps.now t.transpose.last.1.1.0 a.sets.now a.n s.pre.given.some s.pre.given.few t.transpose.ensures shape gains leasts sources sown.seed-width.ensures opened rooted)
+    (λ d₁ m opened. rest_stable a.es.now (leasts_in a.leasts.now) a.maps.now t.transpose.new.out a.sets.now a.n s.requires.given.some s.requires.given.few t.transpose.ensures shape gains leasts sources sown.seed-width.ensures opened rooted)
 
 transpose-requires : tie.Need-transpose-requires
 transpose-requires c κs = search rules
@@ -53,9 +53,9 @@ settle-requires c κs =
     let seeded = c.before.before.before.before in
     let t = turned seeded in
     let s = start t in
-    let p = s.pre in
+    let p = s.requires in
     let S = seeded.seed-width.ensures.square in
-    let within = turned_within s.args.maps.now t.transpose.last.1.1.0 s.args.n t.transpose.ensures in
+    let within = turned_within s.args.maps.now t.transpose.new.out s.args.n t.transpose.ensures in
     record {
       some = p.given.some;
       few = p.given.few;
@@ -83,7 +83,7 @@ returns c =
     record {
       square = square_then sown.seed-width.ensures.square w.settle.ensures.square;
       cells = λ q within leasts well posed gains x inside support v b member.
-          walks_found a.es.now (leasts_in a.leasts.now) a.maps.now t.transpose.last.1.1.0 a.sets.now a.n s.pre.given.few within t.transpose.ensures well posed gains leasts
+          walks_found a.es.now (leasts_in a.leasts.now) a.maps.now t.transpose.new.out a.sets.now a.n s.requires.given.few within t.transpose.ensures well posed gains leasts
           sown.seed-width.ensures (w.settle.ensures.settled q) x inside support v b member;
       told = told w;
       first = λ v b h. omega (arith, sown.seed-width.ensures.low v 0 b (omega arith) h);

@@ -43,16 +43,16 @@ turn_3 s = turn_2 s.before.before.before
 abbrev turn_4 : tie.After-d-in-loop-k-3-1 invariant-loop-k decreases-loop-k → tie.In-loop-k invariant-loop-k decreases-loop-k
 turn_4 s = turn_3 s.before.before.before
 
-lifts : (s : tie.After-d-1 invariant-loop-k decreases-loop-k) → Lifts (turn s).before ((turn s).loop-k.k + 1) s.lift_cell.new.d-1
+lifts : (s : tie.After-d-1 invariant-loop-k decreases-loop-k) → Lifts (turn s).before ((turn s).loop-k.k + 1) s.lift_cell.new.d
 lifts s = lifted_turn _ (omega arith) (turn s).loop-k.invariant.2 s.lift_cell.ensures.0
 
-lifts_2 : (s : tie.After-d-in-loop-k-1 invariant-loop-k decreases-loop-k) → Lifts (turn_2 s).before ((turn_2 s).loop-k.k + 2) s.lift_cell-in-loop-k.new.d-1
+lifts_2 : (s : tie.After-d-in-loop-k-1 invariant-loop-k decreases-loop-k) → Lifts (turn_2 s).before ((turn_2 s).loop-k.k + 2) s.lift_cell-in-loop-k.new.d
 lifts_2 s = lifted_turn _ (omega arith) (lifts s.before.before.before) s.lift_cell-in-loop-k.ensures.0
 
-lifts_3 : (s : tie.After-d-in-loop-k-2-1 invariant-loop-k decreases-loop-k) → Lifts (turn_3 s).before ((turn_3 s).loop-k.k + 3) s.lift_cell-in-loop-k-2.new.d-1
+lifts_3 : (s : tie.After-d-in-loop-k-2-1 invariant-loop-k decreases-loop-k) → Lifts (turn_3 s).before ((turn_3 s).loop-k.k + 3) s.lift_cell-in-loop-k-2.new.d
 lifts_3 s = lifted_turn _ (omega arith) (lifts_2 s.before.before.before) s.lift_cell-in-loop-k-2.ensures.0
 
-lifts_4 : (s : tie.After-d-in-loop-k-3-1 invariant-loop-k decreases-loop-k) → Lifts (turn_4 s).before ((turn_4 s).loop-k.k + 4) s.lift_cell-in-loop-k-3.new.d-1
+lifts_4 : (s : tie.After-d-in-loop-k-3-1 invariant-loop-k decreases-loop-k) → Lifts (turn_4 s).before ((turn_4 s).loop-k.k + 4) s.lift_cell-in-loop-k-3.new.d
 lifts_4 s = lifted_turn _ (omega arith) (lifts_3 s.before.before.before) s.lift_cell-in-loop-k-3.ensures.0
 
 loop-k-init : tie.Need-loop-k-init invariant-loop-k decreases-loop-k
@@ -86,7 +86,7 @@ loop-k-smaller : tie.Need-loop-k-smaller invariant-loop-k decreases-loop-k
 loop-k-smaller c = search rules
 
 loop-k-preserved : tie.Need-loop-k-preserved invariant-loop-k decreases-loop-k
-loop-k-preserved c = let s = turn_4 c in (four s, omega (arith, s.loop-k.inv.1), lifts_4 c)
+loop-k-preserved c = let s = turn_4 c in (four s, omega (arith, s.loop-k.invariant.1), lifts_4 c)
 
 shape_of-d : tie.Need-shape_of-d invariant-loop-k decreases-loop-k
 shape_of-d c = c.loop-k.invariant.2.square.rows

@@ -44,16 +44,16 @@ turn_3 s = turn_2 s.before.before.before
 abbrev turn_4 : tie.After-d-in-loop-k-3-1 invariant-loop-k decreases-loop-k → tie.In-loop-k invariant-loop-k decreases-loop-k
 turn_4 s = turn_3 s.before.before.before
 
-lifts : (s : tie.After-d-1 invariant-loop-k decreases-loop-k) → Lifts (turn s).before ((turn s).loop-k.k + 1) s.lift_cell-g0.new.d-1
+lifts : (s : tie.After-d-1 invariant-loop-k decreases-loop-k) → Lifts (turn s).before ((turn s).loop-k.k + 1) s.lift_cell-g0.new.d
 lifts s = lifted_turn _ (omega arith) (turn s).loop-k.invariant.2 s.lift_cell-g0.ensures.0
 
-lifts_2 : (s : tie.After-d-in-loop-k-1 invariant-loop-k decreases-loop-k) → Lifts (turn_2 s).before ((turn_2 s).loop-k.k + 2) s.lift_cell-g1.new.d-1
+lifts_2 : (s : tie.After-d-in-loop-k-1 invariant-loop-k decreases-loop-k) → Lifts (turn_2 s).before ((turn_2 s).loop-k.k + 2) s.lift_cell-g1.new.d
 lifts_2 s = lifted_turn _ (omega arith) (lifts s.before.before.before) s.lift_cell-g1.ensures.0
 
-lifts_3 : (s : tie.After-d-in-loop-k-2-1 invariant-loop-k decreases-loop-k) → Lifts (turn_3 s).before ((turn_3 s).loop-k.k + 3) s.lift_cell-g2.new.d-1
+lifts_3 : (s : tie.After-d-in-loop-k-2-1 invariant-loop-k decreases-loop-k) → Lifts (turn_3 s).before ((turn_3 s).loop-k.k + 3) s.lift_cell-g2.new.d
 lifts_3 s = lifted_turn _ (omega arith) (lifts_2 s.before.before.before) s.lift_cell-g2.ensures.0
 
-lifts_4 : (s : tie.After-d-in-loop-k-3-1 invariant-loop-k decreases-loop-k) → Lifts (turn_4 s).before ((turn_4 s).loop-k.k + 4) s.lift_cell-g3.new.d-1
+lifts_4 : (s : tie.After-d-in-loop-k-3-1 invariant-loop-k decreases-loop-k) → Lifts (turn_4 s).before ((turn_4 s).loop-k.k + 4) s.lift_cell-g3.new.d
 lifts_4 s = lifted_turn _ (omega arith) (lifts_3 s.before.before.before) s.lift_cell-g3.ensures.0
 
 loop-k-init : tie.Need-loop-k-init invariant-loop-k decreases-loop-k
@@ -94,14 +94,14 @@ loop-k-preserved c =
     let s = turn first in
     let b = s.loop-k in (
       four s,
-      omega (arith, b.inv.1),
+      omega (arith, b.invariant.1),
       lifts_4 c,
       λ z₀ z₁ z₂ z₃ j.
-          let p₀ = none_noted b.g0 (sfits_of first.lift_cell-g0.type_inv) first.lift_cell-g0.ensures.1 z₀ in
-          let p₁ = none_noted b.g1 (sfits_of second.lift_cell-g1.type_inv) second.lift_cell-g1.ensures.1 z₁ in
-          let p₂ = none_noted b.g2 (sfits_of third.lift_cell-g2.type_inv) third.lift_cell-g2.ensures.1 z₂ in
-          let p₃ = none_noted b.g3 (sfits_of c.lift_cell-g3.type_inv) c.lift_cell-g3.ensures.1 z₃ in
-          p₃.1 j ∙ p₂.1 j ∙ p₁.1 j ∙ p₀.1 j ∙ b.inv.3 p₀.0 p₁.0 p₂.0 p₃.0 j,
+          let p₀ = none_noted b.g0 (sfits_of first.lift_cell-g0.type-inv) first.lift_cell-g0.ensures.1 z₀ in
+          let p₁ = none_noted b.g1 (sfits_of second.lift_cell-g1.type-inv) second.lift_cell-g1.ensures.1 z₁ in
+          let p₂ = none_noted b.g2 (sfits_of third.lift_cell-g2.type-inv) third.lift_cell-g2.ensures.1 z₂ in
+          let p₃ = none_noted b.g3 (sfits_of c.lift_cell-g3.type-inv) c.lift_cell-g3.ensures.1 z₃ in
+          p₃.1 j ∙ p₂.1 j ∙ p₁.1 j ∙ p₀.1 j ∙ b.invariant.3 p₀.0 p₁.0 p₂.0 p₃.0 j,
     )
 
 shape_of-d : tie.Need-shape_of-d invariant-loop-k decreases-loop-k

@@ -37,7 +37,7 @@ returns c =
     let m = numbered r in
     let s = start m in
     let all = m.all_members-all in
-    prepared s.args.sets.now s.args.n all.result s.pre.bare all.ensures m.number_members-width.ensures r.seed_rows.ensures c.seed_edges.ensures
+    prepared s.args.sets.now s.args.n all.result s.requires.bare all.ensures m.number_members-width.ensures r.seed_rows.ensures c.seed_edges.ensures
 
 pub seed_spec : {M : Type 1} → statement M
 seed_spec =

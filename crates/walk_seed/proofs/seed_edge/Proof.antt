@@ -73,7 +73,7 @@ returns c =
     let o = to.before.before in
     let s = start o in
     let from = (leaving o).edge_from-from.ensures in
-    let fits : SFits w32 o.of_edge-c.result = sfits_of o.of_edge-c.type_inv in
+    let fits : SFits w32 o.of_edge-c.result = sfits_of o.of_edge-c.type-inv in
     begun_edge
     s.args.number.now
     (unpack s.args.w)
@@ -81,10 +81,10 @@ returns c =
     k.result
     o.of_edge-c.result
     s.args.d.now
-    c.raise.new.d-1
+    c.raise.new.d
     to.edge_to.ensures.0
-    s.pre.placed.light
-    s.pre.counts
+    s.requires.placed.light
+    s.requires.counts
     (λ z. o.if-from-eq0.false (from.0 ∙ z))
     (omega (arith, from.0, from.1))
     (omega (arith, k.ensures.0, ap (λ (x : ℕ). get_or s.args.number.now x 0) from.0, o.if-k-ge64.false))

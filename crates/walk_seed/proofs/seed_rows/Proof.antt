@@ -45,7 +45,7 @@ returns c =
     let s = c.before in
     let args = s.args in
     let e : s.loop-v.v ≡ args.n = omega arith in
-    subst (λ (x : ℕ). Seeded (leasts_in args.leasts.now) args.number.now (Below args.sets.now x) args.d.now s.loop-v.d-1) e s.loop-v.invariant.1
+    subst (λ (x : ℕ). Seeded (leasts_in args.leasts.now) args.number.now (Below args.sets.now x) args.d.now s.loop-v.d) e s.loop-v.invariant.1
 
 pub seed_rows_spec : {M : Type 1} → statement M
 seed_rows_spec =

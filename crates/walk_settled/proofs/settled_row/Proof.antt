@@ -49,7 +49,7 @@ returns-then-not-handed_wait : tie.Need-returns-then-not-handed_wait invariant-l
 returns-then-not-handed_wait c =
     let s = c.before.before.before.before.before in
     let low = c.lowest-a in
-    sym (s.loop-left.invariant ∙ members_fail (waited (said s.args.d.now) s.args.leasts.now s.args.i) s.loop-left.left low.result low.ensures.below low.ensures.member (sym c.handed_wait.ensures ∙ not-true _ c.if-not-handed_wait.true))
+    sym (s.loop-left.invariant ∙ members_fail (waited (said s.args.d.now) s.args.leasts.now s.args.i) s.loop-left.false low.result low.ensures.below low.ensures.member (sym c.handed_wait.ensures ∙ not-true _ c.if-not-handed_wait.true))
 
 without_lowest-left-requires : tie.Need-without_lowest-left-requires invariant-loop-left decreases-loop-left
 without_lowest-left-requires c κs = omega arith
@@ -62,11 +62,11 @@ loop-left-preserved c =
     let s = c.before.before.before.before.before.before in
     let low = c.lowest-a in
     s.loop-left.invariant
-    ∙ members_less (waited (said s.args.d.now) s.args.leasts.now s.args.i) s.loop-left.left c.without_lowest-left.result low.result
+    ∙ members_less (waited (said s.args.d.now) s.args.leasts.now s.args.i) s.loop-left.false c.without_lowest-left.result low.result
     (sym c.handed_wait.ensures ∙ not-false _ c.if-not-handed_wait.false) (c.without_lowest-left.ensures _ low.ensures)
 
 returns : tie.Need-returns invariant-loop-left decreases-loop-left
-returns c = let s = c.before in sym (s.loop-left.invariant ∙ members_none (waited (said s.args.d.now) s.args.leasts.now s.args.i) s.loop-left.left (omega arith))
+returns c = let s = c.before in sym (s.loop-left.invariant ∙ members_none (waited (said s.args.d.now) s.args.leasts.now s.args.i) s.loop-left.false (omega arith))
 
 pub settled_row_spec : {M : Type 1} → statement M
 settled_row_spec =

@@ -73,7 +73,7 @@ push_waits-requires c κs =
     let t = taken p in
     let s = start t in
     let S = p.push_row-left.ensures.square in
-    record { few = (extent t).extent-own.ensures.0.fits; inside = λ i h. omega (arith, s.pre.network.waits s.args.u i h, S.rows); square = square_own S; movable = t.take-top.ensures.ready.movable }
+    record { few = (extent t).extent-own.ensures.0.fits; inside = λ i h. omega (arith, s.requires.network.waits s.args.u i h, S.rows); square = square_own S; movable = t.take-top.ensures.ready.movable }
 
 shape_of-d : tie.Need-shape_of-d
 shape_of-d c = search rules

@@ -34,7 +34,7 @@ some : (s : tie.After-push_word-left invariant-loop-k decreases-loop-k) → 1 �
 some s = omega arith
 
 next : (s : tie.After-index-k-in-loop-k invariant-loop-k decreases-loop-k) → s.index-k-in-loop-k.result ≡ last_from (entry (turn (pushed s))).args.es.now (entry (turn (pushed s))).args.u ((turn (pushed s)).loop-k.k - 1)
-next s = let t = turn (pushed s) in following_next (entry t).pre.linked.listed (some (pushed s)) t.loop-k.inv s.index-k-in-loop-k.ensures
+next s = let t = turn (pushed s) in following_next (entry t).requires.linked.listed (some (pushed s)) t.loop-k.invariant s.index-k-in-loop-k.ensures
 
 offset_bounds-lists-u : tie.Need-offset_bounds-lists-u invariant-loop-k decreases-loop-k
 offset_bounds-lists-u c = omega (arith, c.requires.below)
@@ -69,22 +69,22 @@ push_word-left-requires c κs =
     }
 
 overflow_add-k : tie.Need-overflow_add-k invariant-loop-k decreases-loop-k
-overflow_add-k c = let t = turn c.before in omega (arith, t.loop-k.inv.few, (entry t).pre.linked.listed.few)
+overflow_add-k c = let t = turn c.before in omega (arith, t.loop-k.invariant.few, (entry t).requires.linked.listed.few)
 
 offset_bounds-lists-k : tie.Need-offset_bounds-lists-k invariant-loop-k decreases-loop-k
-offset_bounds-lists-k c = let t = turn c.before in omega (arith, t.loop-k.inv.few, (entry t).pre.linked.listed.few)
+offset_bounds-lists-k c = let t = turn c.before in omega (arith, t.loop-k.invariant.few, (entry t).requires.linked.listed.few)
 
 bounds-lists-k : tie.Need-bounds-lists-k invariant-loop-k decreases-loop-k
-bounds-lists-k c = let t = turn c.before.before in omega (arith, t.loop-k.inv.few, (entry t).pre.linked.listed.long)
+bounds-lists-k c = let t = turn c.before.before in omega (arith, t.loop-k.invariant.few, (entry t).requires.linked.listed.long)
 
 index-k-requires-in-loop-k : tie.Need-index-k-requires-in-loop-k invariant-loop-k decreases-loop-k
 index-k-requires-in-loop-k c κs = search rules
 
 loop-k-smaller : tie.Need-loop-k-smaller invariant-loop-k decreases-loop-k
-loop-k-smaller c = let s = pushed c in following_less (some s) (next c) (turn s).loop-k.inv
+loop-k-smaller c = let s = pushed c in following_less (some s) (next c) (turn s).loop-k.invariant
 
 loop-k-preserved : tie.Need-loop-k-preserved invariant-loop-k decreases-loop-k
-loop-k-preserved c = let s = pushed c in following_turn (some s) (next c) (listed_more s.push_word-left.ensures) (turn s).loop-k.inv
+loop-k-preserved c = let s = pushed c in following_turn (some s) (next c) (listed_more s.push_word-left.ensures) (turn s).loop-k.invariant
 
 shape_of-d : tie.Need-shape_of-d invariant-loop-k decreases-loop-k
 shape_of-d c = c.loop-k.invariant.been.square.rows

@@ -39,7 +39,7 @@ abbrev Hands : tie.After-without_lowest-todo invariant-loop-todo decreases-loop-
 Hands s u number =
     let t = turn s in
     let raised = s.raise_by-left in
-    HandedAll (λ a. UsableFrom (Only (wait s u)) a) number u (lent t.args.row.now t.args.width) t.loop-todo.d-1 raised.new.0 t.loop-todo.left raised.result
+    HandedAll (λ a. UsableFrom (Only (wait s u)) a) number u (lent t.args.row.now t.args.width) t.loop-todo.d raised.new.0 t.loop-todo.false raised.result
 
 handed : (s : tie.After-without_lowest-todo invariant-loop-todo decreases-loop-todo) (u : ℕ) (number : List ℕ) → Hands s u number
 handed s u number =
@@ -77,7 +77,7 @@ loop-todo-preserved c =
     let s = turn c in
     let low = (lowest c).lowest-i.ensures in
     let less = c.without_lowest-todo.ensures _ low in
-    (left_within _ _ _ _ s.loop-todo.inv.0 less, λ u number. told_turn _ _ _ _ _ _ _ _ _ _ _ _ _ _ s.loop-todo.inv.0 low.member less (s.loop-todo.inv.1 u number) (handed c u number))
+    (left_within _ _ _ _ s.loop-todo.invariant.0 less, λ u number. told_turn _ _ _ _ _ _ _ _ _ _ _ _ _ _ s.loop-todo.invariant.0 low.member less (s.loop-todo.invariant.1 u number) (handed c u number))
 
 shape_of-d : tie.Need-shape_of-d invariant-loop-todo decreases-loop-todo
 shape_of-d c = (c.loop-todo.invariant.1 0 []).square.rows

@@ -73,7 +73,7 @@ loop-k-preserved : tie.Need-loop-k-preserved invariant-loop-k decreases-loop-k
 loop-k-preserved c =
     let v = visited c in
     let t = turn v in
-    (omega arith, swept_down _ _ _ _ v.next_step-u.ensures.1 (omega arith) t.loop-k.inv.0 t.loop-k.inv.1 v.hand_on-left.ensures.0, v.hand_on-left.ensures.1)
+    (omega arith, swept_down _ _ _ _ v.next_step-u.ensures.1 (omega arith) t.loop-k.invariant.0 t.loop-k.invariant.1 v.hand_on-left.ensures.0, v.hand_on-left.ensures.1)
 
 shape_of-d : tie.Need-shape_of-d invariant-loop-k decreases-loop-k
 shape_of-d c = c.loop-k.invariant.1.square.rows

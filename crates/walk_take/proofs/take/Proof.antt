@@ -93,14 +93,14 @@ loop-k-preserved c =
     let s = turn first in
     let b = s.loop-k in (
       four s,
-      omega (arith, b.inv.1),
+      omega (arith, b.invariant.1),
       copied_4 c,
       λ most l₀ l₁ l₂ l₃.
           let a₀ = or_above b.t0 first.copy_cell-t0.result in
           let a₁ = or_above b.t1 second.copy_cell-t1.result in
           let a₂ = or_above b.t2 third.copy_cell-t2.result in
           let a₃ = or_above b.t3 c.copy_cell-t3.result in
-          let b₀ = bound_turn (b.k + 1) (omega arith) first.copy_cell-t0.ensures most (omega arith) (b.inv.3 most (omega arith) (omega arith) (omega arith) (omega arith)) in
+          let b₀ = bound_turn (b.k + 1) (omega arith) first.copy_cell-t0.ensures most (omega arith) (b.invariant.3 most (omega arith) (omega arith) (omega arith) (omega arith)) in
           let b₁ = bound_turn (b.k + 2) (omega arith) second.copy_cell-t1.ensures most (omega arith) b₀ in
           let b₂ = bound_turn (b.k + 3) (omega arith) third.copy_cell-t2.ensures most (omega arith) b₁ in
           bound_turn _ (omega arith) c.copy_cell-t3.ensures most (omega arith) b₂,

@@ -33,7 +33,7 @@ long : (s : tie.Start invariant-loop-i decreases-loop-i) → length s.args.t1 �
 long s = s.well_formed.0.1.0.1
 
 inside : (k : tie.After-index-k invariant-loop-i decreases-loop-i) → k.index-k.result < 512
-inside k = omega (arith, k.index-k.ensures, (start (head k)).pre.ordered.inside (head k).loop-i.i k.loop-i-test.true)
+inside k = omega (arith, k.index-k.ensures, (start (head k)).requires.ordered.inside (head k).loop-i.i k.loop-i-test.true)
 
 -- The texts of the records with r numbers are what is to be put, and there is room for these.
 listed : (s : tie.Start invariant-loop-i decreases-loop-i) → texts (link_text s.args.t1 s.args.order.now) s.args.r ≡ links_text s.args.t1 s.args.order.now s.args.r
@@ -46,19 +46,19 @@ loop-i-init : tie.Need-loop-i-init invariant-loop-i decreases-loop-i
 loop-i-init c = (omega arith, unfold texts in put_none _ _)
 
 offset_bounds-order-i : tie.Need-offset_bounds-order-i invariant-loop-i decreases-loop-i
-offset_bounds-order-i c = omega (arith, (start c.before).pre.ordered.long)
+offset_bounds-order-i c = omega (arith, (start c.before).requires.ordered.long)
 
 bounds-order-i : tie.Need-bounds-order-i invariant-loop-i decreases-loop-i
-bounds-order-i c = omega (arith, (start c.before.before).pre.ordered.long)
+bounds-order-i c = omega (arith, (start c.before.before).requires.ordered.long)
 
 index-k-requires : tie.Need-index-k-requires invariant-loop-i decreases-loop-i
 index-k-requires c κs = search rules
 
 offset_bounds-links-k : tie.Need-offset_bounds-links-k invariant-loop-i decreases-loop-i
-offset_bounds-links-k c = omega (arith, inside c, (start (head c)).pre.few)
+offset_bounds-links-k c = omega (arith, inside c, (start (head c)).requires.few)
 
 bounds-links-k : tie.Need-bounds-links-k invariant-loop-i decreases-loop-i
-bounds-links-k c = omega (arith, inside c, (start (head c)).pre.few)
+bounds-links-k c = omega (arith, inside c, (start (head c)).requires.few)
 
 put_link-p-requires : tie.Need-put_link-p-requires invariant-loop-i decreases-loop-i
 put_link-p-requires c κs =
@@ -68,9 +68,9 @@ put_link-p-requires c κs =
     let t = s.args.t1 in
     let order = s.args.order.now in
     subst
-    (λ (r : Link). l.loop-i.p + length (link_bytes r) ≤ length l.loop-i.out-1)
+    (λ (r : Link). l.loop-i.p + length (link_bytes r) ≤ length l.loop-i.out)
     (ap (λ (x : ℕ). get_or t x blank_link) (sym k.index-k.ensures) ∙ inside_same t k.index-k.result blank_link _ (omega (arith, long s, inside k)))
-    (next_room (link_text t order) s.args.r l.loop-i.i l.loop-i.inv.1 (omega arith) (room s))
+    (next_room (link_text t order) s.args.r l.loop-i.i l.loop-i.invariant.1 (omega arith) (room s))
 
 overflow_add-i : tie.Need-overflow_add-i invariant-loop-i decreases-loop-i
 overflow_add-i c = search rules
@@ -87,7 +87,7 @@ loop-i-preserved c =
     let t = s.args.t1 in
     let order = s.args.order.now in
     let here = inside_same t k.index-k.result _ blank_link (omega (arith, long s, inside k)) ∙ ap (λ (x : ℕ). get_or t x blank_link) k.index-k.ensures in
-    (omega arith, next_text (link_text t order) s.args.r l.loop-i.i l.loop-i.inv.1 (omega arith) (room s) (put_as (ap link_bytes here) p.put_link-p.ensures))
+    (omega arith, next_text (link_text t order) s.args.r l.loop-i.i l.loop-i.invariant.1 (omega arith) (room s) (put_as (ap link_bytes here) p.put_link-p.ensures))
 
 shape_of-out : tie.Need-shape_of-out invariant-loop-i decreases-loop-i
 shape_of-out c =

@@ -29,12 +29,12 @@ rooms s = sheet_rooms _ _ _ _ _ (length s.args.out.now) s.requires.room
 -- What has been put, up to R and up to the steps.
 to_head : (p : tie.After-put_number-b) →
     let s = start (count_put p) in
-    Put ((s.args.n ∷ []) ++ two_bytes_of s.args.r) 0 p.put_number-b.result s.args.out.now p.put_number-b.new.out-1
+    Put ((s.args.n ∷ []) ++ two_bytes_of s.args.r) 0 p.put_number-b.result s.args.out.now p.put_number-b.new.out
 to_head p = put_then (count_put p).put_byte-a.ensures p.put_number-b.ensures (omega arith)
 
 to_steps : (p : tie.After-put_steps-c) →
     let s = start (count_put (head_put p)) in
-    Put ((s.args.n ∷ []) ++ two_bytes_of s.args.r ++ steps_text s.args.steps s.args.n) 0 p.put_steps-c.result s.args.out.now p.put_steps-c.new.out-1
+    Put ((s.args.n ∷ []) ++ two_bytes_of s.args.r ++ steps_text s.args.steps s.args.n) 0 p.put_steps-c.result s.args.out.now p.put_steps-c.new.out
 to_steps p = put_then (to_head (head_put p)) p.put_steps-c.ensures (omega arith)
 
 overflow_cast-n : tie.Need-overflow_cast-n
@@ -56,13 +56,13 @@ put_steps-c-requires : tie.Need-put_steps-c-requires
 put_steps-c-requires c κs =
     let p = c.before.before.before in
     let s = start (count_put p) in
-    record { few = s.pre.few_steps; room = put_room (to_head p) (steps_text s.args.steps s.args.n) (rooms s).steps_room }
+    record { few = s.requires.few_steps; room = put_room (to_head p) (steps_text s.args.steps s.args.n) (rooms s).steps_room }
 
 put_links-requires : tie.Need-put_links-requires
 put_links-requires c κs =
     let p = c.before.before.before in
     let s = start (count_put (head_put p)) in
-    record { few = s.pre.few_links; ordered = s.pre.ordered; room = put_room (to_steps p) (links_text s.args.links s.args.order.now s.args.r) (rooms s).whole }
+    record { few = s.requires.few_links; ordered = s.requires.ordered; room = put_room (to_steps p) (links_text s.args.links s.args.order.now s.args.r) (rooms s).whole }
 
 shape_of-out : tie.Need-shape_of-out
 shape_of-out c = search rules

@@ -48,8 +48,8 @@ put_step-p-requires c κs =
     let l = c.before.before.before in
     let s = start l in
     subst
-    (λ (o : Operation). l.loop-i.p + length (operation_bytes o) ≤ length l.loop-i.out-1)
-    (inside_same s.args.t1 l.loop-i.i blank_operation _ (omega (arith, long s, s.pre.few)))
+    (λ (o : Operation). l.loop-i.p + length (operation_bytes o) ≤ length l.loop-i.out)
+    (inside_same s.args.t1 l.loop-i.i blank_operation _ (omega (arith, long s, s.requires.few)))
     (next_room (step_text s.args.t1) s.args.n l.loop-i.i l.loop-i.invariant.1 (omega arith) (room s))
 
 overflow_add-i : tie.Need-overflow_add-i invariant-loop-i decreases-loop-i
@@ -63,7 +63,7 @@ loop-i-preserved c =
     let p = c.before.before in
     let l = p.before.before.before.before in
     let s = start l in
-    let here = inside_same s.args.t1 l.loop-i.i _ blank_operation (omega (arith, long s, s.pre.few)) in
+    let here = inside_same s.args.t1 l.loop-i.i _ blank_operation (omega (arith, long s, s.requires.few)) in
     (omega arith, next_text (step_text s.args.t1) s.args.n l.loop-i.i l.loop-i.invariant.1 (omega arith) (room s) (put_as (ap operation_bytes here) p.put_step-p.ensures))
 
 shape_of-out : tie.Need-shape_of-out invariant-loop-i decreases-loop-i

@@ -35,17 +35,17 @@ PutUpTo s text next new = Put text s.args.at next s.args.out.now new
 
 to_minimum : (p : tie.After-put_field-q) →
     let s = start (pair_put p) in
-    PutUpTo s (link_front s.args.l ++ field_of s.args.l.minimum) p.put_field-q.result p.put_field-q.new.out-1
+    PutUpTo s (link_front s.args.l ++ field_of s.args.l.minimum) p.put_field-q.result p.put_field-q.new.out
 to_minimum p = put_then (pair_put p).put_pair-p.ensures p.put_field-q.ensures (omega (arith, (rooms (start (pair_put p))).front))
 
 to_maximum : (p : tie.After-put_field-s) →
     let s = start (pair_put (minimum_put p)) in
-    PutUpTo s (link_front s.args.l ++ field_of s.args.l.minimum ++ field_of s.args.l.maximum) p.put_field-s.result p.put_field-s.new.out-1
+    PutUpTo s (link_front s.args.l ++ field_of s.args.l.minimum ++ field_of s.args.l.maximum) p.put_field-s.result p.put_field-s.new.out
 to_maximum p = put_then (to_minimum (minimum_put p)) p.put_field-s.ensures (omega (arith, (rooms (start (pair_put (minimum_put p)))).front))
 
 to_gap : (p : tie.After-put_field-t) →
     let s = start (pair_put (minimum_put (maximum_put p))) in
-    PutUpTo s (link_front s.args.l ++ field_of s.args.l.minimum ++ field_of s.args.l.maximum ++ field_of s.args.l.gap) p.put_field-t.result p.put_field-t.new.out-1
+    PutUpTo s (link_front s.args.l ++ field_of s.args.l.minimum ++ field_of s.args.l.maximum ++ field_of s.args.l.gap) p.put_field-t.result p.put_field-t.new.out
 to_gap p = put_then (to_maximum (maximum_put p)) p.put_field-t.ensures (omega (arith, (rooms (start (pair_put (minimum_put (maximum_put p))))).front))
 
 put_pair-p-requires : tie.Need-put_pair-p-requires

@@ -25,12 +25,12 @@ rooms : (s : tie.Start) → StepRooms s.args.at (length s.args.out.now) s.args.o
 rooms s = step_rooms _ _ s.args.o s.requires
 
 -- What has been put: the map, and the duration behind it.
-mapped : (p : tie.After-put_byte-p) → Put (operation_map_of (start p).args.o ∷ []) (start p).args.at p.put_byte-p.result (start p).args.out.now p.put_byte-p.new.out-1
+mapped : (p : tie.After-put_byte-p) → Put (operation_map_of (start p).args.o ∷ []) (start p).args.at p.put_byte-p.result (start p).args.out.now p.put_byte-p.new.out
 mapped p = put_as (ap (λ m. m ∷ []) p.step_map.ensures) p.put_byte-p.ensures
 
 lasting : (p : tie.After-put_field-q) →
     let s = start (map_put p) in
-    Put ((operation_map_of s.args.o ∷ []) ++ field_of (duration_of s.args.o.delay)) s.args.at p.put_field-q.result s.args.out.now p.put_field-q.new.out-1
+    Put ((operation_map_of s.args.o ∷ []) ++ field_of (duration_of s.args.o.delay)) s.args.at p.put_field-q.result s.args.out.now p.put_field-q.new.out
 lasting p =
     let s = start (map_put p) in
     put_then (mapped (map_put p)) (put_as (ap field_of p.duration.ensures) p.put_field-q.ensures) (omega (arith, (rooms s).map))
@@ -47,7 +47,7 @@ duration-requires c κs = search rules
 put_field-q-requires : tie.Need-put_field-q-requires
 put_field-q-requires c κs =
     let p = c.before.before.before.before in
-    subst (λ (b : Bound). p.put_byte-p.result + length (field_of b) ≤ length p.put_byte-p.new.out-1) (sym c.duration.ensures) (put_room (mapped p) (field_of (duration_of (start p).args.o.delay)) (rooms (start p)).duration)
+    subst (λ (b : Bound). p.put_byte-p.result + length (field_of b) ≤ length p.put_byte-p.new.out) (sym c.duration.ensures) (put_room (mapped p) (field_of (duration_of (start p).args.o.delay)) (rooms (start p)).duration)
 
 put_field-requires : tie.Need-put_field-requires
 put_field-requires c κs =

@@ -45,7 +45,7 @@ cell-requires : tie.Need-cell-requires invariant-loop-i decreases-loop-i
 cell-requires c κs = search rules
 
 offset_bounds-cells-i : tie.Need-offset_bounds-cells-i invariant-loop-i decreases-loop-i
-offset_bounds-cells-i c = omega (arith, (start c.before.before.before.before).pre.room)
+offset_bounds-cells-i c = omega (arith, (start c.before.before.before.before).requires.room)
 
 bounds-cells-i : tie.Need-bounds-cells-i invariant-loop-i decreases-loop-i
 bounds-cells-i c =
@@ -62,7 +62,7 @@ loop-i-preserved : tie.Need-loop-i-preserved invariant-loop-i decreases-loop-i
 loop-i-preserved c =
     let l = c.before.before.before.before in
     let s = start l in
-    (omega arith, links_more s.args.t1 _ _ l.loop-i.i (omega (arith, long s, s.pre.few)) l.loop-i.invariant.1 c.see_link-more.ensures _ c.cell.ensures (omega (arith, s.pre.room)))
+    (omega arith, links_more s.args.t1 _ _ l.loop-i.i (omega (arith, long s, s.requires.few)) l.loop-i.invariant.1 c.see_link-more.ensures _ c.cell.ensures (omega (arith, s.requires.room)))
 
 shape_of-cells : tie.Need-shape_of-cells invariant-loop-i decreases-loop-i
 shape_of-cells c = kept c.before

@@ -33,12 +33,12 @@ ordered m = m.before.before
 faultless : (p : tie.In_default) →
     let f = looked p in
     let s = start f in
-    Faultless s.args.n s.args.a s.args.r s.args.b s.args.steps s.args.links (links_scanned f).scan_links-seen.last.1.1.1.0 (steps_scanned f).scan_steps-found.result (links_scanned f).scan_links-seen.result
+    Faultless s.args.n s.args.a s.args.r s.args.b s.args.steps s.args.links (links_scanned f).scan_links-seen.new.cells (steps_scanned f).scan_steps-found.result (links_scanned f).scan_links-seen.result
 faultless p =
     let f = looked p in
     let s = start f in
     record {
-      counts = s.pre;
+      counts = s.requires;
       all_steps = s.good.1.0.1.0.1;
       all_links = s.good.1.1.1.1.0.1.0.1;
       blank = replicate 512 0;
