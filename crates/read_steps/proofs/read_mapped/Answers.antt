@@ -1,17 +1,11 @@
 -- Each arm of the match on the map is one law of Parts, with what the step adds by a law of Taking.
-use mathlib.Core.Path.{◌≡◌, ap, sym, ◌∙◌}
-use mathlib.Core.Bool.{false}
-use mathlib.Core.List.{List}
-use Prim.Native.Nat.{ℕ, ◌<◌}
+use mathlib.Core.Path.{ap, sym, ◌∙◌}
+use Prim.Native.Nat.{ℕ}
 use native.Mathlib.Omega.{arith}
 use lib.Dec.{eqb}
-use lib.ListN.{drop}
 use borrow.Author.Tests.{eq-eqb, ne_eqb}
-use borrow.Author.Rules.{rules}
-use Rattle.definitions.specs.Bytes.{Parser}
 use Rattle.definitions.specs.declared.Bound.TheVariants.{Absent}
 use Rattle.definitions.specs.declared.Delay.TheVariants.{Open}
-use Rattle.definitions.specs.declared.Operation.{Operation}
 use Rattle.read_steps.specs.Leaving.{added}
 use Rattle.read_steps.specs.Parts.{operation_mapped, fixed, slow}
 use Rattle.read_steps.proofs.Parts.{map_first, map_above, mapped_refused, mapped_zero, mapped_open, mapped_fixed, mapped_slow}

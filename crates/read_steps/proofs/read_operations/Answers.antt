@@ -1,16 +1,9 @@
 -- A record more is one turn of `Stepping`; the first refused one is the answer, and so is the end of the row.
-use mathlib.Core.Path.{◌≡◌, subst, ◌∙◌}
-use Prim.Native.Nat.{◌-◌, ◌≤◌}
+use mathlib.Core.Path.{◌∙◌}
 use native.Mathlib.Omega.{arith}
-use lib.Dec.{eqb}
-use lib.ListN.{length, drop, length-set}
-use borrow.Author.Rules.{rules}
-use Rattle.definitions.specs.Bytes.{operation}
-use Rattle.definitions.specs.Limits.{most_steps}
-use Rattle.read_steps.specs.Answers.{StepReads}
-use Rattle.read_steps.specs.declared.StepRead.{StepRead}
+use lib.ListN.{length-set}
 use Rattle.read_steps.proofs.Leasts.{blank_long, leasts_long}
-use Rattle.read_steps.proofs.Stepping.{Stepping, stepping_none, stepping_more, stepping_refused, stepping_all}
+use Rattle.read_steps.proofs.Stepping.{stepping_none, stepping_more, stepping_refused, stepping_all}
 use Rattle.read_steps.proofs.read_operations.Goals as goal
 
 pub loop-i-init : goal.loop-i-init
