@@ -5,7 +5,6 @@ use native.Mathlib.Omega.{arith}
 use Rattle.read_pair.proofs.map_allowed.Goals.{in_default-via-then-m-lt1, in_default-via-else-m-lt1+else-m-lt8}
 use Prim.Native.Nat.{◌≤◌, ◌<◌}
 use Rattle.read_pair.proofs.Parts.{map_low, map_outside}
-use borrow.Author.Rules.{rules}
 use Rattle.read_pair.proofs.map_allowed.Goals as goal
 
 pub returns-in-1-to-7 : goal.returns-in-1-to-7
