@@ -51,7 +51,7 @@ returns c =
     let s = start f in
     let a = s.args in
     let first = f.sweep_first-marks.ensures in
-    let settled = c.sweep_on.ensures _ (settling_opened a.es.now (leasts_in a.leasts.now) a.waiting.now a.number.now a.width a.n a.d-1.now s.requires.network.linked.square first) in
+    let settled = c.sweep_on.ensures _ (settling_opened a.es.now (leasts_in a.leasts.now) a.waiting.now a.number.now a.width a.n a.d.now s.requires.network.linked.square first) in
     record {
       square = settled.square;
       settled = λ q. settled;

@@ -73,7 +73,7 @@ returns c =
     let o = to.before.before in
     let s = start o in
     let from = (leaving o).edge_from-from.ensures in
-    let fits : SFits w32 o.of_edge-c.result = sfits_of o.of_edge-c.type-inv in
+    let fits : SFits w32 o.of_edge-c.result = sfits_of o.of_edge-c.type_inv in
     begun_edge
     s.args.number.now
     (unpack s.args.w)
