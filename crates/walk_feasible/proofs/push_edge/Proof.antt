@@ -105,7 +105,7 @@ insert-requires c κs = search rules
 
 returns-then-is_less : tie.Need-returns-then-is_less
 returns-then-is_less c =
-    let l = c.before.before in
+    let l = c.before.before.before in
     let m = came l in
     let s = entry m in
     let a = s.args in
