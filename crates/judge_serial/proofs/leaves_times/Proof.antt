@@ -50,7 +50,7 @@ offsets s well leasts waits =
     let w = (walked s).walks_if_possible in
     let few = (start (walked s)).requires.few in
     walks_offsets (least s) few well.shape waits (replicate 64 1) (table s)
-    (λ within. first_column w.last.1.0 w.last.0 few (w.ensures.first 0 well.some (sole_source 0 (omega arith))) (w.ensures.cells (not-false _ s.if-not-walks_if_possible.false) within leasts))
+    (λ within. first_column w.last.1.0 w.last.0 few (w.ensures.first 0 well.some (sole_source 0 (omega arith))) (w.ensures.cells (s.if-not-walks_if_possible.false) within leasts))
 
 -- Whether it says nothing of the source itself.
 none_told : (s : tie.After-is_none) → s.is_none.result ≡ eqb (entry (table s.before.before) 0 0) 0
@@ -73,7 +73,7 @@ returns-then-not-walks_if_possible c = λ well gains leasts waits no_circle.
     let w = c.before.before in
     let few = (start w).requires.few in
     let told = w.walks_if_possible.ensures.told well.shape well.rooted gains leasts (λ v b. sole_source v (omega arith)) in
-    absurd (both_ways (told ∙ (stable_nonpositive_iff well.some well.shape well.rooted).1 well.never) (not-true _ c.if-not-walks_if_possible.true))
+    absurd (both_ways (told ∙ (stable_nonpositive_iff well.some well.shape well.rooted).1 well.never) c.if-not-walks_if_possible.true)
 
 bounds-d-0 : tie.Need-bounds-d-0
 bounds-d-0 c = search rules
