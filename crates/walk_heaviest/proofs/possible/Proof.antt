@@ -3,9 +3,6 @@ use mathlib.Core.Path.{sym}
 use borrow.Author.Rules.{rules}
 use Rattle.walk_heaviest.proofs.possible.Statement.{statement}
 use Rattle.walk_heaviest.proofs.possible.Tie as tie
-use Rattle.walk_heaviest.proofs.possible.Reads as reads
-use Rattle.walk_heaviest.proofs.possible.Lts as lts
-use Rattle.walk_feasible.proofs.feasible.Reads as feasible-reads
 
 returns-then-marks-eq0 : tie.Need-returns-then-marks-eq0
 returns-then-marks-eq0 c = λ shape rooted rest. sym (rest c.if-marks-eq0.true)

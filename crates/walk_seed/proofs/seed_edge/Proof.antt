@@ -3,7 +3,6 @@ use native.Mathlib.Omega.{arith}
 use mathlib.Core.Path.{◌≡◌, sym, ap, ◌∙◌}
 use Prim.Native.Nat.{ℕ, suc, ◌-◌}
 use lib.ListN.{get_or}
-use Rattle.definitions.specs.Links.{Edge}
 use Rattle.data_edges.specs.Words.{unpack}
 use Rattle.walk_cells.specs.Cells.{value}
 use Rattle.walk_seed.proofs.Seeding.{begun_edge, begun_source, begun_unnumbered}
@@ -14,34 +13,18 @@ use borrow.Author.Rules.{rules, sfits_of}
 use Rattle.walk_seed.proofs.seed_edge.Statement.{statement}
 use Rattle.walk_seed.proofs.seed_edge.Tie as tie
 
--- Places: the start, and where the edge's start is read, from where the cell of its walk is made.
-abbrev start : tie.After-of_edge-c → tie.Start
-start s = s.before.before.before.before.before.before.before
-
-abbrev leaving : tie.After-of_edge-c → tie.After-edge_from-from
-leaving s = s.before.before.before.before.before.before
-
-abbrev edge : tie.After-of_edge-c → Edge
-edge s = unpack (start s).args.w
-
--- That cell says what the edge gains.
-weighs : (s : tie.After-of_edge-c) → value s.of_edge-c.result ≡ suc ((edge s).gain - (edge s).loss)
-weighs s = omega (arith, s.of_edge-c.ensures, s.edge_gain.ensures.0, s.edge_loss.ensures.0)
-
 edge_from-from-requires : tie.Need-edge_from-from-requires
 edge_from-from-requires c κs = search rules
 
 returns-then-from-eq0 : tie.Need-returns-then-from-eq0
-returns-then-from-eq0 c = let s = c.before.before in begun_source s.args.number.now (unpack s.args.w) s.args.d.now s.requires.placed.square (sym c.edge_from-from.ensures.0 ∙ c.if-from-eq0.true)
+returns-then-from-eq0 c = begun_source c.args.number.now (unpack c.args.w) c.args.d.now c.requires.placed.square (sym c.edge_from-from.ensures.0 ∙ c.if-from-eq0.true)
 
 bounds-number-from : tie.Need-bounds-number-from
 bounds-number-from c = search rules
 
 returns-then-k-ge64 : tie.Need-returns-then-k-ge64
 returns-then-k-ge64 c =
-    let f = c.before.before.before in
-    let s = f.before in
-    begun_unnumbered s.args.number.now (unpack s.args.w) s.args.d.now s.requires.placed.square (omega (arith, ap (λ (x : ℕ). get_or s.args.number.now x 0) f.edge_from-from.ensures.0, c.if-k-ge64.true))
+    begun_unnumbered c.args.number.now (unpack c.args.w) c.args.d.now c.requires.placed.square (omega (arith, ap (λ (x : ℕ). get_or c.args.number.now x 0) c.edge_from-from.ensures.0, c.if-k-ge64.true))
 
 edge_gain-requires : tie.Need-edge_gain-requires
 edge_gain-requires c κs = search rules
@@ -60,7 +43,7 @@ place-requires c κs = search rules
 
 raise-requires : tie.Need-raise-requires
 raise-requires c κs =
-    let p = (start c.before.before.before).requires.placed in
+    let p = c.requires.placed in
     record { row = omega (arith, c.edge_to.ensures.0, p.row); few = omega (arith, c.place.ensures.1); square = p.square }
 
 shape_of-d : tie.Need-shape_of-d
@@ -68,27 +51,27 @@ shape_of-d c = search rules
 
 returns : tie.Need-returns
 returns c =
-    let to = c.before.before.before in
+    let to = c.edge_to in
     let k = c.place in
-    let o = to.before.before in
-    let s = start o in
-    let from = (leaving o).edge_from-from.ensures in
-    let fits : SFits w32 o.of_edge-c.result = sfits_of o.of_edge-c.type-inv in
+    let from = c.edge_from-from.ensures in
+    let cell = c.of_edge-c in
+    let fits : SFits w32 cell.result = sfits_of cell.type_inv in
+    let weighs : value cell.result ≡ suc ((unpack c.args.w).gain - (unpack c.args.w).loss) = omega (arith, cell.ensures, c.edge_gain.ensures.0, c.edge_loss.ensures.0) in
     begun_edge
-    s.args.number.now
-    (unpack s.args.w)
-    to.edge_to.result
+    c.args.number.now
+    (unpack c.args.w)
+    to.result
     k.result
-    o.of_edge-c.result
-    s.args.d.now
+    cell.result
+    c.args.d.now
     c.raise.new.d
-    to.edge_to.ensures.0
-    s.requires.placed.light
-    s.requires.counts
-    (λ z. o.if-from-eq0.false (from.0 ∙ z))
+    to.ensures.0
+    c.requires.placed.light
+    c.requires.counts
+    (λ z. c.if-from-eq0.false (from.0 ∙ z))
     (omega (arith, from.0, from.1))
-    (omega (arith, k.ensures.0, ap (λ (x : ℕ). get_or s.args.number.now x 0) from.0, o.if-k-ge64.false))
-    (weighs o)
+    (omega (arith, k.ensures.0, ap (λ (x : ℕ). get_or c.args.number.now x 0) from.0, c.if-k-ge64.false))
+    weighs
     (rw (to_z-of_z fits) at c.raise.ensures)
 
 pub seed_edge_spec : {M : Type 1} → statement M
