@@ -52,7 +52,7 @@ loop-left-preserved c a =
     ∙ (turn s).loop-left.invariant a
 
 returns : tie.Need-returns invariant-loop-left decreases-loop-left
-returns c a = gather_all c.args.rows.now _ c.loop-left.false a (omega arith) ∙ c.loop-left.invariant a
+returns c a = gather_all c.args.rows.now _ c.loop-left.left a (omega arith) ∙ c.loop-left.invariant a
 
 pub gather_spec : {M : Type 1} → statement M
 gather_spec =
