@@ -1,20 +1,13 @@
 -- `order_forward::sort` meets its contract: without an order forward edges close a circle, with one the rows that are drawn along it are the anchor sets.
 use borrow.Author.Rules.{rules}
 use mathlib.Core.Path.{ap, ◌∙◌}
-use lib.ListN.{set}
 use mathlib.Core.Bool.{not}
-use Rattle.data_edges.specs.Words.{graph}
 use Rattle.order_steps.proofs.Circles.{arranged_circle}
-use Rattle.order_forward.specs.Sorting.{Adjoined}
 use Rattle.order_forward.proofs.Anchoring.{drawn_sets}
 use Rattle.order_forward.proofs.Drawing.{entered_by}
 use Rattle.order_forward.proofs.Faults.{sorting_circle, sorting_sets}
 use Rattle.order_forward.proofs.sort.Statement.{statement}
 use Rattle.order_forward.proofs.sort.Tie as tie
-
--- The rows before they are drawn.
-enters : (c : tie.After-insert-own) → Adjoined (graph c.args.es.now) (set c.predecessors.new.counted 0 c.insert-own.result)
-enters c = entered_by _ _ _ c.predecessors.ensures.1 c.insert-own.ensures
 
 predecessors-requires : tie.Need-predecessors-requires
 predecessors-requires c κs = search rules
@@ -35,7 +28,7 @@ bounds-sets-0-2 : tie.Need-bounds-sets-0-2
 bounds-sets-0-2 c = search rules
 
 draw-requires : tie.Need-draw-requires
-draw-requires c κs = record { few = c.requires.few; ordered = c.arrange.ensures.ordered c.if-not-arrange.false; long = (enters c.before.before.before).long }
+draw-requires c κs = record { few = c.requires.few; ordered = c.arrange.ensures.ordered c.if-not-arrange.false; long = (entered_by _ _ _ c.predecessors.ensures.1 c.insert-own.ensures).long }
 
 returns : tie.Need-returns
 returns c shape into =
@@ -43,7 +36,7 @@ returns c shape into =
     let ok = c.if-not-arrange.false in
     let P = c.predecessors.ensures.0 in
     let O = c.arrange.ensures.ordered ok in
-    sorting_sets (arranged_circle P shape c.arrange.ensures ∙ ap not ok) (drawn_sets p.few p.some shape P O (enters c.before.before.before.before) c.draw.ensures into)
+    sorting_sets (arranged_circle P shape c.arrange.ensures ∙ ap not ok) (drawn_sets p.few p.some shape P O (entered_by _ _ _ c.predecessors.ensures.1 c.insert-own.ensures) c.draw.ensures into)
 
 pub sort_spec : {M : Type 1} → statement M
 sort_spec =
