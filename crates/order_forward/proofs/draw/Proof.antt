@@ -1,7 +1,7 @@
 -- `order_forward::draw` meets its contract. Invariant: the rows of the first k places of the order are done. What falls is the number of the others.
 use borrow.Author.Rules.{rules}
 use native.Mathlib.Omega.{arith}
-use mathlib.Core.Path.{◌≡◌, ◌∙◌}
+use mathlib.Core.Path.{◌≡◌}
 use Prim.Native.Nat.{◌-◌, ◌<◌}
 use lib.ListN.{get_or}
 use Rattle.order_steps.specs.Orders.{Ordered}

@@ -1,7 +1,7 @@
 -- `order_forward::gather` meets its contract. Invariant: what is gathered, with the rows of the steps that are left, stays the same. What falls is the map of these.
 use borrow.Author.Rules.{rules}
 use native.Mathlib.Omega.{arith}
-use mathlib.Core.Path.{◌≡◌, refl, sym, ◌∙◌}
+use mathlib.Core.Path.{◌≡◌, refl, ◌∙◌}
 use Prim.Native.Nat.{ℕ}
 use Rattle.laws.proofs.Maps.{removed_lt}
 use Rattle.order_forward.proofs.Drawing.{gather_all, gather_more, with_rows}

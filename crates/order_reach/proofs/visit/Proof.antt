@@ -1,7 +1,6 @@
 -- `order_reach::visit` meets its contract.
 use borrow.Author.Rules.{rules}
 use mathlib.Core.Path.{sym, ◌∙◌}
-use borrow.Author.Tests.{not-true}
 use Rattle.order_reach.proofs.Passing.{visited, visited_idle}
 use Rattle.order_reach.proofs.visit.Statement.{statement}
 use Rattle.order_reach.proofs.visit.Tie as tie
