@@ -1,9 +1,7 @@
 -- "Marked and unmarked sheets": the sheets marked ★ in document 01, and sheets of ours for readings that those do not tell apart and for requests L11, L1, L3, L6 and L14. One table, proved against the definitions in one go; one more for the calls of L14.
 -- And one of parts for the writer of request L4, and one of prices for request L5.
-use Rattle.std.specs.Prelude.{◌≡◌, refl, Bool, true, false, ◌⊎◌, ℕ, ◌+◌, length, replicate}
-use Rattle.std.proofs.Common.{inl, inr}
-use mathlib.Core.List.Memᴰ
-use mathlib.Core.List.{List, [], ◌∷◌, ◌++◌, map, flat_map, Memᴰ, head-eq_of_cons-eq, tail-eq_of_cons-eq}
+use Rattle.std.specs.Prelude.{◌≡◌, refl, Bool, true, false, ℕ, ◌+◌, length, replicate}
+use mathlib.Core.List.{List, [], ◌∷◌, ◌++◌, map, flat_map}
 use Rattle.definitions.specs.Limits.{most_steps}
 use Rattle.definitions.specs.Basics.{any, all, without, any_below, all_below, tabulate, select_below, largest, sum_below, test_bit, bits_below, Outcome, given, refused, refuse_if, when_given}
 use Rattle.definitions.specs.Bytes.{Records, demand, byte, two_bytes, ticks_if, operation_map, delay_from, operation, link_map, sequenced, endpoints, rises, bound_from, link, records, operations, pair_of, links, at_end, sheet, read}

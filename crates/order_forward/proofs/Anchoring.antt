@@ -1,6 +1,6 @@
 -- The rows that are drawn along an order of the steps are what the chains of forward edges say. Every forward edge has handed on, from the end of the rows' equation to its start; and nothing in a row is there without
 -- a chain, by induction on the rank. So bit 0 of a row tells whether a chain comes from step 0; where one comes to every step, the rows are the anchor sets.
-use mathlib.Core.Path.{◌≡◌, refl, sym, ap, ap₂, ◌∙◌}
+use mathlib.Core.Path.{◌≡◌, refl, sym, ap, ◌∙◌}
 use mathlib.Core.Bool.{Bool, true, false, ◌&&◌, ◌||◌}
 use mathlib.Core.Logic.{◌⊎◌, inl, inr, ◌≢◌}
 use mathlib.Core.List.{List}

@@ -10,7 +10,7 @@ use borrow.Author.Tests.{eq-eqb, eqb-true, not-true}
 use Rattle.definitions.specs.Answers.{closes_circle}
 use Rattle.definitions.specs.Basics.{test_bit}
 use Rattle.definitions.specs.Links.{Edge, Forward, Walk, forwards, members, step, stop}
-use Rattle.laws.proofs.Bools.{and_join, and_split, not_passing}
+use Rattle.laws.proofs.Bools.{and_join, and_split}
 use Rattle.laws.proofs.Tests.{any_by, any_has}
 use Rattle.data_relations.specs.Rows.{row_bit}
 use Rattle.theory.specs.Graphs.{ForwardAcyclic, Shape}

@@ -6,7 +6,7 @@ use mathlib.Core.List.{List}
 use Prim.Native.Nat.{ℕ, ◌+◌, ◌^◌, ◌<◌, ◌≤◌}
 use native.Mathlib.Omega.{arith}
 use lib.Dec.{eqb, ltb}
-use lib.ListN.{length, get_or, set, length-set}
+use lib.ListN.{length, get_or, length-set}
 use lib.Seq.{get_or-set_same, get_or-set_other}
 use borrow.Author.Tests.{eq-eqb, lt-ltb, ltb-true, ne_eqb}
 use Rattle.definitions.specs.Basics.{select_below, test_bit}
@@ -14,7 +14,7 @@ use Rattle.laws.proofs.Bools.{and_join, and_split, both_ways, cond_false, cond_t
 use Rattle.laws.proofs.Maps.{any_member, test_zero}
 use Rattle.laws.proofs.Tests.{any_below_has}
 use Rattle.data_relations.specs.Rows.{row_bit}
-use Rattle.order_steps.specs.Orders.{Arranged, Gone, Blocked, Kept, Ordered, PassedOver, Placing, Put, Stuck, Tried}
+use Rattle.order_steps.specs.Orders.{Arranged, Gone, Blocked, Kept, Ordered, PassedOver, Placing, Put, Tried}
 use Rattle.order_steps.proofs.Counting.{all_count, count_less, counts_some, member_counts}
 
 -- What both maps have in common: something is blocked where it is not 0, nothing where it is.

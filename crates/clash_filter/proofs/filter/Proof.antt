@@ -1,7 +1,6 @@
 -- `clash_filter::filter` meets its contract. The loop's invariant is `Working`: of every sheet whose records the words are, the records below k are left to be tried, and those that were tried and stay are kept and noted. What
 -- falls is k.
 use borrow.Author.Rules.{rules}
-use borrow.Author.Tests.{not-true, not-false}
 use mathlib.Core.Path.{◌∙◌, sym}
 use Prim.Native.Nat.{suc, ◌-◌}
 use native.Mathlib.Omega.{arith}
@@ -129,7 +128,7 @@ loop-k-preserved-then-not-impossible_with c =
     let j = judged t.before in
     let s = found j in
     let l = turn s in
-    working_kept _ _ _ _ (start l).requires.0 _ _ _ _ _ _ _ _ l.loop-k.invariant s.loop-k-test.true _ s.record_start-first.ensures _ (part_rest l.loop-k.kept l.loop-k.back) _ _ _ j.impossible_with.ensures (search rules) (search rules) _ p.put.ensures (not-true _ t.if-not-impossible_with.true)
+    working_kept _ _ _ _ (start l).requires.0 _ _ _ _ _ _ _ _ l.loop-k.invariant s.loop-k-test.true _ s.record_start-first.ensures _ (part_rest l.loop-k.kept l.loop-k.back) _ _ _ j.impossible_with.ensures (search rules) (search rules) _ p.put.ensures t.if-not-impossible_with.true
 
 loop-k-smaller : tie.Need-loop-k-smaller invariant-loop-k decreases-loop-k
 loop-k-smaller c = search rules
@@ -139,7 +138,7 @@ loop-k-preserved c =
     let j = judged c.before in
     let s = found j in
     let l = turn s in
-    working_dropped _ _ _ _ (start l).requires.0 _ _ _ _ _ _ _ _ l.loop-k.invariant s.loop-k-test.true _ s.record_start-first.ensures _ (part_rest l.loop-k.kept l.loop-k.back) _ _ _ j.impossible_with.ensures (search rules) (search rules) (not-false _ c.if-not-impossible_with.false)
+    working_dropped _ _ _ _ (start l).requires.0 _ _ _ _ _ _ _ _ l.loop-k.invariant s.loop-k-test.true _ s.record_start-first.ensures _ (part_rest l.loop-k.kept l.loop-k.back) _ _ _ j.impossible_with.ensures (search rules) (search rules) c.if-not-impossible_with.false
 
 shape_of-part : tie.Need-shape_of-part invariant-loop-k decreases-loop-k
 shape_of-part c = let l = c.before in l.loop-k.invariant.part_long ∙ sym (start l).requires.1.part_long

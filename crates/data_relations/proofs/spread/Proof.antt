@@ -49,7 +49,7 @@ shape_of-out : tie.Need-shape_of-out invariant-loop-left decreases-loop-left
 shape_of-out c = search rules
 
 returns : tie.Need-returns invariant-loop-left decreases-loop-left
-returns c = spreading_all _ _ c.loop-left.false _ _ (omega arith) c.loop-left.invariant
+returns c = spreading_all _ _ c.loop-left.left _ _ (omega arith) c.loop-left.invariant
 
 pub spread_spec : {M : Type 1} → statement M
 spread_spec =

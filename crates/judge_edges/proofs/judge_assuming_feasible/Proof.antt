@@ -1,6 +1,5 @@
 -- `judge_edges::judge_assuming_feasible` meets its contract: 8, or what is found from 11 on.
 use mathlib.Core.Path.{ap}
-use borrow.Author.Tests.{not-false, not-true}
 use Rattle.definitions.specs.Numbers.{verdict_of}
 use Rattle.judge_edges.proofs.Judging.{presumed_refused, presumed_rest, sorting_order}
 use borrow.Author.Rules.{rules}
@@ -21,7 +20,7 @@ returns-then-not-sort : tie.Need-returns-then-not-sort
 returns-then-not-sort c sheet =
     let u = c.refused.ensures in
     let s = c.before.before in
-    presumed_refused _ _ _ _ _ _ _ _ _ 8 (sorting_order _ _ (s.sort.ensures sheet.shape sheet.entered) (not-true _ c.if-not-sort.true)) u.1.sorts (ap verdict_of u.0) (start s).requires.1.rows.no_maps u.1.none
+    presumed_refused _ _ _ _ _ _ _ _ _ 8 (sorting_order _ _ (s.sort.ensures sheet.shape sheet.entered) c.if-not-sort.true) u.1.sorts (ap verdict_of u.0) (start s).requires.1.rows.no_maps u.1.none
 
 serialize-requires : tie.Need-serialize-requires
 serialize-requires c κs = search rules
@@ -30,7 +29,7 @@ returns : tie.Need-returns
 returns c sheet =
     let f = c.before.before.before.before.before in
     let s = f.sort.ensures sheet.shape sheet.entered in
-    let passes = not-false _ f.if-not-sort.false in
+    let passes = f.if-not-sort.false in
     let passed = sorting_order _ _ s passes in
     presumed_rest _ _ _ _ _ _ _ _ _ passed c.serialize.ensures.0 (c.serialize.ensures.1 (record { sheet = sheet; anchors = s.found passes; passes = passed }))
 

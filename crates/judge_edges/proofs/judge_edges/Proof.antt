@@ -1,6 +1,5 @@
 -- `judge_edges::judge_edges` meets its contract: 8, then 10, then what is found from 11 on.
 use mathlib.Core.Path.{sym, ap, ◌∙◌}
-use borrow.Author.Tests.{not-false, not-true}
 use Rattle.definitions.specs.Numbers.{verdict_of}
 use Rattle.judge_edges.proofs.Judging.{all_rooted, edges_go_on, edges_refuse, first_10, first_done, first_refused, sorting_order}
 use borrow.Author.Rules.{rules}
@@ -27,7 +26,7 @@ returns-then-not-sort : tie.Need-returns-then-not-sort
 returns-then-not-sort c sheet =
     let u = c.refused.ensures in
     let s = c.before.before in
-    edges_refuse _ _ _ _ _ _ _ 8 (first_refused _ _ _ (sorting_order _ _ (s.sort.ensures sheet.shape sheet.entered) (not-true _ c.if-not-sort.true))) (ap verdict_of u.0) (start s).requires.1 u.1.none
+    edges_refuse _ _ _ _ _ _ _ 8 (first_refused _ _ _ (sorting_order _ _ (s.sort.ensures sheet.shape sheet.entered) c.if-not-sort.true)) (ap verdict_of u.0) (start s).requires.1 u.1.none
 
 feasible-requires : tie.Need-feasible-requires
 feasible-requires c κs = search rules
@@ -41,9 +40,9 @@ returns-then-not-feasible c sheet =
     let s = sorted (passing f) in
     let p = (start s).requires in
     let u = c.refused-then-not-feasible.ensures in
-    let passed = sorting_order _ _ (s.sort.ensures sheet.shape sheet.entered) (not-false _ (passing f).if-not-sort.false) in
+    let passed = sorting_order _ _ (s.sort.ensures sheet.shape sheet.entered) (passing f).if-not-sort.false in
     let settles = f.feasible.ensures sheet.shape (all_rooted _ _ passed p.0.some sheet.shape sheet.entered) in
-    edges_refuse _ _ _ _ _ _ _ 10 (first_10 _ _ passed (sym settles ∙ not-true _ c.if-not-feasible.true)) (ap verdict_of u.0) p.1 u.1.none
+    edges_refuse _ _ _ _ _ _ _ 10 (first_10 _ _ passed (sym settles ∙ c.if-not-feasible.true)) (ap verdict_of u.0) p.1 u.1.none
 
 serialize-requires : tie.Need-serialize-requires
 serialize-requires c κs = search rules
@@ -53,11 +52,11 @@ returns c sheet =
     let t = c.before.before.before.before.before in
     let f = t.before in
     let s = sorted (passing f) in
-    let passes = not-false _ (passing f).if-not-sort.false in
+    let passes = (passing f).if-not-sort.false in
     let found = s.sort.ensures sheet.shape sheet.entered in
     let passed = sorting_order _ _ found passes in
     let settles = f.feasible.ensures sheet.shape (all_rooted _ _ passed (start s).requires.0.some sheet.shape sheet.entered) in
-    let done = first_done _ _ passed (sym settles ∙ not-false _ t.if-not-feasible.false) in
+    let done = first_done _ _ passed (sym settles ∙ t.if-not-feasible.false) in
     let unweighed = c.serialize.ensures.1 (record { sheet = sheet; anchors = found.found passes; passes = passed }) in
     edges_go_on _ _ _ _ _ _ _ done (unweighed.serialized done)
 

@@ -1,6 +1,5 @@
 -- `judge_edges::serialize` meets its contract: where no return brings anything new no waits are needed; else 11, and then the waits.
 use mathlib.Core.Path.{sym, ap, ◌∙◌}
-use borrow.Author.Tests.{not-true}
 use Rattle.definitions.specs.Numbers.{verdict_of}
 use Rattle.judge_edges.proofs.Judging.{order_acyclic, passed_well, reached_reaches, unweighed_11, unweighed_posed, unweighed_rest}
 use borrow.Author.Rules.{rules}
@@ -25,7 +24,7 @@ returns-then-not-reach c =
     let r = c.before.before in
     let p = (start r).requires in
     let w = c.waits_counted.ensures in
-    (w.sorts, λ h. unweighed_posed _ _ _ _ _ _ _ h.sheet.shape (r.reach.ensures.0 h.anchors) p.0.some p.0.few h.sheet.entered h.anchors h.passes (r.reach.ensures.1 (not-true _ c.if-not-reach.true)) p.1.no_maps w.counts (λ e. w.judges _ _ (sym w.counts ∙ e)))
+    (w.sorts, λ h. unweighed_posed _ _ _ _ _ _ _ h.sheet.shape (r.reach.ensures.0 h.anchors) p.0.some p.0.few h.sheet.entered h.anchors h.passes (r.reach.ensures.1 c.if-not-reach.true) p.1.no_maps w.counts (λ e. w.judges _ _ (sym w.counts ∙ e)))
 
 is_inconsistent-requires : tie.Need-is_inconsistent-requires
 is_inconsistent-requires c κs = search rules

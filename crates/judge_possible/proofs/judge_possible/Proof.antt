@@ -2,7 +2,6 @@
 use mathlib.Core.Path.{◌≡◌, sym, ◌∙◌}
 use mathlib.Core.List.{List}
 use Prim.Native.Nat.{ℕ}
-use borrow.Author.Tests.{not-false, not-true}
 use Rattle.definitions.specs.Answers.{inconsistent}
 use Rattle.definitions.specs.Basics.{given}
 use Rattle.definitions.specs.Links.{members}
@@ -38,26 +37,26 @@ Sheet s = Shape (count s) (members (graph (words s))) × Entered (count s) (memb
 
 -- What is known where 10 is tested: they pass 8, and the test is that of the definition.
 passed : (f : tie.After-feasible) → let s = (passing f).before in Sheet s → judge_order (count s) (graph (words s)) ≡ given tt
-passed f sheet = sorting_order _ _ ((passing f).sort.ensures sheet.0 sheet.1) (not-false _ (passing f).if-not-sort.false)
+passed f sheet = sorting_order _ _ ((passing f).sort.ensures sheet.0 sheet.1) (passing f).if-not-sort.false
 
 settles : (f : tie.After-feasible) → let s = (passing f).before in Sheet s → f.feasible.result ≡ rests (count s) (words s)
 settles f sheet = f.feasible.ensures sheet.0 (all_rooted _ _ (passed f sheet) (start (passing f).before).requires.some sheet.0 sheet.1)
 
 -- And where 11 is: they pass 8 and 10.
 first : (w : tie.After-waits_for_itself) → let s = (passing (keeping w).before).before in Sheet s → judge_first (count s) (graph (words s)) ≡ given tt
-first w sheet = let f = (keeping w).before in first_done _ _ (passed f sheet) (sym (settles f sheet) ∙ not-false _ (keeping w).if-not-feasible.false)
+first w sheet = let f = (keeping w).before in first_done _ _ (passed f sheet) (sym (settles f sheet) ∙ (keeping w).if-not-feasible.false)
 
 waits : (w : tie.After-waits_for_itself) → let s = (passing (keeping w).before).before in Sheet s → w.waits_for_itself.result ≡ inconsistent (count s) (graph (words s))
 waits w sheet =
     let f = (keeping w).before in
     let found = (passing f).sort.ensures sheet.0 sheet.1 in
-    w.waits_for_itself.ensures (record { shape = sheet.0; anchors = found.found (not-false _ (passing f).if-not-sort.false); passes = passed f sheet })
+    w.waits_for_itself.ensures (record { shape = sheet.0; anchors = found.found (passing f).if-not-sort.false; passes = passed f sheet })
 
 sort-requires : tie.Need-sort-requires
 sort-requires c κs = search rules
 
 returns-then-not-sort : tie.Need-returns-then-not-sort
-returns-then-not-sort c shape entered = sym (possible_refused _ _ 8 (first_refused _ _ _ (sorting_order _ _ (c.sort.ensures shape entered) (not-true _ c.if-not-sort.true))))
+returns-then-not-sort c shape entered = sym (possible_refused _ _ 8 (first_refused _ _ _ (sorting_order _ _ (c.sort.ensures shape entered) c.if-not-sort.true)))
 
 feasible-requires : tie.Need-feasible-requires
 feasible-requires c κs = search rules
@@ -66,7 +65,7 @@ returns-then-not-feasible : tie.Need-returns-then-not-feasible
 returns-then-not-feasible c shape entered =
     let f = c.before in
     let sheet : Sheet (passing f).before = (shape, entered) in
-    sym (possible_refused _ _ 10 (first_10 _ _ (passed f sheet) (sym (settles f sheet) ∙ not-true _ c.if-not-feasible.true)))
+    sym (possible_refused _ _ 10 (first_10 _ _ (passed f sheet) (sym (settles f sheet) ∙ c.if-not-feasible.true)))
 
 waits_for_itself-requires : tie.Need-waits_for_itself-requires
 waits_for_itself-requires c κs = search rules

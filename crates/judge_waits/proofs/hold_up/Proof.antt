@@ -5,16 +5,6 @@ use borrow.Author.Rules.{rules}
 use Rattle.judge_waits.proofs.hold_up.Statement.{statement}
 use Rattle.judge_waits.proofs.hold_up.Tie as tie
 
--- Places: from where the map is made, those that may use the edge; from there its ends; from there the start.
-abbrev users : tie.After-union-map → tie.After-usable_by-users
-users s = s.before.before.before.before
-
-abbrev ends : tie.After-usable_by-users → tie.After-edge_to-i
-ends s = s.before.before
-
-abbrev start : tie.After-edge_to-i → tie.Start
-start s = s.before.before
-
 edge_from-j-requires : tie.Need-edge_from-j-requires
 edge_from-j-requires c κs = search rules
 
@@ -56,10 +46,8 @@ bounds-maps-i-2 c = search rules
 
 returns : tie.Need-returns
 returns c =
-    let e = ends (users c) in
-    let s = start e in
-    let to = e.edge_to-i.ensures in
-    held_store s.args.reach.now s.args.sets.now _ (unpack s.args.w) s.requires.0 _ _ _ _ _ to.0 to.1 e.edge_from-j.ensures.0 s.requires.1 (users c).usable_by-users.ensures c.minus-held.ensures c.union-map.ensures
+    let to = c.edge_to-i.ensures in
+    held_store c.args.reach.now c.args.sets.now _ (unpack c.args.w) c.requires.0 _ _ _ _ _ to.0 to.1 c.edge_from-j.ensures.0 c.requires.1 c.usable_by-users.ensures c.minus-held.ensures c.union-map.ensures
 
 pub hold_up_spec : {M : Type 1} → statement M
 hold_up_spec =

@@ -1,7 +1,7 @@
 -- `order_forward::draw` meets its contract. Invariant: the rows of the first k places of the order are done. What falls is the number of the others.
 use borrow.Author.Rules.{rules}
 use native.Mathlib.Omega.{arith}
-use mathlib.Core.Path.{◌≡◌, ◌∙◌}
+use mathlib.Core.Path.{◌≡◌}
 use Prim.Native.Nat.{◌-◌, ◌<◌}
 use lib.ListN.{get_or}
 use Rattle.order_steps.specs.Orders.{Ordered}
@@ -14,13 +14,6 @@ invariant-loop-k before order n rows₀ k₀ rows k = (O : Ordered n before orde
 
 abbrev decreases-loop-k : tie.decreases-loop-k
 decreases-loop-k before order n rows₀ k₀ rows k = n - k
-
--- Places: the step at place k, from where its row is gathered; the turn.
-abbrev placed : tie.After-gather-row invariant-loop-k decreases-loop-k → tie.After-place-u invariant-loop-k decreases-loop-k
-placed s = s.before.before.before.before
-
-abbrev turn : tie.After-gather-row invariant-loop-k decreases-loop-k → tie.At-loop-k invariant-loop-k decreases-loop-k
-turn s = (placed s).before.before.before
 
 loop-k-init : tie.Need-loop-k-init invariant-loop-k decreases-loop-k
 loop-k-init c = (c.requires.ordered, drawing_start c.requires.ordered _ c.requires.long)
@@ -60,12 +53,11 @@ loop-k-smaller c = search rules
 
 loop-k-preserved : tie.Need-loop-k-preserved invariant-loop-k decreases-loop-k
 loop-k-preserved c =
-    let t = turn c in
-    let O = t.loop-k.invariant.0 in
-    let p = (placed c).place-u in
-    let inside : t.loop-k.k < t.args.n = search rules in
-    let at : p.result ≡ get_or t.args.order.now t.loop-k.k 0 = omega (arith, p.ensures.0, O.filled t.loop-k.k inside, t.requires.few) in
-    (O, drawing_more O _ t.requires.few t.loop-k.k t.loop-k.rows t.loop-k.invariant.1 inside p.result c.gather-row.result at c.gather-row.ensures)
+    let O = c.loop-k.invariant.0 in
+    let p = c.place-u in
+    let inside : c.loop-k.k < c.args.n = search rules in
+    let at : p.result ≡ get_or c.args.order.now c.loop-k.k 0 = omega (arith, p.ensures.0, O.filled c.loop-k.k inside, c.requires.few) in
+    (O, drawing_more O _ c.requires.few c.loop-k.k c.loop-k.rows c.loop-k.invariant.1 inside p.result c.gather-row.result at c.gather-row.ensures)
 
 returns : tie.Need-returns invariant-loop-k decreases-loop-k
 returns c = let i = c.loop-k.invariant in drawing_end i.0 _ _ _ (search rules) i.1

@@ -1,7 +1,7 @@
 -- `order_forward::gather` meets its contract. Invariant: what is gathered, with the rows of the steps that are left, stays the same. What falls is the map of these.
 use borrow.Author.Rules.{rules}
 use native.Mathlib.Omega.{arith}
-use mathlib.Core.Path.{◌≡◌, refl, sym, ◌∙◌}
+use mathlib.Core.Path.{◌≡◌, refl, ◌∙◌}
 use Prim.Native.Nat.{ℕ}
 use Rattle.laws.proofs.Maps.{removed_lt}
 use Rattle.order_forward.proofs.Drawing.{gather_all, gather_more, with_rows}
@@ -13,13 +13,6 @@ invariant-loop-left rows own steps all₀ left₀ all left = (a : ℕ) → with_
 
 abbrev decreases-loop-left : tie.decreases-loop-left
 decreases-loop-left rows own steps all₀ left₀ all left = left
-
--- Places: the lowest step that is left, from where its row was taken in; the turn.
-abbrev lowest : tie.After-union-all invariant-loop-left decreases-loop-left → tie.After-lowest-u invariant-loop-left decreases-loop-left
-lowest s = s.before.before
-
-abbrev turn : tie.After-union-all invariant-loop-left decreases-loop-left → tie.At-loop-left invariant-loop-left decreases-loop-left
-turn s = (lowest s).before.before
 
 loop-left-init : tie.Need-loop-left-init invariant-loop-left decreases-loop-left
 loop-left-init c a = refl
@@ -41,18 +34,17 @@ without_lowest-left-requires c κs = omega arith
 
 loop-left-smaller : tie.Need-loop-left-smaller invariant-loop-left decreases-loop-left
 loop-left-smaller c =
-    let u = (lowest c.before).lowest-u in
+    let u = c.lowest-u in
     removed_lt _ _ _ u.ensures.member (c.without_lowest-left.ensures _ u.ensures)
 
 loop-left-preserved : tie.Need-loop-left-preserved invariant-loop-left decreases-loop-left
 loop-left-preserved c a =
-    let s = c.before in
-    let u = (lowest s).lowest-u in
-    gather_more (turn s).args.rows.now _ _ _ _ u.result a u.ensures.below u.ensures.member (c.without_lowest-left.ensures _ u.ensures) s.union-all.ensures
-    ∙ (turn s).loop-left.invariant a
+    let u = c.lowest-u in
+    gather_more c.args.rows.now _ _ _ _ u.result a u.ensures.below u.ensures.member (c.without_lowest-left.ensures _ u.ensures) c.union-all.ensures
+    ∙ c.loop-left.invariant a
 
 returns : tie.Need-returns invariant-loop-left decreases-loop-left
-returns c a = gather_all c.args.rows.now _ c.loop-left.false a (omega arith) ∙ c.loop-left.invariant a
+returns c a = gather_all c.args.rows.now _ c.loop-left.left a (omega arith) ∙ c.loop-left.invariant a
 
 pub gather_spec : {M : Type 1} → statement M
 gather_spec =

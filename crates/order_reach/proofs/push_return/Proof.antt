@@ -5,13 +5,6 @@ use borrow.Author.Rules.{rules}
 use Rattle.order_reach.proofs.push_return.Statement.{statement}
 use Rattle.order_reach.proofs.push_return.Tie as tie
 
--- Places: from where the row is joined, the edge's ends; from there, the start.
-abbrev ends : tie.After-join → tie.After-edge_to-to
-ends s = s.before.before.before.before
-
-abbrev start : tie.After-edge_to-to → tie.Start
-start s = s.before.before
-
 edge_from-from-requires : tie.Need-edge_from-from-requires
 edge_from-from-requires c κs = search rules
 
@@ -32,9 +25,7 @@ join-requires c κs = search rules
 
 returns : tie.Need-returns
 returns c =
-    let e = ends c in
-    let s = start e in
-    returned_by (unpack s.args.w) _ _ _ _ _ _ _ e.edge_from-from.ensures.0 e.edge_to-to.ensures.0 s.requires.1 c.usable_by-h.ensures c.join.ensures
+    returned_by (unpack c.args.w) _ _ _ _ _ _ _ c.edge_from-from.ensures.0 c.edge_to-to.ensures.0 c.requires.1 c.usable_by-h.ensures c.join.ensures
 
 pub push_return_spec : {M : Type 1} → statement M
 push_return_spec =

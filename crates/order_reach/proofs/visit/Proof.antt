@@ -1,7 +1,6 @@
 -- `order_reach::visit` meets its contract.
 use borrow.Author.Rules.{rules}
 use mathlib.Core.Path.{sym, ◌∙◌}
-use borrow.Author.Tests.{not-true}
 use Rattle.order_reach.proofs.Passing.{visited, visited_idle}
 use Rattle.order_reach.proofs.visit.Statement.{statement}
 use Rattle.order_reach.proofs.visit.Tie as tie
@@ -10,7 +9,7 @@ has-requires : tie.Need-has-requires
 has-requires c κs = search rules
 
 returns-then-not-has : tie.Need-returns-then-not-has
-returns-then-not-has c = visited_idle _ c.requires.1.long (sym c.has.ensures ∙ not-true _ c.if-not-has.true)
+returns-then-not-has c = visited_idle _ c.requires.1.long (sym c.has.ensures ∙ c.if-not-has.true)
 
 remove-rest-requires : tie.Need-remove-rest-requires
 remove-rest-requires c κs = search rules

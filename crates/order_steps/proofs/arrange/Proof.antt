@@ -2,7 +2,6 @@
 use borrow.Author.Rules.{rules}
 use native.Mathlib.Omega.{arith}
 use Prim.Native.Nat.{◌-◌}
-use borrow.Author.Tests.{eqb-true, eqb-false}
 use Rattle.order_steps.specs.Orders.{Placing}
 use Rattle.order_steps.proofs.Placing.{placing_all, placing_none, placing_stuck}
 use Rattle.order_steps.proofs.arrange.Statement.{statement}

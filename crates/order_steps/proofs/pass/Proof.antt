@@ -12,13 +12,6 @@ invariant-loop-rest rows n order₀ after₀ rest₀ order after rest = Passing 
 abbrev decreases-loop-rest : tie.decreases-loop-rest
 decreases-loop-rest rows n order₀ after₀ rest₀ order after rest = rest
 
--- Places: the lowest step that is still to be tried, and the turn that it is tried in.
-abbrev lowest : tie.After-place-arg-in-loop-rest-1 invariant-loop-rest decreases-loop-rest → tie.After-lowest-u invariant-loop-rest decreases-loop-rest
-lowest s = s.before.before
-
-abbrev turn : tie.After-place-arg-in-loop-rest-1 invariant-loop-rest decreases-loop-rest → tie.At-loop-rest invariant-loop-rest decreases-loop-rest
-turn s = (lowest s).before.before
-
 loop-rest-init : tie.Need-loop-rest-init invariant-loop-rest decreases-loop-rest
 loop-rest-init c = passing_start c.requires.1
 
@@ -33,24 +26,23 @@ bounds-rows-u c = search rules
 
 place-after-requires : tie.Need-place-after-requires invariant-loop-rest decreases-loop-rest
 place-after-requires c κs =
-    let u = (lowest c).lowest-u in
-    let P = (turn c).loop-rest.invariant in
+    let u = c.lowest-u in
+    let P = c.loop-rest.invariant in
     let room = placing_room u.result P.placing (P.untried u.result u.ensures.member) in
-    record { long = P.placing.long; step = u.ensures.below; place = omega (arith, room, (turn c).requires.0) }
+    record { long = P.placing.long; step = u.ensures.below; place = omega (arith, room, c.requires.0) }
 
 without_lowest-rest-requires : tie.Need-without_lowest-rest-requires invariant-loop-rest decreases-loop-rest
 without_lowest-rest-requires c κs = omega arith
 
 loop-rest-smaller : tie.Need-loop-rest-smaller invariant-loop-rest decreases-loop-rest
 loop-rest-smaller c =
-    let u = (lowest c.before.before).lowest-u in
+    let u = c.lowest-u in
     removed_lt _ _ _ u.ensures.member (c.without_lowest-rest.ensures _ u.ensures)
 
 loop-rest-preserved : tie.Need-loop-rest-preserved invariant-loop-rest decreases-loop-rest
 loop-rest-preserved c =
-    let s = c.before.before in
-    let u = (lowest s).lowest-u in
-    passing_more u.result c.without_lowest-rest.result (turn s).requires.0 (turn s).loop-rest.invariant u.ensures.member (c.without_lowest-rest.ensures _ u.ensures) c.place-after.ensures
+    let u = c.lowest-u in
+    passing_more u.result c.without_lowest-rest.result c.requires.0 c.loop-rest.invariant u.ensures.member (c.without_lowest-rest.ensures _ u.ensures) c.place-after.ensures
 
 returns : tie.Need-returns invariant-loop-rest decreases-loop-rest
 returns c = passing_end (omega arith) c.loop-rest.invariant

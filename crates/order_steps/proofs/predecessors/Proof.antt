@@ -17,21 +17,10 @@ invariant-loop-i es before₀ counted₀ i₀ before counted i = (i ≤ length e
 abbrev decreases-loop-i : tie.decreases-loop-i
 decreases-loop-i es before₀ counted₀ i₀ before counted i = length es - i
 
--- Places: from where both bits of an edge are put in, the first of them; from there, the edge and the turn.
-abbrev first : tie.After-insert_if-anchors invariant-loop-i decreases-loop-i → tie.After-insert_if-row invariant-loop-i decreases-loop-i
-first s = s.before.before.before
-
-abbrev edge : tie.After-insert_if-row invariant-loop-i decreases-loop-i → tie.After-is_back-forward invariant-loop-i decreases-loop-i
-edge s = s.before.before
-
-abbrev turn : tie.After-is_back-forward invariant-loop-i decreases-loop-i → tie.At-loop-i invariant-loop-i decreases-loop-i
-turn s = s.before.before.before.before.before
-
 loop-i-init : tie.Need-loop-i-init invariant-loop-i decreases-loop-i
 unfolding graph
 loop-i-init c =
-    let b = c.before in
-    (omega arith, rw b.requires.0 (pass_none precedes unpack b.args.es.now), rw b.requires.1 (pass_none counts_into unpack b.args.es.now))
+    (omega arith, rw c.requires.0 (pass_none precedes unpack c.args.es.now), rw c.requires.1 (pass_none counts_into unpack c.args.es.now))
 
 offset_bounds-es-i : tie.Need-offset_bounds-es-i invariant-loop-i decreases-loop-i
 offset_bounds-es-i c = search rules
@@ -90,24 +79,21 @@ loop-i-smaller c = search rules
 loop-i-preserved : tie.Need-loop-i-preserved invariant-loop-i decreases-loop-i
 unfolding graph
 loop-i-preserved c =
-    let b = edge (first c) in
-    let t = turn b in
-    let es = t.args.es.now in
-    let to = b.edge_to-v.ensures in
-    let from = b.edge_from-u.ensures in
-    let inside : t.loop-i.i < length es = search rules in (
+    let es = c.args.es.now in
+    let to = c.edge_to-v.ensures in
+    let from = c.edge_from-u.ensures in
+    let inside : c.loop-i.i < length es = search rules in (
       omega arith,
-      relate_more (λ e. e.to) (λ e. e.from) (λ e. not e.back) unpack es t.loop-i.i 0 (first c).insert_if-row.result inside t.loop-i.invariant.1 to.0 to.1 from.0 (ap not b.is_back-forward.ensures) (first c).insert_if-row.ensures,
-      relate_more (λ e. e.to) (λ e. e.from) (λ e. e.counted) unpack es t.loop-i.i 0 c.insert_if-anchors.result inside t.loop-i.invariant.2 to.0 to.1 from.0 c.is_counted-counts.ensures c.insert_if-anchors.ensures,
+      relate_more (λ e. e.to) (λ e. e.from) (λ e. not e.back) unpack es c.loop-i.i 0 c.insert_if-row.result inside c.loop-i.invariant.1 to.0 to.1 from.0 (ap not c.is_back-forward.ensures) c.insert_if-row.ensures,
+      relate_more (λ e. e.to) (λ e. e.from) (λ e. e.counted) unpack es c.loop-i.i 0 c.insert_if-anchors.result inside c.loop-i.invariant.2 to.0 to.1 from.0 c.is_counted-counts.ensures c.insert_if-anchors.ensures,
     )
 
 returns : tie.Need-returns invariant-loop-i decreases-loop-i
 unfolding graph
 returns c =
-    let t = c.before in
-    let es = t.args.es.now in
-    let over : length es ≤ t.loop-i.i = search rules in
-    (pass_all precedes unpack es t.loop-i.i over t.loop-i.invariant.1, pass_all counts_into unpack es t.loop-i.i over t.loop-i.invariant.2)
+    let es = c.args.es.now in
+    let over : length es ≤ c.loop-i.i = search rules in
+    (pass_all precedes unpack es c.loop-i.i over c.loop-i.invariant.1, pass_all counts_into unpack es c.loop-i.i over c.loop-i.invariant.2)
 
 pub predecessors_spec : {M : Type 1} → statement M
 predecessors_spec =

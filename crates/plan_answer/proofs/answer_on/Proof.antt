@@ -3,7 +3,6 @@ use borrow.Author.Rules.{rules}
 use native.Mathlib.Omega.{arith}
 use mathlib.Core.Path.{◌≡◌, sym, ◌∙◌}
 use mathlib.Core.Bool.{true}
-use borrow.Author.Tests.{not-true, not-false}
 use Rattle.definitions.specs.Numbers.{verdict_of}
 use Rattle.walk_heaviest.proofs.Bare.{blank_found}
 use Rattle.plan_deciding.proofs.Laws.{member_below}
@@ -23,7 +22,7 @@ abbrev check : tie.Else-not-accepted → tie.After-checked-verdict
 check s = s.before.before
 
 accepts : (s : tie.Else-not-accepted) → is_given (verdict_of (check s).checked-verdict.result) ≡ true
-accepts s = sym s.accepted.ensures ∙ not-false _ s.if-not-accepted.false
+accepts s = sym s.accepted.ensures ∙ s.if-not-accepted.false
 
 tabulate-found-requires : tie.Need-tabulate-found-requires
 tabulate-found-requires c κs =
@@ -45,7 +44,7 @@ returns-then-not-accepted c os o =
     let args = (start (tabulated k)).args in
     let listed = (tabulated k).tabulate-found.ensures.listed in
     let checks = k.checked-verdict.ensures.checks os o in
-    let no = sym c.accepted.ensures ∙ not-true _ c.if-not-accepted.true in
+    let no = sym c.accepted.ensures ∙ c.if-not-accepted.true in
     record {
       verdict = outcome_of args.question _ _ _ args.allow os args.list.now args.out.now listed.judges checks;
       numbers = refused_stays args.question _ _ _ args.allow os args.list.now args.out.now listed.judges checks no;

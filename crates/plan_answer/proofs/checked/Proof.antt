@@ -2,7 +2,6 @@
 use borrow.Author.Rules.{rules}
 use mathlib.Core.Path.{◌≡◌, sym, ◌∙◌}
 use mathlib.Core.Bool.{true, false≢true}
-use borrow.Author.Tests.{not-true, not-false}
 use Rattle.definitions.specs.Numbers.{verdict_of}
 use Rattle.laws.proofs.Bools.{both_ways}
 use Rattle.data_numbers.specs.Codes.{is_given}
@@ -16,14 +15,14 @@ start s = s.before.before
 
 -- Past the first test the verdict accepts.
 accepts : (s : tie.Else-not-accepted) → is_given (verdict_of (start s.before).args.verdict) ≡ true
-accepts s = sym s.accepted.ensures ∙ not-false _ s.if-not-accepted.false
+accepts s = sym s.accepted.ensures ∙ s.if-not-accepted.false
 
 accepted-requires : tie.Need-accepted-requires
 accepted-requires c κs = search rules
 
 returns-then-not-accepted : tie.Need-returns-then-not-accepted
 returns-then-not-accepted c =
-    let no = sym c.accepted.ensures ∙ not-true _ c.if-not-accepted.true in
+    let no = sym c.accepted.ensures ∙ c.if-not-accepted.true in
     record { checks = λ os o. sym (when_refused _ _ no); accepted = λ h. h; fits = λ h. absurd (both_ways h no) }
 
 wrong_list-requires : tie.Need-wrong_list-requires

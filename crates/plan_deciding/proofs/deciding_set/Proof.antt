@@ -59,7 +59,7 @@ loop-left-preserved c =
     )
 
 returns : tie.Need-returns invariant-loop-left decreases-loop-left
-returns c T a = sym (all_left_out _ _ _ T _ c.loop-left.false _ (omega arith)) ∙ (c.loop-left.invariant.1 T).same a
+returns c T a = sym (all_left_out _ _ _ T _ c.loop-left.left _ (omega arith)) ∙ (c.loop-left.invariant.1 T).same a
 
 pub deciding_set_spec : {M : Type 1} → statement M
 deciding_set_spec =

@@ -47,7 +47,7 @@ loop-left-preserved c =
     )
 
 returns : tie.Need-returns invariant-loop-left decreases-loop-left
-returns c p f g a = sym (all_compared _ _ _ _ c.loop-left.false _ (omega arith)) ∙ c.loop-left.invariant.1 p f g a
+returns c p f g a = sym (all_compared _ _ _ _ c.loop-left.left _ (omega arith)) ∙ c.loop-left.invariant.1 p f g a
 
 pub without_reached_spec : {M : Type 1} → statement M
 without_reached_spec =

@@ -18,17 +18,12 @@ invariant-loop-i list unbounded leasts n i₀ i = (i ≤ n) × (any_below (entry
 abbrev decreases-loop-i : tie.decreases-loop-i
 decreases-loop-i list unbounded leasts n i₀ i = n - i
 
--- A place: the top of the loop, from where an entry has been judged.
-abbrev top : tie.After-delay_bad invariant-loop-i decreases-loop-i → tie.At-loop-i invariant-loop-i decreases-loop-i
-top s = s.before.before.before.before.before
-
 loop-i-init : tie.Need-loop-i-init invariant-loop-i decreases-loop-i
 loop-i-init c = (omega arith, any_below_nothing _)
 
 returns-then-list-i : tie.Need-returns-then-list-i invariant-loop-i decreases-loop-i
 returns-then-list-i c =
-    let s = c.before.before in
-    judged (sym (none_outside _ _ _ s.loop-i.i _ (omega arith) s.loop-i.invariant.1))
+    judged (sym (none_outside _ _ _ c.loop-i.i _ (omega arith) c.loop-i.invariant.1))
 
 offset_bounds-list-i : tie.Need-offset_bounds-list-i invariant-loop-i decreases-loop-i
 offset_bounds-list-i c = search rules
@@ -47,10 +42,9 @@ delay_bad-requires c κs = search rules
 
 returns-then-delay_bad : tie.Need-returns-then-delay_bad invariant-loop-i decreases-loop-i
 returns-then-delay_bad c =
-    let s = top c.before in
     judged
     (sym
-    (any_below_by _ _ {k = s.loop-i.i} (omega arith) (outside_there _ _ _ _ _ (omega arith) (sym c.delay_bad.ensures ∙ c.if-delay_bad.true))))
+    (any_below_by _ _ {k = c.loop-i.i} (omega arith) (outside_there _ _ _ _ _ (omega arith) (sym c.delay_bad.ensures ∙ c.if-delay_bad.true))))
 
 overflow_add-i : tie.Need-overflow_add-i invariant-loop-i decreases-loop-i
 overflow_add-i c = search rules
@@ -60,8 +54,7 @@ loop-i-smaller c = search rules
 
 loop-i-preserved : tie.Need-loop-i-preserved invariant-loop-i decreases-loop-i
 loop-i-preserved c =
-    let s = top c.before in
-    (omega arith, any_below_more _ _ s.loop-i.invariant.1 (outside_there _ _ _ _ _ (omega arith) (sym c.delay_bad.ensures ∙ c.if-delay_bad.false)))
+    (omega arith, any_below_more _ _ c.loop-i.invariant.1 (outside_there _ _ _ _ _ (omega arith) (sym c.delay_bad.ensures ∙ c.if-delay_bad.false)))
 
 returns : tie.Need-returns invariant-loop-i decreases-loop-i
 returns c =

@@ -27,7 +27,7 @@ lowest-a-requires c κs = omega arith
 returns-then-n-a : tie.Need-returns-then-n-a invariant-loop-left decreases-loop-left
 returns-then-n-a c =
     let least = c.before in
-    sym (all_taken _ _ _ _ _ _ _ least.loop-left.false (λ k b. least.lowest-a.ensures.least k (omega arith))) ∙ least.loop-left.invariant
+    sym (all_taken _ _ _ _ _ _ _ least.loop-left.left (λ k b. least.lowest-a.ensures.least k (omega arith))) ∙ least.loop-left.invariant
 
 term_of-x-requires : tie.Need-term_of-x-requires invariant-loop-left decreases-loop-left
 term_of-x-requires c κs = record { row = c.requires.0; column = c.lowest-a.ensures.below; entered = omega arith }
@@ -49,8 +49,8 @@ loop-left-preserved c =
 
 returns : tie.Need-returns invariant-loop-left decreases-loop-left
 returns c =
-    let none : (k : ℕ) → test_bit c.loop-left.false k ≡ false = λ k. ap (λ (x : ℕ). test_bit x k) (omega arith) ∙ test_zero k in
-    sym (all_taken _ _ _ _ _ _ _ c.loop-left.false (λ k b. none k)) ∙ c.loop-left.invariant
+    let none : (k : ℕ) → test_bit c.loop-left.left k ≡ false = λ k. ap (λ (x : ℕ). test_bit x k) (omega arith) ∙ test_zero k in
+    sym (all_taken _ _ _ _ _ _ _ c.loop-left.left (λ k b. none k)) ∙ c.loop-left.invariant
 
 pub latest_spec : {M : Type 1} → statement M
 latest_spec =

@@ -37,7 +37,7 @@ loop-v-smaller c = search rules
 loop-v-preserved : tie.Need-loop-v-preserved invariant-loop-v decreases-loop-v
 loop-v-preserved c =
     let s = c.before.before in
-    (omega arith, simp length-set s.loop-v.invariant.1, laid_more _ s.loop-v.v (replicate 64 0) s.loop-v.row c.start_of_lem.result 0 (omega arith) s.loop-v.invariant.2 c.start_of_lem.ensures)
+    (omega arith, simp length-set s.loop-v.invariant.1, laid_more _ s.loop-v.v (replicate 64 0) s.loop-v.row c.start_of-x.result 0 (omega arith) s.loop-v.invariant.2 c.start_of-x.ensures)
 
 returns : tie.Need-returns invariant-loop-v decreases-loop-v
 unfolding next_row

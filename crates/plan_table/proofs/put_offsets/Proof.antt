@@ -27,7 +27,7 @@ lowest-a-requires : tie.Need-lowest-a-requires invariant-loop-left decreases-loo
 lowest-a-requires c κs = omega arith
 
 offset_at-x-requires : tie.Need-offset_at-x-requires invariant-loop-left decreases-loop-left
-offset_at-x-requires c κs = (c.requires.0, c.lowest-a.ensures.below-first)
+offset_at-x-requires c κs = (c.requires.0, c.lowest-a.ensures.below)
 
 offset_bounds-row-a : tie.Need-offset_bounds-row-a invariant-loop-left decreases-loop-left
 offset_bounds-row-a c = search rules

@@ -2,7 +2,6 @@
 use borrow.Author.Rules.{rules}
 use native.Mathlib.Omega.{arith}
 use mathlib.Core.Path.{sym, ◌∙◌}
-use borrow.Author.Tests.{not-true}
 use Rattle.laws.proofs.Bools.{both_ways}
 use Rattle.walk_cells.specs.Tables.{read_by}
 use Rattle.walk_cells.proofs.Tables.{square_own}
@@ -27,7 +26,7 @@ feasible-requires c κs = let p = (start c.before).requires.0 in record { some =
 returns-then-not-accepted : tie.Need-returns-then-not-accepted
 returns-then-not-accepted c =
     let s = c.before.before in
-    let no = sym s.accepted.ensures ∙ not-true _ c.if-not-accepted.true in
+    let no = sym s.accepted.ensures ∙ c.if-not-accepted.true in
     (λ rooted long. c.feasible.ensures (start s).requires.0.sheet.formed.shape rooted, λ h k p. absurd (both_ways k no))
 
 add_source-requires : tie.Need-add_source-requires

@@ -2,7 +2,6 @@
 use borrow.Author.Rules.{rules}
 use mathlib.Core.Path.{◌≡◌, refl, sym, ◌∙◌}
 use mathlib.Core.Bool.{true, false, false≢true}
-use borrow.Author.Tests.{not-true, not-false}
 use Rattle.data_edges.specs.Words.{graph}
 use Rattle.laws.proofs.Bools.{both_ways}
 use Rattle.plan_walks.specs.Tables.{feasible}
@@ -26,7 +25,7 @@ told s =
     let a = analysed (sorted s) in
     let sheet = (start a).requires.0.sheet in
     let presumed = a.judge_assuming_feasible-found.ensures sheet.formed in
-    let passes = not-false _ (sorted s).if-not-found.false in
+    let passes = (sorted s).if-not-found.false in
     s.fill.ensures.0 (sorted_rooted presumed sheet.some sheet.formed passes) (presumed.long passes)
 
 judge_assuming_feasible-found-requires : tie.Need-judge_assuming_feasible-found-requires
@@ -39,7 +38,7 @@ returns-then-not-found c =
     let a = c.before.before in
     let sheet = (start a).requires.0.sheet in
     let presumed = a.judge_assuming_feasible-found.ensures sheet.formed in
-    let unsorted = not-true _ c.if-not-found.true in
+    let unsorted = c.if-not-found.true in
     record { listed = presumed.unsorted unsorted; held = λ h. absurd (both_ways h (unsorted_refused presumed unsorted)) }
 
 fill-requires : tie.Need-fill-requires
@@ -54,7 +53,7 @@ returns-then-fill c =
     let a = analysed (sorted f) in
     let sheet = (start a).requires.0.sheet in
     let presumed = a.judge_assuming_feasible-found.ensures sheet.formed in
-    let passes = not-false _ (sorted f).if-not-found.false in
+    let passes = (sorted f).if-not-found.false in
     let possible = sym (told f) ∙ c.if-fill.true in
     record {
       listed = feasible_listed presumed passes possible;
@@ -71,7 +70,7 @@ returns c =
     let sheet = (start a).requires.0.sheet in
     let presumed = a.judge_assuming_feasible-found.ensures sheet.formed in
     let impossible = sym (told f) ∙ c.if-fill.false in
-    record { listed = infeasible_listed presumed (not-false _ (sorted f).if-not-found.false) impossible refl; held = λ h. absurd (false≢true h) }
+    record { listed = infeasible_listed presumed (sorted f).if-not-found.false impossible refl; held = λ h. absurd (false≢true h) }
 
 pub tabulate_spec : {M : Type 1} → statement M
 tabulate_spec =
