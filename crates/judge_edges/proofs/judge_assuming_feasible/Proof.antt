@@ -6,10 +6,6 @@ use borrow.Author.Rules.{rules}
 use Rattle.judge_edges.proofs.judge_assuming_feasible.Statement.{statement}
 use Rattle.judge_edges.proofs.judge_assuming_feasible.Tie as tie
 
--- The start, from where the steps are sorted.
-abbrev start : tie.After-sort → tie.Start
-start s = s.before.before.before.before.before
-
 sort-requires : tie.Need-sort-requires
 sort-requires c κs = search rules
 
@@ -19,17 +15,15 @@ refused-requires c κs = search rules
 returns-then-not-sort : tie.Need-returns-then-not-sort
 returns-then-not-sort c sheet =
     let u = c.refused.ensures in
-    let s = c.before.before in
-    presumed_refused _ _ _ _ _ _ _ _ _ 8 (sorting_order _ _ (s.sort.ensures sheet.shape sheet.entered) c.if-not-sort.true) u.1.sorts (ap verdict_of u.0) (start s).requires.1.rows.no_maps u.1.none
+    presumed_refused _ _ _ _ _ _ _ _ _ 8 (sorting_order _ _ (c.sort.ensures sheet.shape sheet.entered) c.if-not-sort.true) u.1.sorts (ap verdict_of u.0) c.requires.1.rows.no_maps u.1.none
 
 serialize-requires : tie.Need-serialize-requires
 serialize-requires c κs = search rules
 
 returns : tie.Need-returns
 returns c sheet =
-    let f = c.before.before.before.before.before in
-    let s = f.sort.ensures sheet.shape sheet.entered in
-    let passes = f.if-not-sort.false in
+    let s = c.sort.ensures sheet.shape sheet.entered in
+    let passes = c.if-not-sort.false in
     let passed = sorting_order _ _ s passes in
     presumed_rest _ _ _ _ _ _ _ _ _ passed c.serialize.ensures.0 (c.serialize.ensures.1 (record { sheet = sheet; anchors = s.found passes; passes = passed }))
 

@@ -6,16 +6,6 @@ use borrow.Author.Rules.{rules}
 use Rattle.judge_edges.proofs.judge_edges.Statement.{statement}
 use Rattle.judge_edges.proofs.judge_edges.Tie as tie
 
--- Places: the start, from where the steps are sorted; that they pass, from where they were tested for 10, which is where the steps were sorted.
-abbrev start : tie.After-sort → tie.Start
-start s = s.before.before.before.before.before
-
-abbrev passing : tie.After-feasible → tie.Else-not-sort
-passing s = s.before.before
-
-abbrev sorted : tie.Else-not-sort → tie.After-sort
-sorted s = s.before
-
 sort-requires : tie.Need-sort-requires
 sort-requires c κs = search rules
 
@@ -25,8 +15,7 @@ refused-requires c κs = search rules
 returns-then-not-sort : tie.Need-returns-then-not-sort
 returns-then-not-sort c sheet =
     let u = c.refused.ensures in
-    let s = c.before.before in
-    edges_refuse _ _ _ _ _ _ _ 8 (first_refused _ _ _ (sorting_order _ _ (s.sort.ensures sheet.shape sheet.entered) c.if-not-sort.true)) (ap verdict_of u.0) (start s).requires.1 u.1.none
+    edges_refuse _ _ _ _ _ _ _ 8 (first_refused _ _ _ (sorting_order _ _ (c.sort.ensures sheet.shape sheet.entered) c.if-not-sort.true)) (ap verdict_of u.0) c.requires.1 u.1.none
 
 feasible-requires : tie.Need-feasible-requires
 feasible-requires c κs = search rules
@@ -36,12 +25,10 @@ refused-requires-then-not-feasible c κs = search rules
 
 returns-then-not-feasible : tie.Need-returns-then-not-feasible
 returns-then-not-feasible c sheet =
-    let f = c.before.before in
-    let s = sorted (passing f) in
-    let p = (start s).requires in
+    let p = c.requires in
     let u = c.refused-then-not-feasible.ensures in
-    let passed = sorting_order _ _ (s.sort.ensures sheet.shape sheet.entered) (passing f).if-not-sort.false in
-    let settles = f.feasible.ensures sheet.shape (all_rooted _ _ passed p.0.some sheet.shape sheet.entered) in
+    let passed = sorting_order _ _ (c.sort.ensures sheet.shape sheet.entered) c.if-not-sort.false in
+    let settles = c.feasible.ensures sheet.shape (all_rooted _ _ passed p.0.some sheet.shape sheet.entered) in
     edges_refuse _ _ _ _ _ _ _ 10 (first_10 _ _ passed (sym settles ∙ c.if-not-feasible.true)) (ap verdict_of u.0) p.1 u.1.none
 
 serialize-requires : tie.Need-serialize-requires
@@ -49,14 +36,11 @@ serialize-requires c κs = search rules
 
 returns : tie.Need-returns
 returns c sheet =
-    let t = c.before.before.before.before.before in
-    let f = t.before in
-    let s = sorted (passing f) in
-    let passes = (passing f).if-not-sort.false in
-    let found = s.sort.ensures sheet.shape sheet.entered in
+    let passes = c.if-not-sort.false in
+    let found = c.sort.ensures sheet.shape sheet.entered in
     let passed = sorting_order _ _ found passes in
-    let settles = f.feasible.ensures sheet.shape (all_rooted _ _ passed (start s).requires.0.some sheet.shape sheet.entered) in
-    let done = first_done _ _ passed (sym settles ∙ t.if-not-feasible.false) in
+    let settles = c.feasible.ensures sheet.shape (all_rooted _ _ passed c.requires.0.some sheet.shape sheet.entered) in
+    let done = first_done _ _ passed (sym settles ∙ c.if-not-feasible.false) in
     let unweighed = c.serialize.ensures.1 (record { sheet = sheet; anchors = found.found passes; passes = passed }) in
     edges_go_on _ _ _ _ _ _ _ done (unweighed.serialized done)
 

@@ -6,10 +6,6 @@ use borrow.Author.Rules.{rules}
 use Rattle.judge_edges.proofs.put_in.Statement.{statement}
 use Rattle.judge_edges.proofs.put_in.Tie as tie
 
--- The waits are counted, from where they are tried.
-abbrev tried : tie.After-waits_clash → tie.After-count_waits-count
-tried s = s.before.before
-
 count_waits-count-requires : tie.Need-count_waits-count-requires
 count_waits-count-requires c κs = search rules
 
@@ -22,10 +18,10 @@ refused-requires c κs = search rules
 returns-then-waits_clash : tie.Need-returns-then-waits_clash
 returns-then-waits_clash c =
     let u = c.refused.ensures in
-    let t = tried c.before.before.before in (
+    (
       u.1.sorts,
       λ w.
-          let count = t.count_waits-count.ensures.1 _ w.waits in
+          let count = c.count_waits-count.ensures.1 _ w.waits in
           serial_refused _ _ _ _ _ _ _ (sym (c.waits_clash.ensures w count) ∙ c.if-waits_clash.true) (ap verdict_of u.0) refl u.1.none,
     )
 
@@ -35,10 +31,10 @@ waits_counted-requires c κs = search rules
 returns : tie.Need-returns
 returns c =
     let f = c.waits_counted.ensures in
-    let t = tried c.before.before in (
+    (
       f.sorts,
       λ w.
-          let count = t.count_waits-count.ensures.1 _ w.waits in
+          let count = c.count_waits-count.ensures.1 _ w.waits in
           serial_found _ _ _ _ _ _ _ (sym (c.waits_clash.ensures w count) ∙ c.if-waits_clash.false) (f.judges _ _ count) w.waits (f.counts ∙ count),
     )
 

@@ -6,13 +6,6 @@ use borrow.Author.Rules.{rules}
 use Rattle.judge_edges.proofs.serialize.Statement.{statement}
 use Rattle.judge_edges.proofs.serialize.Tie as tie
 
--- Places: the start, from where it was found what reaches what; that, from where it was asked whether a step waits for its own end.
-abbrev start : tie.After-reach → tie.Start
-start s = s.before.before.before.before
-
-abbrev reached : tie.After-is_inconsistent → tie.After-reach
-reached s = s.before.before.before
-
 reach-requires : tie.Need-reach-requires
 reach-requires c κs = search rules
 
@@ -21,10 +14,9 @@ waits_counted-requires c κs = search rules
 
 returns-then-not-reach : tie.Need-returns-then-not-reach
 returns-then-not-reach c =
-    let r = c.before.before in
-    let p = (start r).requires in
+    let p = c.requires in
     let w = c.waits_counted.ensures in
-    (w.sorts, λ h. unweighed_posed _ _ _ _ _ _ _ h.sheet.shape (r.reach.ensures.0 h.anchors) p.0.some p.0.few h.sheet.entered h.anchors h.passes (r.reach.ensures.1 c.if-not-reach.true) p.1.no_maps w.counts (λ e. w.judges _ _ (sym w.counts ∙ e)))
+    (w.sorts, λ h. unweighed_posed _ _ _ _ _ _ _ h.sheet.shape (c.reach.ensures.0 h.anchors) p.0.some p.0.few h.sheet.entered h.anchors h.passes (c.reach.ensures.1 c.if-not-reach.true) p.1.no_maps w.counts (λ e. w.judges _ _ (sym w.counts ∙ e)))
 
 is_inconsistent-requires : tie.Need-is_inconsistent-requires
 is_inconsistent-requires c κs = search rules
@@ -35,13 +27,12 @@ refused-requires c κs = search rules
 returns-then-is_inconsistent : tie.Need-returns-then-is_inconsistent
 returns-then-is_inconsistent c =
     let u = c.refused.ensures in
-    let i = c.before.before in
-    let r = reached i in (
+    (
       u.1.sorts,
       λ h.
-          let R = r.reach.ensures.0 h.anchors in
-          let own = sym (i.is_inconsistent.ensures.1 _ (reached_reaches h.sheet.shape R)) ∙ c.if-is_inconsistent.true in
-          unweighed_11 _ _ _ _ _ _ _ h.sheet.shape R own (ap verdict_of u.0) (start r).requires.1.no_maps u.1.none,
+          let R = c.reach.ensures.0 h.anchors in
+          let own = sym (c.is_inconsistent.ensures.1 _ (reached_reaches h.sheet.shape R)) ∙ c.if-is_inconsistent.true in
+          unweighed_11 _ _ _ _ _ _ _ h.sheet.shape R own (ap verdict_of u.0) c.requires.1.no_maps u.1.none,
     )
 
 wait_maps-requires : tie.Need-wait_maps-requires
@@ -52,16 +43,14 @@ put_in-requires c κs = search rules
 
 returns : tie.Need-returns
 returns c =
-    let m = c.before.before in
-    let i = m.before.before.before.before in
-    let r = reached i in (
+    (
       c.put_in.ensures.0,
       λ h.
-          let R = r.reach.ensures.0 h.anchors in
+          let R = c.reach.ensures.0 h.anchors in
           let reaches = reached_reaches h.sheet.shape R in
-          let consistent = sym (i.is_inconsistent.ensures.1 _ reaches) ∙ m.if-is_inconsistent.false in
-          let maps = m.wait_maps.ensures.1 _ (record { shape = h.sheet.shape; reaches = reaches; anchors = h.anchors }) in
-          let some = (start r).requires.0.some in
+          let consistent = sym (c.is_inconsistent.ensures.1 _ reaches) ∙ c.if-is_inconsistent.false in
+          let maps = c.wait_maps.ensures.1 _ (record { shape = h.sheet.shape; reaches = reaches; anchors = h.anchors }) in
+          let some = c.requires.0.some in
           unweighed_rest _ _ _ _ _ _ _ h.sheet.shape R consistent (λ first.
           c.put_in.ensures.1 (record { well = passed_well _ _ some h.sheet.shape h.sheet.entered first consistent; acyclic = order_acyclic _ _ h.passes some h.sheet.shape; gains = h.sheet.gains; leasts = h.sheet.leasts; waits = maps })),
     )

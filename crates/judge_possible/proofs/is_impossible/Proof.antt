@@ -32,9 +32,8 @@ returns-in-Done c shape entered least =
 
 returns-in-Refused : tie.Need-returns-in-Refused
 returns-in-Refused c shape entered least =
-    let k = c.before.before in
-    let j = k.judge_possible in
-    c.means_impossible.ensures ∙ sym (ap said k.in-Refused.is) ∙ impossible_by _ _ least j.result (j.ensures shape entered)
+    let j = c.judge_possible in
+    c.means_impossible.ensures ∙ sym (ap said c.in-Refused.is) ∙ impossible_by _ _ least j.result (j.ensures shape entered)
 
 pub is_impossible_spec : {M : Type 1} → statement M
 is_impossible_spec =

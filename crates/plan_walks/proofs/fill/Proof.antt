@@ -10,31 +10,23 @@ use Rattle.plan_walks.proofs.Tables.{ends_within, plannable_holds}
 use Rattle.plan_walks.proofs.fill.Statement.{statement}
 use Rattle.plan_walks.proofs.fill.Tie as tie
 
--- Places on the way: the start, from where the verdict is looked at; and that place, from where it accepts and step 0 is in the sets.
-abbrev start : tie.After-accepted → tie.Start
-start s = s.before.before.before
-
-abbrev looked : tie.After-add_source → tie.After-accepted
-looked s = s.before.before.before
-
 accepted-requires : tie.Need-accepted-requires
 accepted-requires c κs = search rules
 
 feasible-requires : tie.Need-feasible-requires
-feasible-requires c κs = let p = (start c.before).requires.0 in record { some = p.sheet.some; few = p.sheet.few; listed = p.adjacent }
+feasible-requires c κs = let p = c.requires.0 in record { some = p.sheet.some; few = p.sheet.few; listed = p.adjacent }
 
 returns-then-not-accepted : tie.Need-returns-then-not-accepted
 returns-then-not-accepted c =
-    let s = c.before.before in
-    let no = sym s.accepted.ensures ∙ c.if-not-accepted.true in
-    (λ rooted long. c.feasible.ensures (start s).requires.0.sheet.formed.shape rooted, λ h k p. absurd (both_ways k no))
+    let no = sym c.accepted.ensures ∙ c.if-not-accepted.true in
+    (λ rooted long. c.feasible.ensures c.requires.0.sheet.formed.shape rooted, λ h k p. absurd (both_ways k no))
 
 add_source-requires : tie.Need-add_source-requires
-add_source-requires c κs = (start c.before.before).requires.0.sheet.few
+add_source-requires c κs = c.requires.0.sheet.few
 
 walks_if_possible-requires : tie.Need-walks_if_possible-requires
 walks_if_possible-requires c κs =
-    let asked = (start (looked c.before.before.before)).requires in
+    let asked = c.requires in
     let p = asked.0 in
     record { given = record { some = p.sheet.some; few = p.sheet.few; listed = p.adjacent }; inside = p.rows; bare = p.empty; blank = asked.1; ends = ends_within _ _ p.sheet.formed.shape p.rows }
 
@@ -43,17 +35,14 @@ shape_of-d c = search rules
 
 returns : tie.Need-returns
 returns c =
-    let walked = c.before in
-    let sourced = walked.before.before.before.before in
-    let st = start (looked sourced) in
-    let sheet = st.requires.0.sheet in
-    let told = walked.walks_if_possible.ensures in (
-      λ rooted long. told.told sheet.formed.shape rooted sheet.formed.gains sheet.formed.leasts (source_in st.args.sets.now sourced.add_source.new.rows (sourced.add_source.ensures long)),
+    let sheet = c.requires.0.sheet in
+    let told = c.walks_if_possible.ensures in (
+      λ rooted long. told.told sheet.formed.shape rooted sheet.formed.gains sheet.formed.leasts (source_in c.args.sets.now c.add_source.new.rows (c.add_source.ensures long)),
       λ possible k p. record {
         well = p.well;
         serial = p.serial;
-        rows = record { few = sheet.few; inside = omega (arith, st.requires.0.rows, told.square.rows); square = square_own told.square };
-        holds = plannable_holds sourced.add_source.new.rows (read_by walked.walks_if_possible.new.number walked.walks_if_possible.new.d) sheet.few p (told.cells possible) (sourced.add_source.ensures p.long);
+        rows = record { few = sheet.few; inside = omega (arith, c.requires.0.rows, told.square.rows); square = square_own told.square };
+        holds = plannable_holds c.add_source.new.rows (read_by c.walks_if_possible.new.number c.walks_if_possible.new.d) sheet.few p (told.cells possible) (c.add_source.ensures p.long);
       },
     )
 

@@ -26,5 +26,5 @@ pub returns-in_default : goal.returns-in_default
 returns-in_default c =
     let e = c.byte_index-n.ensures.0 in
     let bad : Bytes.read c.args.s.now ≡ refused 2 =
-        elim c.in_default.branch [ in_default-via-then-n-lt1 w ↦ sheet_zero c.args.s.now (omega arith) (omega (arith, e)) | in_default-via-else-n-lt1+else-n-lt65 w ↦ sheet_above c.args.s.now (omega arith) (omega (arith, e)) ] in
+    elim c.in_default.branch [ in_default-via-then-n-lt1 w ↦ sheet_zero c.args.s.now (omega arith) (omega (arith, e)) | in_default-via-else-n-lt1+else-n-lt65 w ↦ sheet_above c.args.s.now (omega arith) (omega (arith, e)) ] in
     rw bad (c.refused_head-in_default.ensures _)

@@ -1,12 +1,11 @@
 -- `walk_feasible::push_step` meets its contract. Invariant: the edges of u behind the one that comes next have handed on. What falls is its index.
 use native.Mathlib.Omega.{arith}
-use mathlib.Core.Path.{◌≡◌, ap}
-use Prim.Native.Nat.{ℕ, ◌+◌, ◌-◌, ◌≤◌}
+use mathlib.Core.Path.{ap}
+use Prim.Native.Nat.{ℕ, ◌+◌, ◌≤◌}
 use lib.IntN.{pos}
 use lib.ListN.{get_or}
 use mir.Syntax.{w32}
 use mir.Val.{SFits}
-use Rattle.data_lists.specs.Lists.{last_from}
 use Rattle.data_lists.proofs.Following.{following_end, following_less, following_next, following_start, following_turn}
 use Rattle.walk_cells.specs.Cells.{Movable}
 use Rattle.walk_feasible.specs.Search.{level}
