@@ -22,8 +22,7 @@ slice_bounds-filter-end-3 c = search rules
 
 filter-requires : tie.Need-filter-requires
 filter-requires c κs =
-    let p = c.before.before.before.before.before in
-    (search rules, workable _ _ _ _ _ p.put.ensures (search rules) refl refl refl)
+    (search rules, workable _ _ _ _ _ c.put.ensures (search rules) refl refl refl)
 
 returns : tie.Need-returns
 returns c = search rules

@@ -7,16 +7,6 @@ use Rattle.clash_filter.proofs.Judging.{part_judgeable, part_tried}
 use Rattle.clash_filter.proofs.impossible_with.Statement.{statement}
 use Rattle.clash_filter.proofs.impossible_with.Tie as tie
 
--- Places: the words completed, from where they are handed on; these put together; the start.
-abbrev completed : tie.After-impossible_edges-arg-1 → tie.After-complete_part-all
-completed s = s.before.before.before
-
-abbrev joined : tie.After-complete_part-all → tie.After-put
-joined s = s.before.before.before.before
-
-abbrev start : tie.After-complete_part-all → tie.Start
-start s = (joined s).before.before.before.before.before
-
 put-requires : tie.Need-put-requires
 put-requires c κs = search rules
 
@@ -31,13 +21,11 @@ slice_bounds-impossible_edges-end c = search rules
 
 slice_bounds-impossible_edges-end-2 : tie.Need-slice_bounds-impossible_edges-end-2
 slice_bounds-impossible_edges-end-2 c =
-    let s = completed c in
-    sym (length-take-le _ _ (omega (arith, s.complete_part-all.ensures.few, (start s).requires.within)))
+    sym (length-take-le _ _ (omega (arith, c.complete_part-all.ensures.few, c.requires.within)))
 
 impossible_edges-requires : tie.Need-impossible_edges-requires
 impossible_edges-requires c κs =
-    let s = completed c.before in
-    part_judgeable _ _ _ _ _ (start s).requires _ (joined s).put.ensures _ _ s.complete_part-all.ensures (search rules)
+    part_judgeable _ _ _ _ _ c.requires _ c.put.ensures _ _ c.complete_part-all.ensures (search rules)
 
 shape_of-part : tie.Need-shape_of-part
 shape_of-part c = search rules
@@ -47,9 +35,7 @@ shape_of-lists c = search rules
 
 returns : tie.Need-returns
 returns c =
-    let i = c.before.before in
-    let s = completed i.before.before in
-    part_tried _ _ _ _ _ (start s).requires _ (joined s).put.ensures _ _ s.complete_part-all.ensures _ i.impossible_edges.ensures
+    part_tried _ _ _ _ _ c.requires _ c.put.ensures _ _ c.complete_part-all.ensures _ c.impossible_edges.ensures
 
 pub impossible_with_spec : {M : Type 1} → statement M
 impossible_with_spec =

@@ -10,44 +10,32 @@ use Rattle.plan_answer.proofs.Writing.{judged_responds}
 use Rattle.plan_answer.proofs.answer_listed.Statement.{statement}
 use Rattle.plan_answer.proofs.answer_listed.Tie as tie
 
--- Places on the way: the lists made, from where the question is looked at; and the start.
-abbrev listed : tie.After-slice_known-3-1 → tie.After-list
-listed s = s.before.before
-
-abbrev start : tie.After-slice_known-3-1 → tie.Start
-start s = (listed s).before.before.before.before.before.before
-
 list-requires : tie.Need-list-requires
 list-requires c κs =
-    let s = c.before.before.before.before.before in
-    let p = s.requires.0 in
-    record { few = p.sheet.edges; light = λ k b. p.sheet.formed.gains (unpack (get_or s.args.es.now k 0)) (graph_at s.args.es.now k b); long = p.room; empty = p.empty }
+    let p = c.requires.0 in
+    record { few = p.sheet.edges; light = λ k b. p.sheet.formed.gains (unpack (get_or c.args.es.now k 0)) (graph_at c.args.es.now k b); long = p.room; empty = p.empty }
 
 enum_told-1 : tie.Need-enum_told-1
 enum_told-1 c = search rules
 
 judge_edges-requires : tie.Need-judge_edges-requires
 judge_edges-requires c κs =
-    let s = c.before.before.before.before in
-    let p = (start s).requires in
-    (record { some = p.0.sheet.some; few = p.0.sheet.few; listed = (listed s).list.ensures }, p.1)
+    let p = c.requires in
+    (record { some = p.0.sheet.some; few = p.0.sheet.few; listed = c.list.ensures }, p.1)
 
 shape_of-lists-in-Judgement : tie.Need-shape_of-lists-in-Judgement
 shape_of-lists-in-Judgement c = search rules
 
 returns-in-Judgement : tie.Need-returns-in-Judgement
 returns-in-Judgement c os o =
-    let told = c.before.before.before in
-    let st = start told.before.before in
-    judged_responds _ _ _ st.args.allow os st.args.list.now st.args.out.now told.in-Judgement.is (c.judge_edges.ensures st.requires.0.sheet.formed)
+    judged_responds _ _ _ c.args.allow os c.args.list.now c.args.out.now c.in-Judgement.is (c.judge_edges.ensures c.requires.0.sheet.formed)
 
 slice_bounds-answer_on-end : tie.Need-slice_bounds-answer_on-end
 slice_bounds-answer_on-end c = search rules
 
 answer_on-requires : tie.Need-answer_on-requires
 answer_on-requires c κs =
-    let s = c.before.before.before.before.before.before in
-    (record { sheet = (start s).requires.0.sheet; adjacent = (listed s).list.ensures; rows = search rules; empty = empty_found few_steps }, (start s).requires.1)
+    (record { sheet = c.requires.0.sheet; adjacent = c.list.ensures; rows = search rules; empty = empty_found few_steps }, c.requires.1)
 
 shape_of-lists-then-n-le-FEW_STEPS : tie.Need-shape_of-lists-then-n-le-FEW_STEPS
 shape_of-lists-then-n-le-FEW_STEPS c = search rules
@@ -63,8 +51,7 @@ slice_bounds-answer_on-end-then-n-le-SOME_STEPS c = search rules
 
 answer_on-requires-then-n-le-SOME_STEPS : tie.Need-answer_on-requires-then-n-le-SOME_STEPS
 answer_on-requires-then-n-le-SOME_STEPS c κs =
-    let s = c.before.before.before.before.before.before.before in
-    (record { sheet = (start s).requires.0.sheet; adjacent = (listed s).list.ensures; rows = search rules; empty = empty_found some_steps }, (start s).requires.1)
+    (record { sheet = c.requires.0.sheet; adjacent = c.list.ensures; rows = search rules; empty = empty_found some_steps }, c.requires.1)
 
 shape_of-lists-then-n-le-SOME_STEPS : tie.Need-shape_of-lists-then-n-le-SOME_STEPS
 shape_of-lists-then-n-le-SOME_STEPS c = search rules
@@ -80,8 +67,7 @@ slice_bounds-answer_on-end-2 c = search rules
 
 answer_on-requires-2 : tie.Need-answer_on-requires-2
 answer_on-requires-2 c κs =
-    let s = c.before.before.before.before.before.before.before in
-    (record { sheet = (start s).requires.0.sheet; adjacent = (listed s).list.ensures; rows = (start s).requires.0.sheet.few; empty = empty_found most_steps }, (start s).requires.1)
+    (record { sheet = c.requires.0.sheet; adjacent = c.list.ensures; rows = c.requires.0.sheet.few; empty = empty_found most_steps }, c.requires.1)
 
 shape_of-lists : tie.Need-shape_of-lists
 shape_of-lists c = search rules

@@ -11,26 +11,13 @@ use Rattle.plan_answer.proofs.Writing.{fitting, given_written, list_right, outco
 use Rattle.plan_answer.proofs.answer_on.Statement.{statement}
 use Rattle.plan_answer.proofs.answer_on.Tie as tie
 
--- Places on the way: the start, from where the edges are tabulated; that place, from where the verdict is checked; and this, from where it accepts.
-abbrev start : tie.After-tabulate-found → tie.Start
-start s = s.before.before.before.before.before.before.before.before.before
-
-abbrev tabulated : tie.After-checked-verdict → tie.After-tabulate-found
-tabulated s = s.before.before
-
-abbrev check : tie.Else-not-accepted → tie.After-checked-verdict
-check s = s.before.before
-
-accepts : (s : tie.Else-not-accepted) → is_given (verdict_of (check s).checked-verdict.result) ≡ true
-accepts s = sym s.accepted.ensures ∙ s.if-not-accepted.false
-
 tabulate-found-requires : tie.Need-tabulate-found-requires
 tabulate-found-requires c κs =
     let p = c.requires in
     (p.0, record { rows = search rules; maps = p.1; numbers = blank_found })
 
 checked-verdict-requires : tie.Need-checked-verdict-requires
-checked-verdict-requires c κs = (start c.before).requires.0.sheet.few
+checked-verdict-requires c κs = c.requires.0.sheet.few
 
 accepted-requires : tie.Need-accepted-requires
 accepted-requires c κs = search rules
@@ -40,10 +27,9 @@ shape_of-d-then-not-accepted c = search rules
 
 returns-then-not-accepted : tie.Need-returns-then-not-accepted
 returns-then-not-accepted c os o =
-    let k = c.before.before in
-    let args = (start (tabulated k)).args in
-    let listed = (tabulated k).tabulate-found.ensures.listed in
-    let checks = k.checked-verdict.ensures.checks os o in
+    let args = c.args in
+    let listed = c.tabulate-found.ensures.listed in
+    let checks = c.checked-verdict.ensures.checks os o in
     let no = sym c.accepted.ensures ∙ c.if-not-accepted.true in
     record {
       verdict = outcome_of args.question _ _ _ args.allow os args.list.now args.out.now listed.judges checks;
@@ -53,13 +39,12 @@ returns-then-not-accepted c os o =
 
 write-requires : tie.Need-write-requires
 write-requires c κs =
-    let e = c.before.before.before.before in
-    let k = check e in
-    let held = (tabulated k).tabulate-found.ensures.held (k.checked-verdict.ensures.accepted (accepts e)) in
+    let ok = sym c.accepted.ensures ∙ c.if-not-accepted.false in
+    let held = c.tabulate-found.ensures.held (c.checked-verdict.ensures.accepted ok) in
     record {
       rows = held.rows;
       inside = λ v a b h. omega (arith, member_below held.holds a v b h, held.rows.inside);
-      room = k.checked-verdict.ensures.fits (accepts e);
+      room = c.checked-verdict.ensures.fits ok;
     }
 
 shape_of-d : tie.Need-shape_of-d
@@ -70,20 +55,17 @@ shape_of-out c = search rules
 
 returns : tie.Need-returns
 returns c os o =
-    let w = c.before.before in
-    let e = w.before.before.before.before.before in
-    let k = check e in
-    let st = start (tabulated k) in
-    let args = st.args in
-    let sheet = st.requires.0.sheet in
-    let listed = (tabulated k).tabulate-found.ensures.listed in
-    let held = (tabulated k).tabulate-found.ensures.held (k.checked-verdict.ensures.accepted (accepts e)) in
-    let checks = k.checked-verdict.ensures.checks os o in
-    let right = list_right _ _ _ os _ _ checks (accepts e) in
-    let fits = fitting held sheet.formed.gains sheet.formed.leasts sheet.few args.question os args.list.now _ o.long o.least right (k.checked-verdict.ensures.fits (accepts e)) in
+    let args = c.args in
+    let sheet = c.requires.0.sheet in
+    let ok = sym c.accepted.ensures ∙ c.if-not-accepted.false in
+    let listed = c.tabulate-found.ensures.listed in
+    let held = c.tabulate-found.ensures.held (c.checked-verdict.ensures.accepted ok) in
+    let checks = c.checked-verdict.ensures.checks os o in
+    let right = list_right _ _ _ os _ _ checks ok in
+    let fits = fitting held sheet.formed.gains sheet.formed.leasts sheet.few args.question os args.list.now _ o.long o.least right (c.checked-verdict.ensures.fits ok) in
     record {
       verdict = outcome_of args.question _ _ _ args.allow os args.list.now args.out.now listed.judges checks;
-      numbers = given_written args.question _ _ _ args.allow os args.list.now args.out.now listed.judges checks (accepts e) (w.write.ensures _ sheet.formed.leasts held fits);
+      numbers = given_written args.question _ _ _ args.allow os args.list.now args.out.now listed.judges checks ok (c.write.ensures _ sheet.formed.leasts held fits);
       waits = record { found = listed.found; blank = listed.blank };
     }
 

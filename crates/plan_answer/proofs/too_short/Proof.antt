@@ -13,13 +13,13 @@ enum_told-in-Plan : tie.Need-enum_told-in-Plan
 enum_told-in-Plan c = search rules
 
 overflow_mul-result : tie.Need-overflow_mul-result
-overflow_mul-result c = let start = c.before.before in record { fits = omega (arith, square_small start.args.n start.requires) }
+overflow_mul-result c = record { fits = omega (arith, square_small c.args.n c.requires) }
 
 enum_told-in-Starts : tie.Need-enum_told-in-Starts
 enum_told-in-Starts c = search rules
 
 returns-then-list-n : tie.Need-returns-then-list-n
-returns-then-list-n c = let start = c.before.before.before in rw c.in-Starts.is (list_short start.args.n start.args.list start.args.room c.if-list-n.true)
+returns-then-list-n c = rw c.in-Starts.is (list_short c.args.n c.args.list c.args.room c.if-list-n.true)
 
 returns-in-Judgement : tie.Need-returns-in-Judgement
 returns-in-Judgement c = rw c.in-Judgement.is
@@ -28,7 +28,7 @@ returns-in-Plan : tie.Need-returns-in-Plan
 returns-in-Plan c = rw c.in-Plan.is
 
 returns-else-list-n : tie.Need-returns-else-list-n
-returns-else-list-n c = let start = c.before.before.before in rw c.in-Starts.is (list_long start.args.n start.args.list start.args.room c.if-list-n.false)
+returns-else-list-n c = rw c.in-Starts.is (list_long c.args.n c.args.list c.args.room c.if-list-n.false)
 
 pub too_short_spec : {M : Type 1} → statement M
 too_short_spec =

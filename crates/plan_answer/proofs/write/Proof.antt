@@ -7,10 +7,6 @@ use Rattle.plan_answer.proofs.Writing.{nothing_stands, plan_room, plan_stands, s
 use Rattle.plan_answer.proofs.write.Statement.{statement}
 use Rattle.plan_answer.proofs.write.Tie as tie
 
--- Places on the way: the start, from where the question is looked at.
-abbrev start : tie.After-slice_known-1 → tie.Start
-start s = s.before.before
-
 enum_told-1 : tie.Need-enum_told-1
 enum_told-1 c = search rules
 
@@ -19,7 +15,7 @@ enum_told-in-Plan c = search rules
 
 fill_plan-requires : tie.Need-fill_plan-requires
 fill_plan-requires c κs =
-    let p = (start c.before.before.before).requires in
+    let p = c.requires in
     record { rows = p.rows; members = p.inside; room = plan_room _ _ _ c.in-Plan.is p.room }
 
 enum_told-in-Starts : tie.Need-enum_told-in-Starts
@@ -27,7 +23,7 @@ enum_told-in-Starts c = search rules
 
 fill_starts-requires : tie.Need-fill_starts-requires
 fill_starts-requires c κs =
-    let p = (start c.before.before.before).requires in
+    let p = c.requires in
     let room = starts_room _ _ _ c.in-Starts.is p.room in
     record { rows = p.rows; long = room.0; room = room.1 }
 
@@ -39,17 +35,15 @@ shape_of-out-in-Plan c = search rules
 
 returns-in-Plan : tie.Need-returns-in-Plan
 returns-in-Plan c g l t fits =
-    let filled = c.before.before in
-    plan_stands _ _ g _ _ filled.in-Plan.is
-    (filled.fill_plan.ensures.plan _ _ (plan_lasting _ t.well t.serial l.leasts l.source) (λ a b. refl) t.holds (holds_orderly (plan_well _ t.well t.serial) (plan_posed _ t.well t.serial) t.holds))
+    plan_stands _ _ g _ _ c.in-Plan.is
+    (c.fill_plan.ensures.plan _ _ (plan_lasting _ t.well t.serial l.leasts l.source) (λ a b. refl) t.holds (holds_orderly (plan_well _ t.well t.serial) (plan_posed _ t.well t.serial) t.holds))
 
 shape_of-out-in-Starts : tie.Need-shape_of-out-in-Starts
 shape_of-out-in-Starts c = search rules
 
 returns-in-Starts : tie.Need-returns-in-Starts
 returns-in-Starts c g l t fits =
-    let filled = c.before.before in
-    starts_stand _ _ g _ _ filled.in-Starts.is fits (λ narrow. filled.fill_starts.ensures.times _ _ (λ a b. refl) t.holds narrow)
+    starts_stand _ _ g _ _ c.in-Starts.is fits (λ narrow. c.fill_starts.ensures.times _ _ (λ a b. refl) t.holds narrow)
 
 pub write_spec : {M : Type 1} → statement M
 write_spec =

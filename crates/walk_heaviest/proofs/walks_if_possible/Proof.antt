@@ -1,16 +1,8 @@
 -- `walk_heaviest::walks_if_possible` meets its contract: what the columns begin with, and all sweeps.
 use borrow.Author.Rules.{rules}
-use mathlib.Core.Path.{◌≡◌}
-use mathlib.Core.Bool.{true}
-use Prim.Native.Nat.{ℕ, ◌<◌}
 use native.Mathlib.Omega.{arith}
 use Rattle.definitions.specs.Limits.{most_gain}
-use Rattle.definitions.specs.Links.{members}
 use Rattle.data_edges.specs.Serial.{leasts_in}
-use Rattle.data_edges.specs.Words.{graph}
-use Rattle.walk_feasible.specs.Search.{rests}
-use Rattle.data_relations.specs.Rows.{row_bit}
-use Rattle.theory.specs.Graphs.{Gains, Rooted, Shape, SheetLeasts}
 use Rattle.walk_cells.proofs.Tables.{square_own, square_then}
 use Rattle.walk_heaviest.proofs.FirstSweep.{rest_stable}
 use Rattle.walk_heaviest.proofs.Settled.{turned_within, walks_found}
