@@ -6,10 +6,12 @@
 // Numbers have the low byte first. Lent numbers are 4,294,967,294, which no answer holds.
 #![tactic(auto)]
 
-ghost use Rattle.std.specs.Prelude.{◌<◌, ◌≤◌};
+ghost use Rattle.std.specs.Prelude.{◌<◌, ◌≤◌, IfOk};
 
 use data_indices::byte_index;
 use definitions::{Tally, UNDECIDED};
+use std::io;
+use std::io::{Read, Write};
 
 // What lent numbers hold before a call.
 const LENT: u32 = UNDECIDED - 1;
@@ -21,46 +23,47 @@ fn wide(x: u8) -> u32
 }
 
 // The next byte of the input, or 0 at its end.
-fn read_byte() -> usize
-    ensures { result < 256 }
+fn read_byte<R: Read>(input: &mut R) -> io::Result<usize>
+    ensures { IfOk result (λ b. b < 256) }
 {
     let mut bytes = [0u8; 1];
-    io::read_full(libc::STDIN_FILENO, &mut bytes);
-    byte_index(bytes[0])
+    print_console::read_full(input, &mut bytes)?;
+    Ok(byte_index(bytes[0]))
 }
 
 // The next two bytes of the input, as a number, or 65,536 at its end.
-fn read_number() -> usize {
+fn read_number<R: Read>(input: &mut R) -> io::Result<usize> {
     let mut bytes = [0u8; 2];
-    let got = io::read_full(libc::STDIN_FILENO, &mut bytes);
+    let got = print_console::read_full(input, &mut bytes)?;
     if got < 2 {
-        return 65536;
+        return Ok(65536);
     }
-    byte_index(bytes[0]) + 256 * byte_index(bytes[1])
+    Ok(byte_index(bytes[0]) + 256 * byte_index(bytes[1]))
 }
 
 // The next four bytes of the input, as a number.
-fn read_entry() -> u32 {
+fn read_entry<R: Read>(input: &mut R) -> io::Result<u32> {
     let mut bytes = [0u8; 4];
-    io::read_full(libc::STDIN_FILENO, &mut bytes);
+    print_console::read_full(input, &mut bytes)?;
     let low = wide(bytes[0]) + 256 * wide(bytes[1]);
-    low + 65536 * wide(bytes[2]) + 16777216 * wide(bytes[3])
+    Ok(low + 65536 * wide(bytes[2]) + 16777216 * wide(bytes[3]))
 }
 
-fn read_entries(list: &mut [u32]) {
+fn read_entries<R: Read>(input: &mut R, list: &mut [u32]) -> io::Result<()> {
     let mut i = 0;
     while i < list.len() {
-        let x = read_entry();
+        let x = read_entry(input)?;
         list[i] = x;
         i += 1;
     }
+    Ok(())
 }
 
 // A line of a word and a verdict, by its number.
-fn write_verdict(word: &[u8], code: u32) {
-    print_console::write(word);
-    print_console::write_code(code);
-    print_console::write(b"\n");
+fn write_verdict<W: Write>(out: &mut W, word: &[u8], code: u32) -> io::Result<()> {
+    print_console::write(out, word)?;
+    print_console::write_code(out, code)?;
+    print_console::write(out, b"\n")
 }
 
 // 1 where two numbers are equal, else 0.
@@ -85,120 +88,133 @@ fn occurrences(x: u32, numbers: &[u32]) -> u64 {
 }
 
 // A place and its number, but for 4,294,967,295 and the number that was lent.
-fn write_place(i: usize, x: u32) {
+fn write_place<W: Write>(out: &mut W, i: usize, x: u32) -> io::Result<()> {
     if x < LENT {
-        print_console::write_number(i as u64);
-        print_console::write_number(x as u64);
+        print_console::write_number(out, i as u64)?;
+        print_console::write_number(out, x as u64)?;
     }
+    Ok(())
 }
 
-fn write_places(numbers: &[u32]) {
+fn write_places<W: Write>(out: &mut W, numbers: &[u32]) -> io::Result<()> {
     let mut i = 0;
     while i < numbers.len() {
-        write_place(i, numbers[i]);
+        write_place(out, i, numbers[i])?;
         i += 1;
     }
+    Ok(())
 }
 
 // Lent numbers after a call: each place that holds an answer, how many places hold 4,294,967,295, and how many are as they were lent.
-fn write_numbers(numbers: &[u32]) {
-    print_console::write(b"numbers");
-    write_places(numbers);
-    print_console::write(b" undecided");
-    print_console::write_number(occurrences(UNDECIDED, numbers));
-    print_console::write(b" lent");
-    print_console::write_number(occurrences(LENT, numbers));
-    print_console::write(b"\n");
+fn write_numbers<W: Write>(out: &mut W, numbers: &[u32]) -> io::Result<()> {
+    print_console::write(out, b"numbers")?;
+    write_places(out, numbers)?;
+    print_console::write(out, b" undecided")?;
+    print_console::write_number(out, occurrences(UNDECIDED, numbers))?;
+    print_console::write(out, b" lent")?;
+    print_console::write_number(out, occurrences(LENT, numbers))?;
+    print_console::write(out, b"\n")
 }
 
 // A map of waits, where it is not empty.
-fn write_map(i: usize, map: u64) {
+fn write_map<W: Write>(out: &mut W, i: usize, map: u64) -> io::Result<()> {
     if 0 < map {
-        print_console::write(b"map");
-        print_console::write_number(i as u64);
-        print_console::write_number(map);
-        print_console::write(b"\n");
+        print_console::write(out, b"map")?;
+        print_console::write_number(out, i as u64)?;
+        print_console::write_number(out, map)?;
+        print_console::write(out, b"\n")?;
     }
+    Ok(())
 }
 
-fn write_maps(maps: &[u64; 64]) {
+fn write_maps<W: Write>(out: &mut W, maps: &[u64; 64]) -> io::Result<()> {
     let mut i = 0;
     while i < 64 {
-        write_map(i, maps[i]);
+        write_map(out, i, maps[i])?;
         i += 1;
     }
+    Ok(())
 }
 
 // What listing waits hands back.
-fn write_listed(code: u32, maps: &[u64; 64], count: u32) {
-    print_console::write(b"waits");
-    print_console::write_code(code);
-    print_console::write_number(count as u64);
-    print_console::write(b"\n");
-    write_maps(maps);
+fn write_listed<W: Write>(out: &mut W, code: u32, maps: &[u64; 64], count: u32) -> io::Result<()> {
+    print_console::write(out, b"waits")?;
+    print_console::write_code(out, code)?;
+    print_console::write_number(out, count as u64)?;
+    print_console::write(out, b"\n")?;
+    write_maps(out, maps)
 }
 
-fn write_waits(s: &[u8]) {
+fn write_waits<W: Write>(out: &mut W, s: &[u8]) -> io::Result<()> {
     let listed = judge_sheet::waits(s);
     let verdict = listed.verdict;
     let maps = listed.maps;
-    write_listed(data_numbers::verdict_code(verdict), &maps, listed.count);
+    write_listed(
+        out,
+        data_numbers::verdict_code(verdict),
+        &maps,
+        listed.count,
+    )
 }
 
 // How many records clash, or the refusal.
-fn write_tally(tally: Tally) {
-    print_console::write(b"clash");
+fn write_tally<W: Write>(out: &mut W, tally: Tally) -> io::Result<()> {
+    print_console::write(out, b"clash")?;
     match tally {
         Tally::Count(k) => {
-            print_console::write_number(k as u64);
+            print_console::write_number(out, k as u64)?;
         }
         Tally::Refused(_) => {
-            print_console::write_code(data_numbers::tally_code(tally));
+            print_console::write_code(out, data_numbers::tally_code(tally))?;
         }
     }
-    print_console::write(b"\n");
+    print_console::write(out, b"\n")
 }
 
 // The records that clash, into the list that is lent.
-fn write_clashes_into(s: &[u8], list: &mut [u32]) {
-    write_tally(clash_sheet::clashes(s, list));
-    write_numbers(list);
+fn write_clashes_into<W: Write>(out: &mut W, s: &[u8], list: &mut [u32]) -> io::Result<()> {
+    write_tally(out, clash_sheet::clashes(s, list))?;
+    write_numbers(out, list)
 }
 
 // The same, into as many of 600 numbers as the input says.
-fn write_clashes(s: &[u8]) {
+fn write_clashes<R: Read, W: Write>(input: &mut R, out: &mut W, s: &[u8]) -> io::Result<()> {
     let mut list = [LENT; 600];
-    let length = read_number();
+    let length = read_number(input)?;
     if length <= 600 {
-        write_clashes_into(s, &mut list[..length]);
+        write_clashes_into(out, s, &mut list[..length])?;
     }
+    Ok(())
 }
 
 fn judge_code(s: &[u8], allow: bool) -> u32 {
     data_numbers::verdict_code(judge_sheet::judge(s, allow))
 }
 
-fn write_judgements(s: &[u8]) {
-    write_verdict(b"judge 0", judge_code(s, false));
-    write_verdict(b"judge 1", judge_code(s, true));
+fn write_judgements<W: Write>(out: &mut W, s: &[u8]) -> io::Result<()> {
+    write_verdict(out, b"judge 0", judge_code(s, false))?;
+    write_verdict(out, b"judge 1", judge_code(s, true))
 }
 
 // Row v of a table for n steps, asked for: what the companion call says, and the part that is handed back.
-fn write_row(table: &[u32], n: usize, v: usize) {
-    print_console::write(b"row");
-    print_console::write_number(v as u64);
-    print_console::write_code(data_numbers::status_code(plan_rows::row_status(table, n, v)));
-    print_console::write(b"\n");
-    write_numbers(plan_rows::row(table, n, v));
+fn write_row<W: Write>(out: &mut W, table: &[u32], n: usize, v: usize) -> io::Result<()> {
+    print_console::write(out, b"row")?;
+    print_console::write_number(out, v as u64)?;
+    print_console::write_code(
+        out,
+        data_numbers::status_code(plan_rows::row_status(table, n, v)),
+    )?;
+    print_console::write(out, b"\n")?;
+    write_numbers(out, plan_rows::row(table, n, v))
 }
 
 // A row in the middle, the last one, and the one past it. Refusals: 2 where n is no step count, 5, and 14 where the table is too short.
-fn write_rows(table: &[u32], n: usize) {
-    write_row(table, n, n / 2);
+fn write_rows<W: Write>(out: &mut W, table: &[u32], n: usize) -> io::Result<()> {
+    write_row(out, table, n, n / 2)?;
     if 0 < n {
-        write_row(table, n, n - 1);
+        write_row(out, table, n, n - 1)?;
     }
-    write_row(table, n, n);
+    write_row(out, table, n, n)
 }
 
 // The first byte of a sheet, its step count; 0 where there is none.
@@ -210,85 +226,111 @@ fn first_byte(s: &[u8]) -> usize {
 }
 
 // The plan, into the table that is lent, and rows of it.
-fn write_plan_into(s: &[u8], table: &mut [u32]) {
+fn write_plan_into<W: Write>(out: &mut W, s: &[u8], table: &mut [u32]) -> io::Result<()> {
     let code = data_numbers::verdict_code(plan_sheet::plan(s, true, table));
-    write_verdict(b"plan", code);
-    write_numbers(table);
-    write_rows(table, first_byte(s));
+    write_verdict(out, b"plan", code)?;
+    write_numbers(out, table)?;
+    write_rows(out, table, first_byte(s))
 }
 
 // The same, into as many of 4,096 numbers as the input says.
-fn write_plan(s: &[u8]) {
+fn write_plan<R: Read, W: Write>(input: &mut R, out: &mut W, s: &[u8]) -> io::Result<()> {
     let mut table = [LENT; 4096];
-    let length = read_number();
+    let length = read_number(input)?;
     if length <= 4096 {
-        write_plan_into(s, &mut table[..length]);
+        write_plan_into(out, s, &mut table[..length])?;
     }
+    Ok(())
 }
 
 // The start times for the list that the input has next, into the list that is lent for them.
-fn write_starts_into(s: &[u8], allow: bool, list: &mut [u32], times: &mut [u32]) {
-    read_entries(list);
+fn write_starts_into<R: Read, W: Write>(
+    input: &mut R,
+    out: &mut W,
+    s: &[u8],
+    allow: bool,
+    list: &mut [u32],
+    times: &mut [u32],
+) -> io::Result<()> {
+    read_entries(input, list)?;
     let code = data_numbers::verdict_code(plan_times::starts(s, allow, list, times));
-    write_verdict(b"starts", code);
-    write_numbers(times);
+    write_verdict(out, b"starts", code)?;
+    write_numbers(out, times)
 }
 
 // The same, for as many entries and into as many numbers as the input says.
-fn write_starts(s: &[u8]) {
+fn write_starts<R: Read, W: Write>(input: &mut R, out: &mut W, s: &[u8]) -> io::Result<()> {
     let mut list = [0u32; 128];
     let mut times = [LENT; 128];
-    let allow = read_byte();
-    let entries = read_number();
-    let length = read_number();
+    let allow = read_byte(input)?;
+    let entries = read_number(input)?;
+    let length = read_number(input)?;
     if entries <= 128 && length <= 128 {
-        write_starts_into(s, allow == 1, &mut list[..entries], &mut times[..length]);
+        write_starts_into(
+            input,
+            out,
+            s,
+            allow == 1,
+            &mut list[..entries],
+            &mut times[..length],
+        )?;
     }
+    Ok(())
 }
 
-fn write_lists(s: &[u8]) {
-    let lists = read_byte();
+fn write_lists<R: Read, W: Write>(input: &mut R, out: &mut W, s: &[u8]) -> io::Result<()> {
+    let lists = read_byte(input)?;
     let mut i = 0;
     while i < lists {
-        write_starts(s);
+        write_starts(input, out, s)?;
         i += 1;
     }
+    Ok(())
 }
 
 // The answers for a sheet.
-fn write_answers(s: &[u8]) {
-    print_console::write(b"sheet");
-    print_console::write_number(s.len() as u64);
-    print_console::write(b"\n");
-    write_judgements(s);
-    write_waits(s);
-    write_clashes(s);
-    write_plan(s);
-    write_lists(s);
+fn write_answers<R: Read, W: Write>(input: &mut R, out: &mut W, s: &[u8]) -> io::Result<()> {
+    print_console::write(out, b"sheet")?;
+    print_console::write_number(out, s.len() as u64)?;
+    print_console::write(out, b"\n")?;
+    write_judgements(out, s)?;
+    write_waits(out, s)?;
+    write_clashes(input, out, s)?;
+    write_plan(input, out, s)?;
+    write_lists(input, out, s)
 }
 
 // Reads a sheet into the bytes that are lent, and writes the answers for it.
-fn write_sheet_into(bytes: &mut [u8]) {
-    let got = io::read_full(libc::STDIN_FILENO, bytes);
+fn write_sheet_into<R: Read, W: Write>(
+    input: &mut R,
+    out: &mut W,
+    bytes: &mut [u8],
+) -> io::Result<()> {
+    let got = print_console::read_full(input, bytes)?;
     if got == bytes.len() {
-        write_answers(bytes);
+        write_answers(input, out, bytes)?;
     }
+    Ok(())
 }
 
-fn write_sheet(size: usize) {
+fn write_sheet<R: Read, W: Write>(input: &mut R, out: &mut W, size: usize) -> io::Result<()> {
     let mut bytes = [0u8; 8192];
     if size <= 8192 {
-        write_sheet_into(&mut bytes[..size]);
+        write_sheet_into(input, out, &mut bytes[..size])?;
     }
+    Ok(())
 }
 
 // Sheets to the end of the input. Nothing says that an input ends, so the loop counts its turns down, from a number that no run uses up.
-fn main() {
+fn main(rt: HostRuntime) -> io::Result<()> {
+    let mut input = rt.stdin();
+    let mut out = rt.stdout();
     let mut turns = u64::MAX;
-    let mut size = read_number();
+    let mut size = read_number(&mut input)?;
     while 0 < turns && size <= 8192 {
-        write_sheet(size);
-        size = read_number();
+        write_sheet(&mut input, &mut out, size)?;
+        size = read_number(&mut input)?;
         turns -= 1;
     }
+    Ok(())
 }

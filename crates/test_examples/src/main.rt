@@ -1,17 +1,24 @@
 // Runs the examples of document 01 that are not proved, but the run, and compares: the limits on N, on R and on durations.
 #![tactic(auto)]
 
-ghost use Rattle.std.specs.Prelude.{◌<◌};
+use std::io;
+use std::io::Write;
 
 // The line of an example: its name, its number, what was answered, and whether document 01 says so.
-fn write_example(name: &[u8], number: u64, answer: u32, expected: u32) {
-    print_console::write(name);
-    print_console::write_number(number);
-    print_console::write_code(answer);
+fn write_example<W: Write>(
+    out: &mut W,
+    name: &[u8],
+    number: u64,
+    answer: u32,
+    expected: u32,
+) -> io::Result<()> {
+    print_console::write(out, name)?;
+    print_console::write_number(out, number)?;
+    print_console::write_code(out, answer)?;
     if answer == expected {
-        print_console::write(b" as expected\n");
+        print_console::write(out, b" as expected\n")
     } else {
-        print_console::write(b" DIFFERS\n");
+        print_console::write(out, b" DIFFERS\n")
     }
 }
 
@@ -88,7 +95,7 @@ fn judge(s: &[u8], size: usize) -> u32 {
 
 // A sheet of n steps, each after step 0.
 fn judge_steps(n: u8) -> u32 {
-    let mut s = io::buffer();
+    let mut s = [0u8; 4096];
     let p = put_counts(n, 63, 0, &mut s);
     let q = put_steps(n, &mut s, p);
     let size = put_links(0, 1, n, &mut s, q);
@@ -97,7 +104,7 @@ fn judge_steps(n: u8) -> u32 {
 
 // A sheet of 33 steps and as many after links as the two bytes say. It has `size` bytes; links for more pairs follow.
 fn judge_links(low: u8, high: u8, size: usize) -> u32 {
-    let mut s = io::buffer();
+    let mut s = [0u8; 4096];
     let p = put_counts(33, low, high, &mut s);
     let q = put_steps(33, &mut s, p);
     put_all_links(33, &mut s, q);
@@ -119,11 +126,12 @@ fn starts(duration: u32) -> u32 {
 
 // ---- the examples
 
-fn main() {
-    write_example(b"N", 64, judge_steps(64), 0);
-    write_example(b"N", 65, judge_steps(65), 258);
-    write_example(b"R", 512, judge_links(0, 2, 1572), 0);
-    write_example(b"R", 513, judge_links(1, 2, 1575), 259);
-    write_example(b"duration", 16777215, starts(16777215), 0);
-    write_example(b"duration", 16777216, starts(16777216), 269);
+fn main(rt: HostRuntime) -> io::Result<()> {
+    let mut out = rt.stdout();
+    write_example(&mut out, b"N", 64, judge_steps(64), 0)?;
+    write_example(&mut out, b"N", 65, judge_steps(65), 258)?;
+    write_example(&mut out, b"R", 512, judge_links(0, 2, 1572), 0)?;
+    write_example(&mut out, b"R", 513, judge_links(1, 2, 1575), 259)?;
+    write_example(&mut out, b"duration", 16777215, starts(16777215), 0)?;
+    write_example(&mut out, b"duration", 16777216, starts(16777216), 269)
 }
