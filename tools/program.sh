@@ -29,45 +29,43 @@ tell() {
     (trap '' PIPE; printf '%s\n' "$1") 2>/dev/null || wrong "standard output cannot be written to: it is full or closed"
 }
 
+# Missing, or older than a crate, but what rt keeps of it in out/.
 older() {
-    [ ! -x "$program" ] || [ -n "$(find "$root/crates" "$root/crates.txt" -newer "$program" -print -quit)" ]
+    [ ! -x "$program" ] ||
+        [ -n "$(find "$root/crates.txt" -newer "$program"; find "$root"/crates/*/ -mindepth 1 -name out -prune -o -newer "$program" -print -quit)" ]
 }
 
-# The crates that the program needs, in the order in which rt proves them: those of a level, which need nothing of each other, after those below.
+# The crates that the program needs, in the order in which rt proves them: each after those that it uses.
 needed() {
     awk '
-        function visit(n,    a, k, m, l) {
-            if (n in level) return
-            level[n] = l = 0
+        function visit(n,    a, k, m) {
+            if (n in seen) return
+            seen[n]
             m = split(needs[n], a, " ")
-            for (k = 1; k <= m; k++) if (a[k] in needs) { visit(a[k]); if (level[a[k]] >= l) l = level[a[k]] + 1 }
-            level[n] = l
-            print l, n
+            for (k = 1; k <= m; k++) if (a[k] in needs) visit(a[k])
+            print n
         }
         { sub(/#.*/, "") }
-        /:/ { name = $0; sub(/[ \t]*:.*/, "", name); sub(/[^:]*:/, ""); needs[name] = $0 }
-        END { visit(program) }' program="$called" "$root/crates.txt" | sort -s -n -k1,1 | cut -d' ' -f2
+        /:/ { name = $1; sub(/:.*/, "", name); sub(/[^:]*:/, ""); needs[name] = $0 }
+        END { visit(program) }' program="$called" "$root/crates.txt"
 }
 
-# Keeps what rt prints in the log, and shows which crate it is at: on a terminal in one line, else in a line for each.
+# Keeps what rt prints in the log, and shows which crate it is at: on a terminal in one line, else in a line for each. A crate that is proved already has none.
 follow() {
-    # shellcheck disable=SC2046
-    set -- $(needed)
-    count=$# at=0
-    show "$@"
+    crates=$(needed)
+    count=$(printf '%s\n' "$crates" | wc -l)
     while IFS= read -r line; do
         printf '%s\n' "$line" >>"$log"
         case $line in
-            'rt: '*' proved ('* | 'rt: '*' NOT PROVED'*) [ $# -eq 0 ] || shift; show "$@" ;;
+            'rt: chose --jobs '*' for '*) show "${line##* }" ;;
         esac
     done
     [ ! -t 2 ] || printf '\r\033[K' >&2
 }
 
 show() {
-    at=$((at + 1))
-    if [ $# -eq 0 ]; then return; fi
-    if [ -t 2 ]; then printf '\rproving crate %s of %s: %s\033[K' "$at" "$count" "$1" >&2; else say "proving crate $at of $count: $1"; fi
+    at=$(printf '%s\n' "$crates" | grep -n -x "$1") || return 0
+    if [ -t 2 ]; then printf '\rproving crate %s of %s: %s\033[K' "${at%%:*}" "$count" "$1" >&2; else say "proving crate ${at%%:*} of $count: $1"; fi
 }
 
 # Hands on what tools/sheet says of a text, as said of the sheet, and what tools/library says where it has to build first.
@@ -96,14 +94,15 @@ build() {
     say "the program $why; proving and building it first, which can take some minutes"
     : >"$log"
     : >"$place/began"
-    # rt makes no program whose crate is proved already.
-    [ -x "$program" ] || rm -f "$root/target/stamp/$called"
-    { (cd "$root" && rt check "$called" </dev/null 2>&1) || : >"$place/failed"; } | follow
-    if [ -e "$place/failed" ] || [ ! -x "$program" ]; then
+    # rt runs the program too, here on no sheet.
+    { (cd "$root/crates/$called" && rt run </dev/null 2>&1 >/dev/null) || : >"$place/failed"; } | follow
+    made=$root/crates/$called/out/$called
+    if [ -e "$place/failed" ] || [ ! -x "$made" ]; then
         tail -n 1 "$log" >&2 || :
         no_program "the program could not be proved and built; $log has what rt said"
     fi
-    touch -r "$place/began" "$program"          # as old as what it was built from
+    { mkdir -p "$(dirname "$program")" && cp "$made" "$program.new" && touch -r "$place/began" "$program.new" &&         # as old as what it was built from
+        mv -f "$program.new" "$program"; } || no_program "the program could not be put at $program"
     exec 9>&-
 }
 

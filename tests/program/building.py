@@ -14,25 +14,38 @@ PRICE = (ROOT / "crates/standprice/stdout").read_bytes()
 NOT_BUILT, OLDER = "standplan: the program is not built yet", "standplan: the program is older than the crates"
 FIRST = "; proving and building it first, which can take some minutes\n"
 PROGRESS = "".join(f"standplan: proving crate {k} of 3: {name}\n" for k, name in ((1, "ground"), (2, "walls"), (3, "standplan")))
-# It does with the program, stamps and lines what rt does; `mode` says what goes wrong. It is called as `rt check NAME`.
+# It does with the program, its stamp and lines what rt does; `mode` says what goes wrong. It is called as `rt run` in a crate's folder. What it says goes to standard
+# error, and what the program prints to standard output. Where the program is as it was built, and nothing has changed, it says so and proves nothing.
 RT = """#!/bin/sh
-echo "$*" >> "$CALLS"
+exec 3>&1 >&2
+name=${PWD##*/}
+echo "$* $name" >> "$CALLS"
 mode=$(cat "$CALLS.mode")
-mkdir -p target/bin target/stamp
-echo "fn ground::dig: proved"
-echo "rt: ground proved (1 s)"
-while [ "$mode" = held ] && [ ! -e "$CALLS.go" ]; do sleep 0.05; done
-if [ "$mode" = broken ]; then
-    echo "rt: walls NOT PROVED (exit 1, 2 s)"
-    echo "rt: $2 NOT PROVED: its dependency walls is not proved"
-    echo "rt: FAILED: walls $2"
-    exit 1
+mkdir -p out
+if [ "$mode" = proves ] && cmp -s "$PROGRAMS/$name" "out/$name" && [ -e "out/$name.stamp" ]; then
+    echo "rt: nothing has changed since the last proved build, by out/$name.stamp, so nothing is checked now"
+else
+    rm -f "out/$name.stamp"
+    echo "rt: chose --jobs 2 for ground"
+    echo "fn ground::dig: proved"
+    while [ "$mode" = held ] && [ ! -e "$CALLS.go" ]; do sleep 0.05; done
+    echo "crate ground: modules loaded=0 checked=64"
+    echo "logic=proved functions=1 native=nat,char,string"
+    echo "rt: chose --jobs 2 for walls"
+    if [ "$mode" = broken ]; then
+        echo "fn walls::stand: not proved"
+        echo "logic=not-proved functions=1 native=nat,char,string"
+        echo "rt: the library walls did not build, so nothing above it was checked"
+        exit 1
+    fi
+    echo "logic=proved functions=1 native=nat,char,string"
+    echo "rt: chose --jobs 2 for $name"
+    echo "logic=proved functions=1 native=nat,char,string"
+    cp "$PROGRAMS/$name" "out/$name"
+    touch "out/$name.stamp"
 fi
-echo "rt: walls proved (2 s)"
-[ -e "target/stamp/$2" ] && [ "$mode" != changed ] || cp "$PROGRAMS/$2" "target/bin/$2"
-touch "target/stamp/$2"
-echo "rt: $2 proved (3 s)"
-echo "rt: ok, 3 crates proved"
+echo "rt: running out/$name; to give it other input, run that file yourself"
+exec "out/$name" >&3
 """
 
 
@@ -43,7 +56,7 @@ def check(found, wanted, what):
 class Clone:
     def __init__(self, place):
         self.at, self.tools, self.calls = place / "clone", place / "bin", place / "calls"
-        for folder in ("crates/ground/src", ".ci", "docs", "tools", "bindings/python"):
+        for folder in ("crates/ground/src", "crates/standplan", "crates/standprice", "crates/c_planner", ".ci", "docs", "tools", "bindings/python"):
             (self.at / folder).mkdir(parents=True)
         for name in ("standplan", "standprice", "tools/program.sh", "VERSION", ".ci/toolchain", "docs/REFUSALS.md", "tools/sheet", "tools/sheets.py", "tools/library", "bindings/python/standplan.py"):
             shutil.copy(ROOT / name, self.at / name)
@@ -81,26 +94,30 @@ class Clone:
 def first_and_later(place):
     clone = Clone(place)
     check(clone.ran(SHEET), (0, PLAN, NOT_BUILT + FIRST + PROGRESS), "the first call")
-    check(clone.calls.read_text(), "check standplan\n", "what rt is asked for")
+    check(clone.calls.read_text(), "run standplan\n", "what rt is asked for")
     log = (clone.at / "target/standplan.log").read_text()
-    assert log.startswith("fn ground::dig: proved\nrt: ground proved (1 s)\n") and log.endswith("rt: ok, 3 crates proved\n"), log
+    assert log.startswith("rt: chose --jobs 2 for ground\nfn ground::dig: proved\n") and log.endswith("\nrt: running out/standplan; to give it other input, run that file yourself\n"), log
     check((clone.ran(SHEET), clone.count()), ((0, PLAN, ""), 1), "the second call")
     (place / "link").symlink_to(clone.at / "standplan")
     check((clone.ran(SHEET, script=place / "link"), clone.count()), ((0, PLAN, ""), 1), "by a link from elsewhere")
-    # A crate is touched, and nothing changed: rt makes no new program.
+    # A crate is touched, and nothing changed: rt proves nothing and makes no new program.
     clone.touch()
-    check((clone.ran(SHEET), clone.count()), ((0, PLAN, OLDER + FIRST + PROGRESS), 2), "older than a crate")
+    check((clone.ran(SHEET), clone.count()), ((0, PLAN, OLDER + FIRST), 2), "older than a crate")
     check((clone.ran(SHEET), clone.count()), ((0, PLAN, ""), 2), "after that")
     # Something changed: the program is another.
     (clone.at / "target/bin/standplan").write_text("#!/bin/sh\necho old\n")
     clone.touch("crates.txt")
     clone.mode("changed")
     check((clone.ran(SHEET), clone.count()), ((0, PLAN, OLDER + FIRST + PROGRESS), 3), "older than crates.txt")
-    # The program is gone, and rt has its crate as proved.
+    # The program is gone, and rt has its own; or that is gone too.
     (clone.at / "target/bin/standplan").unlink()
     clone.mode("proves")
-    check((clone.ran(SHEET), clone.count()), ((0, PLAN, NOT_BUILT + FIRST + PROGRESS), 4), "the program is gone")
+    check((clone.ran(SHEET), clone.count()), ((0, PLAN, NOT_BUILT + FIRST), 4), "the program is gone")
     check((clone.ran(SHEET), clone.count()), ((0, PLAN, ""), 4), "after that")
+    for name in ("target/bin/standplan", "crates/standplan/out/standplan"):
+        (clone.at / name).unlink()
+    check((clone.ran(SHEET), clone.count()), ((0, PLAN, NOT_BUILT + FIRST + PROGRESS), 5), "both are gone")
+    check((clone.ran(SHEET), clone.count()), ((0, PLAN, ""), 5), "after that")
     # A program that fails is no answer.
     (clone.at / "target/bin/standplan").write_text("#!/bin/sh\necho verdict 0\nexit 5\n")
     check(clone.ran(SHEET), (3, b"", f"standplan: the program {clone.at}/target/bin/standplan ended with status 5\n"), "a program that fails")
@@ -111,7 +128,7 @@ def the_other(place):
     clone = Clone(place)
     said = (NOT_BUILT + FIRST + PROGRESS).replace("standplan", "standprice")
     check(clone.ran(SHEET, script="standprice"), (0, PRICE, said), "the first call")
-    check(clone.calls.read_text(), "check standprice\n", "what rt is asked for")
+    check(clone.calls.read_text(), "run standprice\n", "what rt is asked for")
     assert (clone.at / "target/standprice.log").exists() and not (clone.at / "target/standplan.log").exists()
     check(clone.ran(SHEET), (0, PLAN, NOT_BUILT + FIRST + PROGRESS), "the plan's first call")
     check((clone.ran(SHEET, script="standprice"), clone.ran(SHEET), clone.count()), ((0, PRICE, ""), (0, PLAN, ""), 2), "after that")
@@ -124,15 +141,17 @@ def failures(place):
     clone = Clone(place)
     clone.mode("broken")
     log = clone.at / "target/standplan.log"
-    end = f"rt: FAILED: walls standplan\nstandplan: the program could not be proved and built; {log} has what rt said\n"
-    check(clone.ran(SHEET), (3, b"", NOT_BUILT + FIRST + PROGRESS + end), "a crate that is not proved")
-    assert "rt: walls NOT PROVED (exit 1, 2 s)\n" in log.read_text()
+    # rt stops at the first crate that is not proved.
+    progress = "".join(PROGRESS.splitlines(True)[:2])
+    end = f"rt: the library walls did not build, so nothing above it was checked\nstandplan: the program could not be proved and built; {log} has what rt said\n"
+    check(clone.ran(SHEET), (3, b"", NOT_BUILT + FIRST + progress + end), "a crate that is not proved")
+    assert "fn walls::stand: not proved\n" in log.read_text()
     clone.mode("proves")
     check(clone.ran(SHEET)[:2], (0, PLAN), "mended")
     clone.mode("broken")
     clone.touch()
     for _ in range(2):
-        check(clone.ran(SHEET), (3, b"", OLDER + FIRST + PROGRESS + end), "an old program is not run")
+        check(clone.ran(SHEET), (3, b"", OLDER + FIRST + progress + end), "an old program is not run")
     # What is wrong with the sheet is said before anything is built.
     check(clone.ran("none"), (2, b"", "standplan: there is no file none\n"), "no file")
     # Without rt.

@@ -1,12 +1,12 @@
 -- What a sheet gives to begin a run with is what a run of it is begun with: by the definitions of the three parts.
 use mathlib.Core.Path.{◌≡◌, refl, sym, ap, subst, ◌∙◌}
-use mathlib.Core.Bool.{Bool, true, false, ◌&&◌, false≢true}
+use mathlib.Core.Bool.{Bool, true, ◌&&◌, false≢true}
 use mathlib.Core.Logic.{◌↔◌}
 use mathlib.Core.List.{List}
-use Prim.Native.Nat.{ℕ, ◌<◌, ◌≤◌}
+use Prim.Native.Nat.{ℕ, ◌<◌}
 use native.Mathlib.Omega.{arith}
-use lib.ListN.{length, drop, length-append}
-use borrow.Author.Tests.{lt-ltb, ltb-false}
+use lib.ListN.{drop, length-append}
+use borrow.Author.Tests.{lt-ltb}
 use Rattle.definitions.specs.Answers.{Beginning, beginning, count_of, leasts_of, open_map, steps_answer, steps_read, too_short}
 use Rattle.definitions.specs.Basics.{given, tabulate, test_bit}
 use Rattle.definitions.specs.Bytes.{Records}

@@ -56,7 +56,7 @@ record Computed (bytes : List ℕ) (verdict n unbounded : ℕ) (leasts : List �
 -- Calls that are all lent the sheet's table go on a run. Induction on the calls.
 calls_go_on : {q : Records} {st : State} (table leasts : List ℕ) → IsLent q table → Run q st → (cs : List Call) → Run q (after_calls st table leasts cs)
 calls_go_on table leasts lent run [] = run
-calls_go_on table leasts lent run (c ∷ cs) = calls_go_on table leasts lent (goes_on run c leasts table lent refl) cs
+calls_go_on {st = st} table leasts lent run (c ∷ cs) = calls_go_on {st = state_after st (called st table leasts c)} table leasts lent (goes_on run c leasts table lent refl) cs
 
 module _ {bytes : List ℕ} {verdict n unbounded : ℕ} {leasts : List ℕ} (computed : Computed bytes verdict n unbounded leasts) where
   accepted : Accepted bytes true (records_of bytes) verdict

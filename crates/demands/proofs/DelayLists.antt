@@ -6,7 +6,7 @@ use mathlib.Core.List.{List}
 use Prim.Native.Nat.{ℕ, zero, suc, ◌+◌, ◌≤◌, ◌<◌}
 use native.Mathlib.Omega.{arith}
 use native.Mathlib.Decide.{dec_lt}
-use Rattle.definitions.specs.Limits.{most_duration, most_extra, most_ticks}
+use Rattle.definitions.specs.Limits.{most_extra, most_ticks}
 use Rattle.definitions.specs.Basics.{tabulate}
 use Rattle.definitions.specs.Bytes.{Records}
 use Rattle.definitions.specs.Links.{delay_at, Respects}

@@ -11,11 +11,11 @@ use lib.Dec.{eqb, leb, ltb}
 use lib.ListN.{length, get_or}
 use borrow.Author.Tests.{eqb-true, ltb-true, leb-true}
 use Rattle.definitions.specs.Basics.{all, all_below, Outcome, given, refused}
-use Rattle.definitions.specs.Bytes.{links, Records, sheet, read}
+use Rattle.definitions.specs.Bytes.{Records, read}
 use Rattle.definitions.specs.Links.{Constraint, sequencing, minimum, maximum, finish_maximum, links_of, delay_at, Respects, duration_with, duration, Keeps, edges}
 use Rattle.definitions.specs.Anchors.{well_posed}
 use Rattle.definitions.specs.Rival.{Further, DelayAssignment, Lasts}
-use Rattle.definitions.specs.Answers.{closes_circle, infeasible, inconsistent, count_of, leasts_of, edges_of, serialized_of, judged}
+use Rattle.definitions.specs.Answers.{closes_circle, count_of, leasts_of, edges_of, serialized_of, judged}
 use Rattle.definitions.specs.Clashes.{impossible, few}
 use Rattle.definitions.specs.Price.{comparisons_of, entry_at, largest_offset, plan_of, power_from, price_of, price_records, printed_entry, printed_table, registers_of, stands_at, too_large}
 use Rattle.definitions.specs.Worked.{Worked, every_definition, far_undecided, listing, lists, stand, two_clashes, worked_sheets}

@@ -7,7 +7,7 @@ use Prim.Native.Nat.{ℕ, ◌≤◌, ◌<◌}
 use native.Mathlib.Omega.{arith}
 use native.Mathlib.Decide.{dec_lt}
 use Rattle.definitions.specs.Basics.{Outcome, given, refused, when_given}
-use Rattle.definitions.specs.Bytes.{Records, sheet, read}
+use Rattle.definitions.specs.Bytes.{Records, read}
 use Rattle.definitions.specs.Links.{Edge}
 use Rattle.definitions.specs.Answers.{closes_circle, count_of, edges_of, judge_edges, judge_records, judged, leasts_of}
 use Rattle.laws.proofs.Bools.{not_passing, both_ways, same_or_not}

@@ -3,7 +3,7 @@ use mathlib.Core.Path.{◌≡◌, refl, sym, ap, ap₂, ◌∙◌}
 use mathlib.Core.Bool.{Bool, true, false, not, ◌||◌}
 use mathlib.Core.Logic.{◌⊎◌, inl, inr}
 use mathlib.Core.List.Permᴰ
-use mathlib.Core.List.{List, ◌++◌, Permᴰ}
+use mathlib.Core.List.{List, ◌∷◌, ◌++◌, Permᴰ}
 use Prim.Native.Nat.{ℕ}
 use lib.ListN.{length, take, drop}
 use Rattle.definitions.specs.Basics.{any, Outcome, given, refused, refuse_if}
@@ -42,7 +42,10 @@ twice_perm : {ls ms : List Link} → Permᴰ ls ms → comes_twice ls ≡ comes_
 unfolding comes_twice any
 twice_perm Permᴰ.nil = refl
 twice_perm (Permᴰ.cons {b = b} e p) = rw (e, any_perm (same_pair b) p, twice_perm p)
-twice_perm (Permᴰ.swap {a' = l} {b' = m} {l = ls} e f) = rw (e, f, pair_turned m l, exchanged (same_pair l m) (any (same_pair m) ls) (any (same_pair l) ls) (comes_twice ls))
+twice_perm (Permᴰ.swap {a = k} {b = n} {a' = l} {b' = m} {l = ls} e f) =
+    ap (λ (x : Link). comes_twice (x ∷ n ∷ ls)) e ∙
+    ap (λ (x : Link). comes_twice (m ∷ x ∷ ls)) f ∙
+    rw (pair_turned m l) (exchanged (same_pair l m) (any (same_pair m) ls) (any (same_pair l) ls) (comes_twice ls))
 twice_perm (Permᴰ.trans p o) = twice_perm p ∙ twice_perm o
 
 -- ---- the records as they are written

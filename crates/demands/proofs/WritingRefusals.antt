@@ -18,7 +18,7 @@ use Rattle.definitions.specs.declared.Link.{Link}
 use Rattle.laws.proofs.Bools.{bool_cases, or_split, or_left, or_right}
 use Rattle.laws.proofs.Negations.{fails_unless}
 use Rattle.laws.proofs.Outcomes.{given_not_refused, refused_same, given_same, refuse_own, refuse_never, passes_by, stops_at}
-use Rattle.demands.specs.Writing.{BadCount, TooMany, BadMaps, LimitAlone, Before4, Before26, Before5, Before6, NoFault, Short, fewer_steps, fewer_links, no_room, WriteFor}
+use Rattle.demands.specs.Writing.{BadCount, Before4, Before26, Before5, Before6, NoFault, Short, fewer_steps, fewer_links, no_room, WriteFor}
 use Rattle.demands.proofs.WritingOrder.{twice_iff}
 use Rattle.demands.proofs.WritingFaults.{count_iff, many_iff, maps_iff, limits_iff, ends_iff}
 

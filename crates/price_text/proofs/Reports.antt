@@ -1,15 +1,12 @@
 -- What pricing answers says of the text that the price program prints.
 use mathlib.Core.Path.{◌≡◌, refl, sym, ap, ap₂, subst, ◌∙◌}
 use mathlib.Core.Bool.{Bool, true, false, cond, ◌&&◌, ◌||◌}
-use mathlib.Core.Logic.{inl, inr}
 use mathlib.Core.List.{List, [], ◌∷◌, ◌++◌, flat_map}
 use Prim.Native.Nat.{ℕ, ◌≤◌, ◌<◌}
 use native.Mathlib.Omega.{arith}
 use lib.ListN.{length, get_or, take, drop}
 use lib.Seq.{get_or-take, take_at}
 use borrow.Author.Tests.{le-ltb, lt-ltb}
-use denote.Enum.Declared
-use types.Run.{OneOf}
 use Rattle.definitions.specs.Answers.{count_of, open_map, too_short, written}
 use Rattle.definitions.specs.Basics.{Outcome, given, refused, refuse_if, select_below, tabulate, test_bit, when_given}
 use Rattle.definitions.specs.Bytes.{Records, read}
@@ -17,9 +14,9 @@ use Rattle.definitions.specs.Limits.{most_steps}
 use Rattle.definitions.specs.Links.{delay_at, is_open}
 use Rattle.definitions.specs.Output.{field, newline, word_refused}
 use Rattle.definitions.specs.Numbers.{verdict_of}
+use Rattle.definitions.specs.declared.Refusal.{Refusal}
 use Rattle.definitions.specs.declared.Verdict.{Verdict}
 use Rattle.definitions.specs.declared.Verdict.TheVariants as Verdicts
-use Rattle.definitions.specs.contracts.Verdict as Verdict'
 use Rattle.definitions.specs.Price.{Price, comparisons_of, comparisons_text, open_at, plan_of, price_answer, price_judged, price_of, price_read, price_records, price_report, price_text, price_verdict, price_when, printed_table, registers_of, registers_text, report_read, report_when, word_comparisons, word_registers, word_total}
 use Rattle.laws.proofs.Maps.{test_bits_below}
 use Rattle.laws.proofs.Outcomes.{given_not_refused, passes_by, refused_same}
@@ -158,12 +155,11 @@ module _ {s registers comparisons : List ℕ} {x y : ℕ} (prices : Prices s reg
       prices.comparison_sum
       ∙ sym reported
 
--- A verdict that is one of the first two cases accepts.
-pub accepting : (w : Verdict) → OneOf (0 ∷ 1 ∷ []) (Declared.tag_of Verdict'.the_type w) → (v : ℕ) × (verdict_of w ≡ given v)
+-- A verdict that is no refusal accepts.
+pub accepting : (w : Verdict) → ((k : Refusal) → w ≡ Verdicts.Refused k → ⊥) → (v : ℕ) × (verdict_of w ≡ given v)
 accepting Verdicts.WellPosed h = (0, refl)
 accepting Verdicts.Serialized h = (1, refl)
-accepting (Verdicts.Refused k) (inl e) = absurd (omega arith)
-accepting (Verdicts.Refused k) (inr e) = absurd (omega arith)
+accepting (Verdicts.Refused k) h = absurd (h k refl)
 
 -- What a quotation by the printed table says, lent numbers for the most steps: N, the open steps and the price of a sheet, or the refusal that is printed.
 module _ (s : List ℕ) (bytes : Bytes s) (registers comparisons : List ℕ) (long : most_steps ≤ length registers) (wide : most_steps ≤ length comparisons) {entries : List ℕ} (is-printed : entries ≡ printed_table) {r : Quotation} {registers' comparisons' : List ℕ} (returned : QuoteReturned entries s true registers comparisons r registers' comparisons') where

@@ -1,23 +1,52 @@
-// Text of the test programs, written to standard output. No contract of io says what is written, so none is given here: what the programs print is compared with what is stored.
+// What the programs read and write, from a reader and to a writer that are lent, which are standard input and output.
 #![tactic(auto)]
 
+ghost use Rattle.std.specs.Prelude.{◌∷◌, ◌<◌, ◌≤◌, decimal, length, take, IfOk, OnOk};
+ghost use Rattle.print_console.specs.Texts.{code_text};
+ghost use Rattle.std.specs.Io.KnownBytes.{Appends, Consumes, IsAtEnd};
+
+use std::io;
+use std::io::{Read, Write};
+
+// Reads until the lent bytes are full or the input ends. Returns how many there are.
+pub fn read_full<R: Read>(input: &mut R, buffer: &mut [u8]) -> io::Result<usize>
+    ensures within { IfOk result (λ n. n ≤ length buffer.new) }
+    ensures bytes { IfOk result (λ n. Consumes (R.remaining input.old) (R.remaining input.new) (take n buffer.new)) }
+    ensures end { IfOk result (λ n. n < length buffer.new → IsAtEnd (R.remaining input.new)) }
+{
+    let mut done = 0;
+    while done < buffer.len() {
+        let n = input.read(&mut buffer[done..])?;
+        if n == 0 {
+            return Ok(done);
+        }
+        done += n;
+    }
+    Ok(done)
+}
+
 // The bytes of a word.
-pub fn write(word: &[u8]) {
-    io::write_all(libc::STDOUT_FILENO, word);
+pub fn write<W: Write>(out: &mut W, word: &[u8]) -> io::Result<()>
+    ensures { OnOk result (Appends (W.contents out.old) (W.contents out.new) word.now) }
+{
+    out.write_all(word)
 }
 
 // A space, then a number.
-pub fn write_number(x: u64) {
-    write(b" ");
-    io::print_decimal(libc::STDOUT_FILENO, x);
+pub fn write_number<W: Write>(out: &mut W, x: u64) -> io::Result<()>
+    ensures { OnOk result (Appends (W.contents out.old) (W.contents out.new) (32 ∷ decimal x)) }
+{
+    write!(out, " {x}")
 }
 
 // A space, then a verdict that is given by its number (crate data_numbers): that number below 256, else `refused` and the refusal's.
-pub fn write_code(code: u32) {
+pub fn write_code<W: Write>(out: &mut W, code: u32) -> io::Result<()>
+    ensures { OnOk result (Appends (W.contents out.old) (W.contents out.new) (code_text code)) }
+{
     if code < 256 {
-        write_number(code as u64);
+        write_number(out, code as u64)
     } else {
-        write(b" refused");
-        write_number((code - 256) as u64);
+        write(out, b" refused")?;
+        write_number(out, (code - 256) as u64)
     }
 }

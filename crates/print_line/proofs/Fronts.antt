@@ -1,9 +1,10 @@
 -- A text that is written from the front of the buffer, and the line of a refusal.
-use mathlib.Core.Path.{◌≡◌, refl, subst, ap}
+use mathlib.Core.Path.{◌≡◌, refl, sym, subst, ap, ◌∙◌}
 use mathlib.Core.List.{List, [], ◌∷◌, ◌++◌}
 use Prim.Native.Nat.{ℕ, ◌+◌, ◌≤◌}
 use native.Mathlib.Omega.{arith}
-use lib.ListN.{length, drop, length-append}
+use lib.ListN.{length, take, drop, length-append}
+use lib.Seq.{take_at}
 use Rattle.definitions.specs.Output.{field, newline}
 use Rattle.data_buffers.specs.Texts.{Put, texts}
 use Rattle.data_buffers.proofs.Writing.{put_front}
@@ -29,3 +30,7 @@ heading_as_line word x = refl
 pub heading_limit : (word : List ℕ) (x : ℕ) → length (heading word x) ≤ length word + 12
 unfolding heading
 heading_limit word x = omega (arith, length-append (word ++ field x) newline, length-append word (field x), field_length x)
+
+-- What stands before the end that is returned is the text.
+pub printed_taken : {t : List ℕ} {size : ℕ} {old new : List ℕ} → Printed t size old new → take size new ≡ t
+printed_taken {t} {size} {old} p = ap (take size) p.bytes ∙ take_at t (drop (length t) old) size (sym p.long)

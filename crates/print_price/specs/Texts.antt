@@ -3,7 +3,7 @@ use Rattle.std.specs.Prelude.{cond, List, [], ◌++◌, ℕ, ◌+◌, ◌*◌, �
 use Rattle.definitions.specs.Basics.{test_bit}
 use Rattle.definitions.specs.Limits.{most_steps}
 use Rattle.definitions.specs.Output.{field, newline}
-use Rattle.definitions.specs.Price.{Price, registers_text, comparisons_text, word_registers, word_comparisons, word_total}
+use Rattle.definitions.specs.Price.{Price, word_registers, word_comparisons, word_total}
 use Rattle.data_buffers.specs.Texts.{texts}
 
 -- A price from what is lent: a number of registers and one of comparisons for each step, and the two sums.

@@ -6,7 +6,7 @@ use Prim.Native.Nat.{ℕ, ◌+◌, ◌≤◌, ◌<◌}
 use native.Mathlib.Omega.{arith}
 use native.Mathlib.Decide.{dec_lt}
 use lib.ListN.{length, drop}
-use Rattle.definitions.specs.Basics.{given, refused, when_given}
+use Rattle.definitions.specs.Basics.{refused, when_given}
 use Rattle.definitions.specs.Bytes.{byte, two_bytes, ticks_if}
 use Rattle.laws.proofs.Parsers.{drop_byte, drop_end}
 use Rattle.read_fields.specs.Answers.{item_at, number_at, field_at, field_end}

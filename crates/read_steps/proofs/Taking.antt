@@ -2,17 +2,14 @@
 use mathlib.Core.Path.{◌≡◌, refl, sym, ap, ◌∙◌}
 use mathlib.Core.Logic.{inl, inr}
 use mathlib.Core.List.{List}
-use Prim.Native.Nat.{ℕ, ◌+◌, ◌*◌, ◌≤◌, ◌<◌}
+use Prim.Native.Nat.{ℕ, ◌≤◌, ◌<◌}
 use native.Mathlib.Omega.{arith}
 use lib.ListN.{length, drop, set}
-use borrow.Author.Tests.{ne_eqb}
 use Rattle.definitions.specs.Bytes.{Parser}
 use Rattle.definitions.specs.Links.{ticks_said, least_with}
-use Rattle.definitions.specs.declared.Bound.{Bound}
 use Rattle.definitions.specs.declared.Bound.TheVariants.{Absent, Ticks}
 use Rattle.definitions.specs.declared.Delay.TheVariants.{Open, Fixed}
 use Rattle.definitions.specs.declared.Operation.{Operation}
-use Rattle.data_edges.specs.Words.{counted_place, gain_place}
 use Rattle.read_fields.specs.Answers.{item_at}
 use Rattle.read_steps.specs.Leaving.{added}
 use Rattle.read_steps.specs.Answers.{StepTaken, StepReads}

@@ -5,13 +5,13 @@ use mathlib.Core.List.{List, ◌++◌}
 use Prim.Native.Nat.{ℕ, zero, suc, ◌≤◌, ◌<◌}
 use native.Mathlib.Omega.{arith}
 use lib.Dec.{eqb, ltb}
-use lib.ListN.{length, get_or, drop}
+use lib.ListN.{length, drop}
 use borrow.Author.Tests.{eqb-true, le-ltb, lt-ltb}
 use Rattle.definitions.specs.Answers.{Beginning, beginning, count_of, leasts_of, open_map, steps_answer, steps_read, too_short}
 use Rattle.definitions.specs.Basics.{Outcome, given, refused, bits_below, refuse_if, tabulate, test_bit, when_given}
 use Rattle.definitions.specs.Bytes.{Records, read}
 use Rattle.definitions.specs.Links.{delay_at, is_open}
-use Rattle.definitions.specs.Numbers.{number, status_of}
+use Rattle.definitions.specs.Numbers.{number}
 use Rattle.definitions.specs.declared.Refusal.{Refusal}
 use Rattle.definitions.specs.declared.Refusal.TheVariants.{TooShort}
 use Rattle.definitions.specs.declared.Status.{Status}

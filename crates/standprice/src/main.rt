@@ -1,6 +1,13 @@
 // Reads one sheet from standard input, allows waits, and prints the price of its control box or its refusal (request L5).
 #![tactic(auto)]
 
+ghost use Rattle.std.specs.Prelude.{IfSome, OnOk};
+ghost use Rattle.std.specs.Io.KnownBytes.{Appends};
+ghost use Rattle.definitions.specs.Price.{price_report};
+
+use std::io;
+use std::io::{Read, Write};
+
 // More bytes than the longest sheet has, so those of an input that are read decide what is printed of it: `front_decides` (crates/demands/proofs/Demands.antt).
 const INPUT_ROOM: usize = 8192;
 
@@ -8,14 +15,23 @@ const INPUT_ROOM: usize = 8192;
 const TEXT_ROOM: usize = 3228;
 
 // Prints the text of the bytes of a sheet.
-fn print(s: &[u8]) {
+fn print<W: Write>(s: &[u8], out: &mut W) -> io::Result<()>
+    ensures { OnOk result (Appends (W.contents out.old) (W.contents out.new) (price_report s.now)) }
+{
     let mut text = [0u8; TEXT_ROOM];
     let size = price_text::standprice(s, &mut text);
-    io::write_all(libc::STDOUT_FILENO, &text[..size]);
+    print_console::write(out, &text[..size])
 }
 
-fn main() {
-    let mut input = [0u8; INPUT_ROOM];
-    let n = io::read_full(libc::STDIN_FILENO, &mut input);
-    print(&input[..n]);
+// Prints the text of all that an input holds.
+fn run<R: Read, W: Write>(input: &mut R, out: &mut W) -> io::Result<()>
+    ensures { OnOk result (IfSome (R.remaining input.old) (λ s. Appends (W.contents out.old) (W.contents out.new) (price_report s))) }
+{
+    let mut bytes = [0u8; INPUT_ROOM];
+    let n = print_console::read_full(input, &mut bytes)?;
+    print(&bytes[..n], out)
+}
+
+fn main(rt: HostRuntime) -> io::Result<()> {
+    run(&mut rt.stdin(), &mut rt.stdout())
 }

@@ -5,7 +5,7 @@ use mathlib.Core.Logic.{◌≢◌, ◌⊎◌, inl, inr}
 use Prim.Native.Nat.{◌+◌, ◌<◌, ◌≤◌, suc, ℕ}
 use native.Mathlib.Omega.{arith}
 use Rattle.definitions.specs.Anchors.{InAnchorSet, chain, is_source}
-use Rattle.definitions.specs.Links.{After, AfterWalk, Edge, Forward, Graph, Joined, Walk, ◌⊑◌, step, stop, no_leasts}
+use Rattle.definitions.specs.Links.{After, AfterWalk, Edge, Forward, Graph, Joined, Walk, ◌⊑◌, step, stop}
 use Rattle.definitions.specs.Plan.{Offset, Span, after, source}
 use Rattle.laws.proofs.Bools.{bool_cases, both_ways, cond_false, cond_true, same_or_not}
 use Rattle.theory.specs.Graphs.{Acyclic, Carries, Schedule, Shape, Timely}

@@ -1,19 +1,17 @@
 -- The parts that numbers stand for: map by map, and one more at a time.
-use mathlib.Core.Path.{◌≡◌, refl, sym, ap, ap₂, ◌∙◌}
-use mathlib.Core.Bool.{Bool, true, false, cond, ◌||◌}
+use mathlib.Core.Path.{◌≡◌, sym, ap, ap₂, ◌∙◌}
+use mathlib.Core.Bool.{cond}
 use mathlib.Core.Logic.{◌≢◌}
 use mathlib.Core.List.{List, ◌∷◌, [], ◌++◌}
 use Prim.Native.Nat.{ℕ, ◌+◌, ◌*◌, ◌/◌, ◌≤◌, ◌<◌}
 use native.Mathlib.Omega.{arith}
 use native.Mathlib.Numerals.{add-one}
-use lib.Dec.{eqb, leb}
 use lib.ListN.{length, get_or, set, take}
 use lib.Seq.{take-suc, take-suc-set}
 use borrow.Author.Tests.{le-leb, lt-leb, ne_eqb}
-use Rattle.definitions.specs.Basics.{tabulate, test_bit}
+use Rattle.definitions.specs.Basics.{test_bit}
 use Rattle.definitions.specs.Bytes.{blank_operation, bound_from, delay_from, operation_map}
 use Rattle.definitions.specs.Clashes.{blank_link}
-use Rattle.definitions.specs.declared.Bound.{Bound}
 use Rattle.definitions.specs.declared.Bound.TheVariants.{Absent, Ticks}
 use Rattle.definitions.specs.declared.Delay.TheVariants.{Fixed, Open}
 use Rattle.definitions.specs.declared.Link.{Link}

@@ -1,9 +1,8 @@
 -- Numbers stand for the parts that they are the numbers of; and what they stand for fits two bytes.
 use mathlib.Core.Path.{◌≡◌, refl, sym, ap, ap₂, subst, ◌∙◌}
 use mathlib.Core.Bool.{Bool, true, false, cond}
-use mathlib.Core.Logic.{◌⊎◌, inl, inr}
 use mathlib.Core.List.{List, Memᴰ}
-use Prim.Native.Nat.{ℕ, zero, suc, ◌+◌, ◌*◌, ◌/◌, ◌≤◌, ◌<◌, min}
+use Prim.Native.Nat.{ℕ, zero, suc, ◌+◌, ◌*◌, ◌/◌, ◌≤◌, ◌<◌}
 use native.Mathlib.Omega.{arith}
 use lib.Dec.{leb}
 use lib.ListN.{get_or, length, take, length-take}
@@ -14,20 +13,20 @@ use Rattle.definitions.specs.Clashes.{blank_link}
 use Rattle.definitions.specs.Limits.{most_ticks}
 use Rattle.definitions.specs.Links.{ticks_said}
 use Rattle.definitions.specs.Plan.{row_part}
-use Rattle.definitions.specs.Writer.{bit_of, duration_of, link_map_of, open_bit, operation_map_of, parts}
+use Rattle.definitions.specs.Writer.{bit_of, duration_of, link_map_of, open_bit, operation_map_of}
 use Rattle.definitions.specs.declared.Bound.{Bound}
 use Rattle.definitions.specs.declared.Bound.TheVariants.{Absent, Ticks}
 use Rattle.definitions.specs.declared.Delay.{Delay}
 use Rattle.definitions.specs.declared.Delay.TheVariants.{Open, Fixed}
 use Rattle.definitions.specs.declared.Link.{Link}
 use Rattle.definitions.specs.declared.Operation.{Operation}
-use Rattle.laws.proofs.Bools.{bool_cases, both_ways, cond_false}
-use Rattle.laws.proofs.Lists.{Place, mem_place}
+use Rattle.laws.proofs.Bools.{both_ways, cond_false}
+use Rattle.laws.proofs.Lists.{mem_place}
 use Rattle.laws.proofs.Tests.{tabulate_at, tabulate_length}
-use Rattle.demands.specs.Writing.{FieldFits, LinkNumbers, Numbers, StepNumbers}
+use Rattle.demands.specs.Writing.{FieldFits, LinkNumbers, StepNumbers}
 use Rattle.demands.proofs.WritingRead.{bit_0, bit_1, bit_2, bit_3, bit_4, bound_back, flag_small, link_digits, there}
 use Rattle.write_numbers.specs.Decoding.{end_from, record_at, record_from, records_in, step_at, step_from, steps_in, wrong_step}
-use Rattle.write_numbers.specs.Encoding.{NumbersFit, NumbersStandFor, StandFor, link_numbers, step_numbers, step_ticks}
+use Rattle.write_numbers.specs.Encoding.{NumbersFit, NumbersStandFor, link_numbers, step_numbers, step_ticks}
 use Rattle.write_numbers.proofs.Decoded.{record_known, record_wrong}
 
 -- ---- numbers at their places

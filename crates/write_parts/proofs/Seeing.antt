@@ -1,23 +1,21 @@
 -- What the parts show, one more at a time: the tests for their faults, and their sizes.
 use mathlib.Core.Path.{◌≡◌, refl, sym, ap, ap₂, ◌∙◌}
 use mathlib.Core.Bool.{Bool, true, false, not, ◌&&◌, ◌||◌, and_assoc, and-true}
-use mathlib.Core.List.{List, [], ◌∷◌, ◌++◌, append-nil, flat_map, map}
-use Prim.Native.Nat.{ℕ, zero, suc, ◌+◌, ◌*◌, ◌≤◌, ◌<◌}
+use mathlib.Core.List.{List, [], ◌∷◌, ◌++◌, flat_map, map}
+use Prim.Native.Nat.{ℕ, suc, ◌+◌, ◌≤◌, ◌<◌}
 use native.Mathlib.Omega.{arith}
 use native.Mathlib.Numerals.{add-one}
 use lib.Dec.{eqb, leb}
 use lib.ListN.{length, get_or, take, drop, set, length-append, length-drop, length-map}
 use lib.Seq.{take-suc, drop-cons, set_at, append_snoc, length-take-le}
-use borrow.Author.Tests.{le-leb, lt-leb, eq-eqb, ne_eqb}
+use borrow.Author.Tests.{le-leb, lt-leb, ne_eqb}
 use Rattle.definitions.specs.Basics.{any, test_bit}
 use Rattle.definitions.specs.Bytes.{endpoints, link_map, operation_map, sequenced}
-use Rattle.definitions.specs.Limits.{longest_record}
 use Rattle.definitions.specs.Writer.{bad_ends, link_bytes, link_map_of, operation_bytes, operation_map_of, steps_mapped, unsequenced}
 use Rattle.definitions.specs.declared.Link.{Link}
 use Rattle.definitions.specs.declared.Operation.{Operation}
 use Rattle.laws.proofs.Lists.{flatMap_snoc}
 use Rattle.laws.proofs.Searches.{any_snoc, map_take_more}
-use Rattle.write_fields.specs.Sizes.{largest_step}
 use Rattle.write_parts.specs.declared.LinksFound.{LinksFound}
 use Rattle.write_parts.specs.declared.StepsFound.{StepsFound}
 use Rattle.write_parts.specs.Parts.{cell_of, link_maps_bad, StepsScanned, StepSeen, LinksShown, LinkSeen, LinksScanned}

@@ -54,7 +54,7 @@ link_fits l vs g = record {
 }
 
 -- What holds of each value of a type holds of each of the first k elements of an array.
-of_members : (R : RattleType) (P : R.Denot → Type 0) → ((x : R.Denot) (vs : List Val) → Is R x vs → P x) → (xs : List R.Denot) (us : List Val) → shadow (each R.Denot R.own xs us) → (k : ℕ) (x : R.Denot) → Memᴰ x (take k xs) → P x
+of_members : (R : RattleType) (P : R.Denot → Type 0) → ((x : R.Denot) (vs : List Val) → Is R x vs → P x) → (xs : List R.Denot) (us : List Val) → shadow (each R.Denot R.own_val xs us) → (k : ℕ) (x : R.Denot) → Memᴰ x (take k xs) → P x
 of_members R P h xs us s zero x m = absurd (Memᴰ.not-nil m)
 of_members R P h [] us s (suc k) x m = absurd (Memᴰ.not-nil m)
 of_members R P h (y ∷ xs) [] s (suc k) x m = absurd s

@@ -1,22 +1,22 @@
 -- Records ordered by their cells are in rising order: a pair comes twice where a cell does, and the records by rising cells are those of the definition, since only one order of them rises.
-use mathlib.Core.Path.{◌≡◌, refl, sym, ap, subst, ◌∙◌}
-use mathlib.Core.Bool.{Bool, true, false, not}
-use mathlib.Core.Logic.{◌⊎◌, inl, inr, ◌↔◌}
+use mathlib.Core.Path.{◌≡◌, sym, ap, subst, ◌∙◌}
+use mathlib.Core.Bool.{true, false, not}
+use mathlib.Core.Logic.{inl, inr, ◌↔◌}
 use mathlib.Core.List.Memᴰ
-use mathlib.Core.List.{List, [], ◌∷◌, ◌++◌, flat_map, map, map-map, Memᴰ, Permᴰ}
-use Prim.Native.Nat.{ℕ, ◌+◌, ◌*◌, ◌≤◌, ◌<◌}
+use mathlib.Core.List.{List, map, map-map, Memᴰ}
+use Prim.Native.Nat.{ℕ, ◌≤◌, ◌<◌}
 use native.Mathlib.Decide.{dec_lt}
 use native.Mathlib.Omega.{arith}
-use lib.ListN.{length, get_or, take, length-append, length-map, get_or-map}
+use lib.ListN.{length, get_or, take, length-map, get_or-map}
 use lib.Seq.{get_or-take, length-take-le}
 use borrow.Author.Tests.{not-false}
-use Rattle.definitions.specs.Basics.{any, any_below, select_below}
+use Rattle.definitions.specs.Basics.{select_below}
 use Rattle.definitions.specs.Bytes.{endpoints}
 use Rattle.definitions.specs.Clashes.{blank_link}
 use Rattle.definitions.specs.Limits.{most_records, most_steps}
 use Rattle.definitions.specs.Writer.{bad_ends, comes_twice, rising}
 use Rattle.definitions.specs.declared.Link.{Link}
-use Rattle.laws.proofs.Bools.{both_ways, same_test}
+use Rattle.laws.proofs.Bools.{same_test}
 use Rattle.laws.proofs.Lists.{Place, mem_at, mem_place}
 use Rattle.laws.proofs.Tests.{any_none, any_below_has, select_below_has, select_below_only}
 use Rattle.demands.specs.Demands.{Rising}

@@ -1,5 +1,5 @@
 -- The refusals of the writer in their order, as the code meets them: each stop is the verdict's, and what is passed leaves the rest of it.
-use mathlib.Core.Path.{◌≡◌, refl, sym, ap, ap₂, subst, ◌∙◌}
+use mathlib.Core.Path.{◌≡◌, refl, sym, ap, ap₂, ◌∙◌}
 use mathlib.Core.Bool.{Bool, true, false, not, ◌&&◌, ◌||◌}
 use mathlib.Core.List.{List}
 use Prim.Native.Nat.{ℕ, ◌≤◌, ◌<◌, min}
@@ -13,7 +13,7 @@ use Rattle.definitions.specs.Answers.{too_short, written}
 use Rattle.definitions.specs.Basics.{Outcome, given, refused, refuse_if, when_given}
 use Rattle.definitions.specs.Bytes.{Records}
 use Rattle.definitions.specs.Limits.{most_records, most_steps}
-use Rattle.definitions.specs.Numbers.{number, tally_of}
+use Rattle.definitions.specs.Numbers.{number}
 use Rattle.definitions.specs.Writer.{bad_ends, bad_maps, comes_twice, parts, parts_short, sheet_bytes, unsequenced, write_answer, write_verdict}
 use Rattle.definitions.specs.declared.Link.{Link}
 use Rattle.definitions.specs.declared.Operation.{Operation}

@@ -1,10 +1,10 @@
 -- The sheet as it is put is the definition's: as many parts are there as the counts say, and the order of the records is the rising one.
 use mathlib.Core.Path.{◌≡◌, refl, sym, ap, ap₂, subst, ◌∙◌}
 use mathlib.Core.Bool.{Bool, true, false}
-use mathlib.Core.List.{List, [], ◌∷◌, ◌++◌, flat_map, map, Memᴰ, Permᴰ}
+use mathlib.Core.List.{List, ◌∷◌, ◌++◌, flat_map, Permᴰ}
 use Prim.Native.Nat.{ℕ, ◌+◌, ◌*◌, ◌≤◌, ◌<◌}
 use native.Mathlib.Omega.{arith}
-use lib.ListN.{length, get_or, take, drop, length-append, length-drop, length-map, length-take, get_or-append}
+use lib.ListN.{length, get_or, take, drop, length-append, length-map, length-take, get_or-append}
 use lib.Seq.{get_or-take, length-take-le, take_at}
 use Rattle.definitions.specs.Basics.{refused}
 use Rattle.definitions.specs.Bytes.{Records}
@@ -19,7 +19,7 @@ use Rattle.laws.proofs.Lists.{map_same, mem_at}
 use Rattle.demands.proofs.WritingBytes.{sheet_length}
 use Rattle.demands.proofs.WritingOrder.{rising_perm}
 use Rattle.write_fields.specs.Sizes.{largest_step}
-use Rattle.write_order.specs.Cells.{CellsFit, OrderReady, Orders, in_order, repeats}
+use Rattle.write_order.specs.Cells.{OrderReady, Orders, in_order, repeats}
 use Rattle.write_bytes.specs.Sheets.{OrderFits, numbered, sheet_text}
 use Rattle.write_parts.specs.Parts.{LinksScanned, LinksShown, StepsScanned, cell_of}
 use Rattle.write_parts.specs.declared.LinksFound.{LinksFound}

@@ -1,5 +1,5 @@
 -- What the sheet writer returns, and what it leaves in the buffer that is lent (request L4).
-use Rattle.std.specs.Prelude.{◌≡◌, Bool, not, ◌||◌, List, ℕ, ◌≤◌, length, take}
+use Rattle.std.specs.Prelude.{◌≡◌, not, ◌||◌, List, ℕ, ◌≤◌, length, take}
 use Rattle.definitions.specs.Answers.{too_short, written}
 use Rattle.definitions.specs.Basics.{Outcome, given, refuse_if}
 use Rattle.definitions.specs.Bytes.{Records}

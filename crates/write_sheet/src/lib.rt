@@ -25,6 +25,7 @@ fn unmapped(found: StepsFound, seen: LinksFound) -> bool
 }
 
 // The first fault of the parts, by number: 4, 26, 5.
+#[tactic(auto, using(crate::proofs::Verdicts::fault_maps, crate::proofs::Verdicts::fault_limits, crate::proofs::Verdicts::fault_ends, crate::proofs::Verdicts::fault_none))]
 fn fault(found: StepsFound, seen: LinksFound) -> Status
     ensures { Faults found seen result }
 {

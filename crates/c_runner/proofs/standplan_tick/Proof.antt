@@ -4,9 +4,6 @@ use borrow.Author.Rules.{rules}
 use Rattle.c_runner.proofs.standplan_tick.Statement.{statement}
 use Rattle.c_runner.proofs.standplan_tick.Tie as tie
 
-slice_aggregate_perform : tie.Need-slice-aggregate-perform
-slice_aggregate_perform c = search rules
-
 perform-requires : tie.Need-perform-requires
 perform-requires c κs = search rules
 
@@ -15,4 +12,4 @@ unfolding called
 returns c = c.perform.ensures
 
 pub standplan_tick_spec : {M : Type 1} → statement M
-standplan_tick_spec = tie.close (tie.spec slice_aggregate_perform perform-requires returns)
+standplan_tick_spec = tie.close (tie.spec perform-requires returns)

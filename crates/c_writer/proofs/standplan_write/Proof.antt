@@ -16,42 +16,21 @@ use borrow.Author.Rules.{rules}
 use Rattle.c_writer.proofs.standplan_write.Statement.{statement}
 use Rattle.c_writer.proofs.standplan_write.Tie as tie
 
--- Places on the way. From where the sheet has been written: where the numbers of the records and of the steps are known, and the start.
-abbrev records_known : tie.After-write_given-tally → tie.After-shared_slice_known-2-1
-records_known w = w.before.before.before.before.before.before.before.before.before
-
-abbrev steps_known : tie.After-write_given-tally → tie.After-shared_slice_known-1
-steps_known w = (records_known w).before
-
-abbrev start : tie.After-write_given-tally → tie.Start
-start w = (steps_known w).before
-
 -- Every number that is lent is one of 16 bits, so what they stand for fits.
-parts_fit : (w : tie.After-write_given-tally) →
-    let s = start w in
-    Numbers (parts s.args.n s.args.r (steps_in s.args.steps.now) (records_in s.args.records.now))
-parts_fit w =
-    let s = start w in
-    numbers_fit s.args.n s.args.r s.args.steps.now s.args.records.now (λ i. omega (arith, (steps_known w).shared_slice_known-1.given i)) (λ i. omega (arith, (records_known w).shared_slice_known-2-1.given i))
+parts_fit : (w : tie.After-write_given-tally) → Numbers (parts w.args.n w.args.r (steps_in w.args.steps.now) (records_in w.args.records.now))
+parts_fit w = numbers_fit w.args.n w.args.r w.args.steps.now w.args.records.now (λ i. omega (arith, w.shared_slice_known-1.given i)) (λ i. omega (arith, w.shared_slice_known-2-1.given i))
 
 -- What was returned is the answer for all parts that the numbers stand for.
-answered : (w : tie.After-write_given-tally) →
-    let s = start w in
-    WriteReturned s.args.n s.args.r (steps_in s.args.steps.now) (records_in s.args.records.now) s.args.buffer.now w.write_given-tally.result w.write_given-tally.new.out
+answered : (w : tie.After-write_given-tally) → WriteReturned w.args.n w.args.r (steps_in w.args.steps.now) (records_in w.args.records.now) w.args.buffer.now w.write_given-tally.result w.write_given-tally.new.out
 answered w =
-    let links = w.before.before in
-    let steps = links.before in
-    let b = steps.before in
-    let a = b.before.before in
-    let s = start w in
     returned_all
-    {a = a.smaller-a.result}
-    {b = b.smaller-b.result}
+    {a = w.smaller-a.result}
+    {b = w.smaller-b.result}
     w.write_given-tally.ensures
-    steps.steps_from.ensures
-    links.records_from.ensures
-    (omega (arith, a.smaller-a.ensures, a.smaller.ensures, steps_length s.args.steps.now))
-    (omega (arith, b.smaller-b.ensures, b.smaller-2.ensures, records_length s.args.records.now))
+    w.steps_from.ensures
+    w.records_from.ensures
+    (omega (arith, w.smaller-a.ensures, w.smaller.ensures, steps_length w.args.steps.now))
+    (omega (arith, w.smaller-b.ensures, w.smaller-2.ensures, records_length w.args.records.now))
 
 smaller-requires : tie.Need-smaller-requires
 smaller-requires c κs = search rules
@@ -82,8 +61,8 @@ shape_of-buffer-in-Count c = search rules
 
 returns-in-Count : tie.Need-returns-in-Count
 returns-in-Count c =
-    let w = c.before.before.before.before.before in
-    let lent = (start w).args.length.now in
+    let w = c.before.before.before in
+    let lent = c.args.length.now in
     let answer = sym (ap tally_of c.in-Count.is) ∙ (answered w).verdict in
     record {
       counted = record { verdict = ap tally_code answer; numbers = (answered w).numbers; count = ap (λ (o : Outcome ℕ). count_left o lent) answer };
@@ -101,8 +80,8 @@ shape_of-buffer c = search rules
 
 returns : tie.Need-returns
 returns c =
-    let w = c.before.before.before.before.before in
-    let lent = (start w).args.length.now in
+    let w = c.before.before.before.before in
+    let lent = c.args.length.now in
     let answer = sym (ap tally_of c.in_default.is) ∙ (answered w).verdict in
     record {
       counted = record { verdict = c.tally_code.ensures ∙ ap tally_code (answered w).verdict; numbers = (answered w).numbers; count = ap (λ (o : Outcome ℕ). count_left o lent) answer };

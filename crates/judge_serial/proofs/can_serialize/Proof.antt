@@ -1,42 +1,33 @@
 -- `judge_serial::can_serialize` meets its contract: without a late return waits can always be put in; else they are tried, as the edges as sent are for 8 and for 10.
 use borrow.Author.Rules.{rules}
 use mathlib.Core.Path.{sym, ◌∙◌}
-use Prim.Native.Nat.{ℕ}
-use borrow.Author.Tests.{not-true}
 use Rattle.data_edges.specs.Serial.{leasts_in}
 use Rattle.judge_serial.proofs.Trying.{circle_refused, timely_passes, times_refused}
 use Rattle.judge_serial.proofs.can_serialize.Statement.{statement}
 use Rattle.judge_serial.proofs.can_serialize.Tie as tie
 
--- The start, from where it was seen whether a return is late.
-abbrev start : tie.After-has_late → tie.Start
-start s = s.before.before.before
-
-abbrev least : tie.After-has_late → ℕ → ℕ
-least s = leasts_in (start s).args.leasts.now
-
 has_late-requires : tie.Need-has_late-requires
 has_late-requires c κs = search rules
 
 returns-then-not-has_late : tie.Need-returns-then-not-has_late
-returns-then-not-has_late c w = timely_passes (least c.before) (start c.before).requires.few w.well w.acyclic (sym c.has_late.ensures ∙ not-true _ c.if-not-has_late.true)
+returns-then-not-has_late c w = timely_passes (leasts_in c.args.leasts.now) c.requires.few w.well w.acyclic (sym c.has_late.ensures ∙ c.if-not-has_late.true)
 
 closes_circle-requires : tie.Need-closes_circle-requires
 closes_circle-requires c κs = search rules
 
 returns-then-closes_circle : tie.Need-returns-then-closes_circle
 returns-then-closes_circle c w =
-    let s = c.before.before.before in
-    circle_refused (least s) (start s).requires.few w.well (sym (c.closes_circle.ensures (least s) w.well.shape w.waits) ∙ c.if-closes_circle.true)
+    let least = leasts_in c.args.leasts.now in
+    circle_refused least c.requires.few w.well (sym (c.closes_circle.ensures least w.well.shape w.waits) ∙ c.if-closes_circle.true)
 
 leaves_times-requires : tie.Need-leaves_times-requires
 leaves_times-requires c κs = search rules
 
 returns : tie.Need-returns
 returns c w =
-    let s = c.before.before.before.before in
-    let no_circle = sym (c.closes_circle.ensures (least s) w.well.shape w.waits) ∙ c.if-closes_circle.false in
-    c.leaves_times.ensures w.well w.gains w.leasts w.waits no_circle ∙ times_refused (least s) (start s).requires.few w.well no_circle
+    let least = leasts_in c.args.leasts.now in
+    let no_circle = sym (c.closes_circle.ensures least w.well.shape w.waits) ∙ c.if-closes_circle.false in
+    c.leaves_times.ensures w.well w.gains w.leasts w.waits no_circle ∙ times_refused least c.requires.few w.well no_circle
 
 pub can_serialize_spec : {M : Type 1} → statement M
 can_serialize_spec =

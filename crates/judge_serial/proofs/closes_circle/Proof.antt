@@ -23,10 +23,8 @@ arrange-requires c κs = search rules
 
 returns : tie.Need-returns
 returns c least shape waits =
-    let s = c.before.before.before in
-    let b = s.before.before in
-    let rows = s.waited_rows-rows in
-    sym (arranged_circle (waited_predecessors least b.requires shape rows.result rows.ensures.0 (λ v u. rows.ensures.1 v u ∙ ap (λ (m : List ℕ). ltb v b.args.n && (any (precedes v u) (graph b.args.es.now) || row_bit m v u)) waits)) (serialized_shape shape least) c.arrange.ensures)
+    let rows = c.waited_rows-rows in
+    sym (arranged_circle (waited_predecessors least c.requires shape rows.result rows.ensures.0 (λ v u. rows.ensures.1 v u ∙ ap (λ (m : List ℕ). ltb v c.args.n && (any (precedes v u) (graph c.args.es.now) || row_bit m v u)) waits)) (serialized_shape shape least) c.arrange.ensures)
 
 pub closes_circle_spec : {M : Type 1} → statement M
 closes_circle_spec =

@@ -34,8 +34,7 @@ loop-k-smaller c = search rules
 
 loop-k-preserved : tie.Need-loop-k-preserved invariant-loop-k decreases-loop-k
 loop-k-preserved c =
-    let s = c.before.before.before in
-    (search rules, seen_more s.args.es.now s.loop-k.k _ _ (search rules) s.loop-k.invariant.1 c.union-seen.ensures)
+    (search rules, seen_more c.args.es.now c.loop-k.k _ _ (search rules) c.loop-k.invariant.1 c.union-seen.ensures)
 
 is_late-requires : tie.Need-is_late-requires invariant-loop-k decreases-loop-k
 is_late-requires c κs = search rules

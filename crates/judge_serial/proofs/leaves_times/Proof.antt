@@ -5,7 +5,7 @@ use mathlib.Core.Path.{◌≡◌, ap, sym, ◌∙◌}
 use mathlib.Core.List.{List}
 use lib.Dec.{eqb}
 use lib.ListN.{replicate}
-use borrow.Author.Tests.{eqb-false, eqb-true, not-true, not-false}
+use borrow.Author.Tests.{eqb-false, eqb-true}
 use Rattle.definitions.specs.Basics.{all}
 use Rattle.definitions.specs.Links.{Edge, members}
 use Rattle.definitions.specs.Rounds.{entry}
@@ -25,55 +25,44 @@ use borrow.Author.Rules.{rules}
 use Rattle.judge_serial.proofs.leaves_times.Statement.{statement}
 use Rattle.judge_serial.proofs.leaves_times.Tie as tie
 
--- Places, from where 10 is known not to apply: the walks, and from them the start.
-abbrev walked : tie.Else-not-walks_if_possible → tie.After-walks_if_possible
-walked s = s.before.before
-
-abbrev start : tie.After-walks_if_possible → tie.Start
-start s = s.before.before.before.before.before.before
-
 -- What the table then says, and that its first column holds the source's offsets over the edges and the waits.
 abbrev table : tie.Else-not-walks_if_possible → List (List ℕ)
-table s = said (walked s).walks_if_possible.new.d
+table s = said s.walks_if_possible.new.d
 
 abbrev steps : tie.Else-not-walks_if_possible → ℕ
-steps s = (start (walked s)).args.n
+steps s = s.args.n
 
 abbrev edges : tie.Else-not-walks_if_possible → List Edge
-edges s = graph (start (walked s)).args.es.now
+edges s = graph s.args.es.now
 
 abbrev least : tie.Else-not-walks_if_possible → ℕ → ℕ
-least s = leasts_in (start (walked s)).args.leasts.now
+least s = leasts_in s.args.leasts.now
 
-offsets : (s : tie.Else-not-walks_if_possible) → Well (steps s) (members (edges s)) → SheetLeasts (least s) (members (edges s)) → (start (walked s)).args.maps.now ≡ wait_maps (steps s) (edges s) → Offsets (steps s) (serialized (steps s) (least s) (edges s)) (replicate 64 1) (table s)
+offsets : (s : tie.Else-not-walks_if_possible) → Well (steps s) (members (edges s)) → SheetLeasts (least s) (members (edges s)) → s.args.maps.now ≡ wait_maps (steps s) (edges s) → Offsets (steps s) (serialized (steps s) (least s) (edges s)) (replicate 64 1) (table s)
 offsets s well leasts waits =
-    let w = (walked s).walks_if_possible in
-    let few = (start (walked s)).requires.few in
+    let w = s.walks_if_possible in
+    let few = s.requires.few in
     walks_offsets (least s) few well.shape waits (replicate 64 1) (table s)
-    (λ within. first_column w.last.1.0 w.last.0 few (w.ensures.first 0 well.some (sole_source 0 (omega arith))) (w.ensures.cells (not-false _ s.if-not-walks_if_possible.false) within leasts))
+    (λ within. first_column w.new.number w.new.d few (w.ensures.first 0 well.some (sole_source 0 (omega arith))) (w.ensures.cells s.if-not-walks_if_possible.false within leasts))
 
 -- Whether it says nothing of the source itself.
-none_told : (s : tie.After-is_none) → s.is_none.result ≡ eqb (entry (table s.before.before) 0 0) 0
+none_told : (s : tie.After-is_none) → s.is_none.result ≡ eqb (entry (said s.walks_if_possible.new.d) 0 0) 0
 none_told s =
-    let w = walked s.before.before in
-    let square : Square 64 w.walks_if_possible.new.d = w.walks_if_possible.ensures.square in
-    rw (read_says w.walks_if_possible.new.d square {v = 0} {k = 0} (search rules) (search rules) s.is_none-arg-1.given) at s.is_none.ensures
+    let w = s.walks_if_possible in
+    let square : Square 64 w.new.d = w.ensures.square in
+    rw (read_says w.new.d square {v = 0} {k = 0} (search rules) (search rules) s.is_none-arg-1.given) at s.is_none.ensures
 
 slice_bounds-walks_if_possible-end : tie.Need-slice_bounds-walks_if_possible-end
 slice_bounds-walks_if_possible-end c = search rules
 
 walks_if_possible-requires : tie.Need-walks_if_possible-requires
 walks_if_possible-requires c κs =
-    let s = c.before.before.before.before.before in
-    let p = s.requires in
-    record { given = p; inside = search rules; bare = empty_found 64; blank = blank_found; ends = λ k b. omega (arith, ends_below_64 s.args.es.now k b) }
+    record { given = c.requires; inside = search rules; bare = empty_found 64; blank = blank_found; ends = λ k b. omega (arith, ends_below_64 c.args.es.now k b) }
 
 returns-then-not-walks_if_possible : tie.Need-returns-then-not-walks_if_possible
 returns-then-not-walks_if_possible c = λ well gains leasts waits no_circle.
-    let w = c.before.before in
-    let few = (start w).requires.few in
-    let told = w.walks_if_possible.ensures.told well.shape well.rooted gains leasts (λ v b. sole_source v (omega arith)) in
-    absurd (both_ways (told ∙ (stable_nonpositive_iff well.some well.shape well.rooted).1 well.never) (not-true _ c.if-not-walks_if_possible.true))
+    let told = c.walks_if_possible.ensures.told well.shape well.rooted gains leasts (λ v b. sole_source v (omega arith)) in
+    absurd (both_ways (told ∙ (stable_nonpositive_iff well.some well.shape well.rooted).1 well.never) c.if-not-walks_if_possible.true)
 
 bounds-d-0 : tie.Need-bounds-d-0
 bounds-d-0 c = search rules
@@ -88,7 +77,7 @@ returns-then-is_none : tie.Need-returns-then-is_none
 returns-then-is_none c = λ well gains leasts waits no_circle.
     let e = c.before.before.before in
     let none = eqb-true (entry (table e) 0 0) 0 (sym (none_told c.before) ∙ c.if-is_none.true) in
-    untried_infeasible (least e) (start (walked e)).requires.few well gains leasts.leasts no_circle (table e) (offsets e well leasts waits) (λ T. omega (arith, T.source, none))
+    untried_infeasible (least e) c.requires.few well gains leasts.leasts no_circle (table e) (offsets e well leasts waits) (λ T. omega (arith, T.source, none))
 
 settled-requires : tie.Need-settled-requires
 settled-requires c κs = search rules
@@ -97,7 +86,7 @@ returns : tie.Need-returns
 returns c = λ well gains leasts waits no_circle.
     let n = c.before.before.before in
     let e = n.before.before in
-    let few = (start (walked e)).requires.few in
+    let few = c.requires.few in
     let some = eqb-false (entry (table e) 0 0) 0 (sym (none_told n) ∙ c.if-is_none.false) in
     c.settled.ensures (maps_within (least e) few well.shape waits)
     ∙ ap (λ (l : List Edge). all (handed_on (table e)) l) (edges_waited (least e) few well.shape waits)

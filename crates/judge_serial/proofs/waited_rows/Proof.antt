@@ -21,18 +21,11 @@ invariant-loop-v es maps n before rows₀ v₀ rows v = (v ≤ n) × Made (both 
 abbrev decreases-loop-v : tie.decreases-loop-v
 decreases-loop-v es maps n before rows₀ v₀ rows v = n - v
 
--- Places: the start, from where the predecessors are known, and those.
-abbrev start : tie.After-predecessors invariant-loop-v decreases-loop-v → tie.Start invariant-loop-v decreases-loop-v
-start s = s.before.before.before.before
-
-abbrev direct : tie.After-predecessors invariant-loop-v decreases-loop-v → List ℕ
-direct s = s.predecessors.new.before
-
 predecessors-requires : tie.Need-predecessors-requires invariant-loop-v decreases-loop-v
 predecessors-requires c κs = search rules
 
 loop-v-init : tie.Need-loop-v-init invariant-loop-v decreases-loop-v
-loop-v-init c = (omega arith, made_no_row (both (direct c) (start c).args.maps.now))
+loop-v-init c = (omega arith, made_no_row (both c.predecessors.new.before c.args.maps.now))
 
 offset_bounds-before-v : tie.Need-offset_bounds-before-v invariant-loop-v decreases-loop-v
 offset_bounds-before-v c = search rules
@@ -63,15 +56,12 @@ loop-v-smaller c = search rules
 
 loop-v-preserved : tie.Need-loop-v-preserved invariant-loop-v decreases-loop-v
 loop-v-preserved c =
-    let t = c.before.before.before in
-    (omega arith, made_row (both (direct t.before) (start t.before).args.maps.now) c.union-row.result (search rules) t.loop-v.invariant.1 (λ k. c.union-row.ensures k))
+    (omega arith, made_row (both c.predecessors.new.before c.args.maps.now) c.union-row.result (search rules) c.loop-v.invariant.1 (λ k. c.union-row.ensures k))
 
 returns : tie.Need-returns invariant-loop-v decreases-loop-v
 returns c =
-    let t = c.before in
-    let p = t.before in
-    let e : t.loop-v.v ≡ (start p).args.n = omega arith in
-    (t.loop-v.invariant.1.long, λ v u. t.loop-v.invariant.1.bits v u ∙ ap₂ (λ (x : ℕ) (b : Bool). ltb v x && (b || row_bit (start p).args.maps.now v u)) e (p.predecessors.ensures.0.bits v u))
+    let e : c.loop-v.v ≡ c.args.n = omega arith in
+    (c.loop-v.invariant.1.long, λ v u. c.loop-v.invariant.1.bits v u ∙ ap₂ (λ (x : ℕ) (b : Bool). ltb v x && (b || row_bit c.args.maps.now v u)) e (c.predecessors.ensures.0.bits v u))
 
 pub waited_rows_spec : {M : Type 1} → statement M
 waited_rows_spec =

@@ -5,7 +5,6 @@ use native.Mathlib.Omega.{arith}
 use lib.ListN.{get_or}
 use Rattle.price_counts.proofs.Entries.{registers_fixed, registers_open}
 use borrow.Author.Rules.{rules}
-use borrow.Author.Tests.{not-false, not-true}
 use Rattle.price_counts.proofs.registers.Statement.{statement}
 use Rattle.price_counts.proofs.registers.Tie as tie
 
@@ -17,7 +16,7 @@ has-requires : tie.Need-has-requires
 has-requires c κs = search rules
 
 returns-then-not-has : tie.Need-returns-then-not-has
-returns-then-not-has c = record { value = registers_fixed _ _ _ _ _ (sym c.has.ensures ∙ not-true _ c.if-not-has.true); small = omega arith }
+returns-then-not-has c = record { value = registers_fixed _ _ _ _ _ (sym c.has.ensures ∙ c.if-not-has.true); small = omega arith }
 
 largest_offset-most-requires : tie.Need-largest_offset-most-requires
 largest_offset-most-requires c κs = search rules
@@ -37,7 +36,7 @@ returns c =
       value =
           c.look_up.ensures.value
           ∙ ap (λ (k : ℕ). get_or (start s).args.entries.now k 0) (i.index.ensures ∙ o.largest_offset-most.ensures)
-          ∙ registers_open _ _ _ _ _ (sym s.has.ensures ∙ not-false _ s.if-not-has.false);
+          ∙ registers_open _ _ _ _ _ (sym s.has.ensures ∙ s.if-not-has.false);
       small = c.look_up.ensures.small;
     }
 

@@ -7,9 +7,6 @@ use borrow.Author.Rules.{rules}
 use Rattle.print_line.proofs.print_refusal.Statement.{statement}
 use Rattle.print_line.proofs.print_refusal.Tie as tie
 
-slice_aggregate_put_heading : tie.Need-slice-aggregate-put-heading
-slice_aggregate_put_heading c = search rules
-
 put_heading-requires : tie.Need-put_heading-requires
 put_heading-requires c κs = omega (arith, heading_limit word_refused c.args.number)
 
@@ -22,4 +19,4 @@ returns c = put_printed c.put_heading.ensures
 
 pub print_refusal_spec : {M : Type 1} → statement M
 print_refusal_spec =
-    tie.close (tie.spec slice_aggregate_put_heading put_heading-requires shape_of-out returns)
+    tie.close (tie.spec put_heading-requires shape_of-out returns)

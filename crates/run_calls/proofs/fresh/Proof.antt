@@ -1,6 +1,4 @@
 -- By computing, with the least durations that are kept. Assumes nothing.
-use mathlib.Core.Path.{ap}
-use Rattle.definitions.specs.Dispatcher.{fresh}
 use Rattle.run_calls.proofs.CallLaws.{fresh_with}
 use borrow.Author.Rules.{rules}
 use Rattle.run_calls.proofs.fresh.Statement.{statement}

@@ -17,27 +17,22 @@ has-requires c κs = search rules
 
 returns-then-not-has : tie.Need-returns-then-not-has
 returns-then-not-has c =
-    let p = c.before.before in
-    cannot_fixed _ _ _ _ _ p.if-s-eq0.false p.if-n-s.false (ap not (sym c.has.ensures) ∙ c.if-not-has.true)
+    cannot_fixed _ _ _ _ _ c.if-s-eq0.false c.if-n-s.false (ap not (sym c.has.ensures ∙ c.if-not-has.true))
 
 has-requires-2 : tie.Need-has-requires-2
 has-requires-2 c κs = search rules
 
 returns-then-not-has-2 : tie.Need-returns-then-not-has-2
 returns-then-not-has-2 c =
-    let p = c.before.before in
-    let q = p.before.before in
-    cannot_early _ _ _ _ _ q.if-s-eq0.false q.if-n-s.false (ap not (sym p.has.ensures) ∙ p.if-not-has.false) (ap not (sym c.has-2.ensures) ∙ c.if-not-has-2.true)
+    cannot_early _ _ _ _ _ c.if-s-eq0.false c.if-n-s.false (ap not (sym c.has.ensures ∙ c.if-not-has.false)) (ap not (sym c.has-2.ensures ∙ c.if-not-has-2.true))
 
 has-requires-3 : tie.Need-has-requires-3
 has-requires-3 c κs = search rules
 
 returns : tie.Need-returns
 returns c =
-    let p = c.before.before.before in
-    let q = p.before.before in
     c.has-3.ensures
-    ∙ cannot_twice _ _ _ _ _ q.if-s-eq0.false q.if-n-s.false (ap not (sym p.has.ensures) ∙ p.if-not-has.false) (ap not (sym c.has-2.ensures) ∙ c.if-not-has-2.false)
+    ∙ cannot_twice _ _ _ _ _ c.if-s-eq0.false c.if-n-s.false (ap not (sym c.has.ensures ∙ c.if-not-has.false)) (ap not (sym c.has-2.ensures ∙ c.if-not-has-2.false))
 
 pub not_finishable_spec : {M : Type 1} → statement M
 not_finishable_spec =

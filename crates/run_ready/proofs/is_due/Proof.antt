@@ -1,7 +1,6 @@
 -- By the two cases of `due_in`: the step has not finished, or its sum of 64 bits is compared. Assumes nothing.
 use mathlib.Core.Path.{sym, ap₂, ◌∙◌}
 use lib.Dec.{leb}
-use borrow.Author.Tests.{not-true, not-false}
 use Rattle.run_ready.proofs.RowLaws.{due_unfinished, due_finished}
 use native.Mathlib.Omega.{arith}
 use borrow.Author.Rules.{rules}
@@ -12,7 +11,7 @@ has-requires : tie.Need-has-requires
 has-requires c κs = search rules
 
 returns-then-not-has : tie.Need-returns-then-not-has
-returns-then-not-has c = sym (due_unfinished _ _ _ _ _ (sym c.has.ensures ∙ not-true _ c.if-not-has.true))
+returns-then-not-has c = sym (due_unfinished _ _ _ _ _ (sym c.has.ensures ∙ c.if-not-has.true))
 
 offset_bounds-finish-a : tie.Need-offset_bounds-finish-a
 offset_bounds-finish-a c = search rules
@@ -33,9 +32,7 @@ wide-requires-3 : tie.Need-wide-requires-3
 wide-requires-3 c κs = search rules
 
 returns : tie.Need-returns
-returns c =
-    let a = c.before.before.before.before in
-    sym (due_finished _ _ _ _ _ (sym a.has.ensures ∙ not-false _ a.if-not-has.false) ∙ ap₂ leb (omega (arith, c.wide.ensures.0, c.wide-2.ensures.0)) (sym c.wide-3.ensures.0))
+returns c = sym (due_finished _ _ _ _ _ (sym c.has.ensures ∙ c.if-not-has.false) ∙ ap₂ leb (omega (arith, c.wide.ensures.0, c.wide-2.ensures.0)) (sym c.wide-3.ensures.0))
 
 pub is_due_spec : {M : Type 1} → statement M
 is_due_spec =

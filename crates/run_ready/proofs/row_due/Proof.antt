@@ -1,12 +1,11 @@
 -- The loop's invariant (`Passed`): of the entries so far, whether one names a step, and that all named ones are due. The measure is what is left of the row. Assumes nothing.
 use mathlib.Core.Path.{sym, ◌∙◌}
-use mathlib.Core.Logic.{⊎_elim}
-use borrow.Author.Tests.{not-true, not-false}
 use Prim.Native.Nat.{◌-◌}
 use lib.ListN.{length}
 use Rattle.run_ready.proofs.RowLaws.{Passed, passed_none, passed_over, passed_due, not_due, passed_all}
 use borrow.Author.Rules.{rules}
 use Rattle.run_ready.proofs.row_due.Statement.{statement}
+use Rattle.run_ready.proofs.row_due.Lts.{then-offset+else-not-is_due, else-offset}
 use Rattle.run_ready.proofs.row_due.Tie as tie
 
 abbrev invariant-loop-a : tie.invariant-loop-a
@@ -28,9 +27,7 @@ is_due-requires : tie.Need-is_due-requires invariant-loop-a decreases-loop-a
 is_due-requires c κs = search rules
 
 returns-then-not-is_due : tie.Need-returns-then-not-is_due invariant-loop-a decreases-loop-a
-returns-then-not-is_due c =
-    let a = c.before.before.before.before.before in
-    sym (not_due a.loop-a.invariant c.loop-a-test.true c.if-offset.true (sym c.is_due.ensures ∙ not-true _ c.if-not-is_due.true))
+returns-then-not-is_due c = sym (not_due c.loop-a.invariant c.loop-a-test.true c.if-offset.true (sym c.is_due.ensures ∙ c.if-not-is_due.true))
 
 overflow_add-a : tie.Need-overflow_add-a invariant-loop-a decreases-loop-a
 overflow_add-a c = search rules
@@ -40,12 +37,10 @@ loop-a-smaller c = search rules
 
 loop-a-preserved : tie.Need-loop-a-preserved invariant-loop-a decreases-loop-a
 loop-a-preserved c =
-    let a = c.before.before.before in
-    let h = c.loop-a-test.true in
-    ⊎_elim
-    (λ w. rw w.3 (passed_due a.loop-a.invariant h w.0.taken (sym w.1.ensures ∙ not-false _ w.2.left)))
-    (λ w. rw w.1 (passed_over a.loop-a.invariant h w.0.left))
-    c.if-offset.branch
+    elim c.if-offset.branch [
+      | then-offset+else-not-is_due w ↦ rw w.named-is (passed_due c.loop-a.invariant c.loop-a-test.true w.if-offset.true (sym w.is_due.ensures ∙ w.if-not-is_due.false))
+      | else-offset w ↦ rw w.named-is (passed_over c.loop-a.invariant c.loop-a-test.true w.if-offset.false)
+    ]
 
 returns : tie.Need-returns invariant-loop-a decreases-loop-a
 returns c = passed_all c.loop-a.invariant c.loop-a-test.false

@@ -1,10 +1,10 @@
 -- The loop's invariant (`SweptBelow`): the map and the start ticks are the definition's for the steps so far. The measure is how many are left. Assumes nothing.
 use mathlib.Core.Path.{sym, ◌∙◌}
-use mathlib.Core.Logic.{⊎_elim}
 use Prim.Native.Nat.{◌-◌}
 use Rattle.run_release.proofs.SweepLaws.{SweptBelow, swept_none, swept_start, swept_over, swept_fits, swept_map, swept_ticks}
 use borrow.Author.Rules.{rules}
 use Rattle.run_release.proofs.starting_now.Statement.{statement}
+use Rattle.run_release.proofs.starting_now.Lts.{then-is_ready, else-is_ready}
 use Rattle.run_release.proofs.starting_now.Tie as tie
 
 abbrev invariant-loop-v : tie.invariant-loop-v
@@ -23,10 +23,7 @@ power-map-requires : tie.Need-power-map-requires invariant-loop-v decreases-loop
 power-map-requires c κs = search rules
 
 overflow_add-map : tie.Need-overflow_add-map invariant-loop-v decreases-loop-v
-overflow_add-map c =
-    let turn = c.before.before.before.before.before in
-    let l = turn.before in
-    record { fits = swept_fits l.loop-v.invariant turn.loop-v-test.true l.requires.few c.power-map.ensures }
+overflow_add-map c = record { fits = swept_fits c.loop-v.invariant c.loop-v-test.true c.requires.few c.power-map.ensures }
 
 offset_bounds-start-v : tie.Need-offset_bounds-start-v invariant-loop-v decreases-loop-v
 offset_bounds-start-v c = search rules
@@ -42,13 +39,10 @@ loop-v-smaller c = search rules
 
 loop-v-preserved : tie.Need-loop-v-preserved invariant-loop-v decreases-loop-v
 loop-v-preserved c =
-    let turn = c.before.before.before.before in
-    let l = turn.before in
-    let h = turn.loop-v-test.true in
-    ⊎_elim
-    (λ w. rw (w.2, w.3) (swept_start l.loop-v.invariant h (sym c.is_ready.ensures ∙ w.0.taken) w.1.ensures))
-    (λ w. rw (w.1, w.2) (swept_over l.loop-v.invariant h (sym c.is_ready.ensures ∙ w.0.left)))
-    c.if-is_ready.branch
+    elim c.if-is_ready.branch [
+      | then-is_ready w ↦ rw (w.start-is, w.map-is) (swept_start c.loop-v.invariant c.loop-v-test.true (sym c.is_ready.ensures ∙ w.if-is_ready.true) w.power-map.ensures)
+      | else-is_ready w ↦ rw (w.start-is, w.map-is) (swept_over c.loop-v.invariant c.loop-v-test.true (sym c.is_ready.ensures ∙ w.if-is_ready.false))
+    ]
 
 returns : tie.Need-returns invariant-loop-v decreases-loop-v
 returns c = (swept_map c.loop-v.invariant c.loop-v-test.false, swept_ticks c.loop-v.invariant c.loop-v-test.false)

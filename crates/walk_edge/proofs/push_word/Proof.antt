@@ -40,7 +40,7 @@ by_edge : (s : tie.After-delta-delta) → Delta (unpack (start s).args.w).gain (
 by_edge s = rw (← (gaining s).edge_gain-gain.ensures.0, ← (losing s).edge_loss-loss.ensures.0) s.delta-delta.ensures.0
 
 delta_fits : (s : tie.After-delta-delta) → SFits w32 s.delta-delta.result
-delta_fits s = sfits_of s.delta-delta.type-inv
+delta_fits s = sfits_of s.delta-delta.type_inv
 
 -- The row of the end is there to be raised.
 target : (s : tie.After-delta-delta) → ((ending s).edge_to-to.result < 64) × Liftable (ending s).edge_to-to.result (start s).args.width s.delta-delta.result (start s).args.row.now (start s).args.d.now
@@ -51,16 +51,16 @@ target s =
 
 -- What raises that row by delta, and what the edge hands on by it.
 abbrev Raises : tie.After-delta-delta → (ℕ → Type 0) → List (List ℤ) → ℕ → Type 0
-Raises s On d' m' = let a = (start s).args in Raised On (ending s).edge_to-to.result s.delta-delta.result a.row.now a.d-1.now d' a.marks m'
+Raises s On d' m' = let a = (start s).args in Raised On (ending s).edge_to-to.result s.delta-delta.result a.row.now a.d.now d' a.marks m'
 
 abbrev HandsOn : tie.After-delta-delta → List (List ℤ) → ℕ → Type 0
-HandsOn s d' m' = let a = (start s).args in HandedAll (λ x. UsableFrom (Only (unpack a.w)) x) a.number.now (unpack a.w).from (lent a.row.now a.width) a.d-1.now d' a.marks m'
+HandsOn s d' m' = let a = (start s).args in HandedAll (λ x. UsableFrom (Only (unpack a.w)) x) a.number.now (unpack a.w).from (lent a.row.now a.width) a.d.now d' a.marks m'
 
 -- Where it was raised in the columns whose anchors may use the edge, the edge has handed on.
 handed : (s : tie.After-delta-delta) {On : ℕ → Type 0} {d' : List (List ℤ)} {m' : ℕ} → Raises s On d' m' → ((k : ℕ) → (On k × (k < (start s).args.width)) ⊎ (¬ On k)) → Uses (unpack (start s).args.w) (start s).args.number.now (start s).args.width On → HandsOn s d' m'
 handed s raised on uses =
     let a = (start s).args in
-    handed_row (unpack a.w) a.number.now a.row.now a.width (start s).requires.ready.movable a.d-1.now _ _ _ _ _ _ (start s).requires.light (ending s).edge_to-to.ensures.0 (by_edge s) raised on uses
+    handed_row (unpack a.w) a.number.now a.row.now a.width (start s).requires.ready.movable a.d.now _ _ _ _ _ _ (start s).requires.light (ending s).edge_to-to.ensures.0 (by_edge s) raised on uses
 
 edge_to-to-requires : tie.Need-edge_to-to-requires
 edge_to-to-requires c κs = search rules

@@ -5,6 +5,7 @@ use native.Mathlib.Omega.{arith}
 use Prim.Native.Nat.{◌<◌}
 use lib.ListN.{get_or}
 use mir.Facts.{to_z-of_z}
+use mir.Syntax.{w32}
 use borrow.Author.Rules.{rules, sfits_of}
 use Rattle.walk_cells.proofs.Tables.{cell_in}
 use Rattle.walk_edge.proofs.Late.{raised_back, raised_beyond}
@@ -71,7 +72,7 @@ returns c =
     let target = start.requires.1.target in
     let inside : k < 64 = omega (arith, target.few) in
     let place = cell_in (get_or d to []) k (omega (arith, target.square.cells to target.row)) in
-    raised_back _ _ _ _ _ _ _ _ _ (rw (to_z-of_z start.ranges.delta) at raised.raise_row-left.ensures) _ _ numbered.byte_index-k.ensures.0 (to_z-of_z (sfits_of read.old-1.given) ∙ place) target.row inside
+    raised_back _ _ _ _ _ _ _ _ _ (rw (to_z-of_z start.ranges.delta) at raised.raise_row-left.ensures) _ _ numbered.byte_index-k.ensures.0 (to_z-of_z {w = w32} (sfits_of read.old-1.given) ∙ place) target.row inside
 
 pub raise_late_spec : {M : Type 1} → statement M
 raise_late_spec =

@@ -3,8 +3,7 @@ use native.Mathlib.Omega.{arith}
 use mathlib.Core.Path.{sym}
 use mathlib.Core.Bool.{true≢false}
 use Prim.Native.Nat.{◌-◌}
-use borrow.Author.Tests.{ltb-true, not-false}
-use Rattle.walk_feasible.specs.Search.{Circle, Enters}
+use borrow.Author.Tests.{ltb-true}
 use Rattle.walk_feasible.proofs.Circles.{Back, back_closed, back_more, back_start}
 use borrow.Author.Rules.{rules}
 use Rattle.walk_feasible.proofs.closes_above.Statement.{statement}
@@ -15,13 +14,6 @@ invariant-loop-k es via x n v₀ gains₀ losses₀ k₀ v gains losses k = Back
 
 abbrev decreases-loop-k : tie.decreases-loop-k
 decreases-loop-k es via x n v₀ gains₀ losses₀ k₀ v gains losses k = n - k
-
--- A turn, from where its edge is known to enter the step; and that it does.
-abbrev turn : tie.Else-not-enters invariant-loop-k decreases-loop-k → tie.At-loop-k invariant-loop-k decreases-loop-k
-turn s = s.before.before.before.before.before
-
-entered : (s : tie.Else-not-enters invariant-loop-k decreases-loop-k) → Enters (turn s).args.es.now s.index-i.result (turn s).loop-k.v
-entered s = s.enters.ensures (not-false _ s.if-not-enters.false)
 
 loop-k-init : tie.Need-loop-k-init invariant-loop-k decreases-loop-k
 loop-k-init c = back_start _ _ _ c.requires.0
@@ -42,35 +34,32 @@ returns-then-not-enters : tie.Need-returns-then-not-enters invariant-loop-k decr
 returns-then-not-enters c = λ h. absurd (true≢false (sym h))
 
 overflow_sub-w : tie.Need-overflow_sub-w invariant-loop-k decreases-loop-k
-overflow_sub-w c = omega (arith, (entered c).some)
+overflow_sub-w c = omega (arith, (c.enters.ensures c.if-not-enters.false).some)
 
 offset_bounds-es-i : tie.Need-offset_bounds-es-i invariant-loop-k decreases-loop-k
-offset_bounds-es-i c = omega (arith, (entered c).inside)
+offset_bounds-es-i c = omega (arith, (c.enters.ensures c.if-not-enters.false).inside)
 
 bounds-es-i : tie.Need-bounds-es-i invariant-loop-k decreases-loop-k
-bounds-es-i c = let h = entered c.before in omega (arith, h.some, h.inside)
+bounds-es-i c = let h = c.enters.ensures c.if-not-enters.false in omega (arith, h.some, h.inside)
 
 edge_gain-gains-requires : tie.Need-edge_gain-gains-requires invariant-loop-k decreases-loop-k
 edge_gain-gains-requires c κs = search rules
 
 overflow_add-gains : tie.Need-overflow_add-gains invariant-loop-k decreases-loop-k
-overflow_add-gains c = let t = turn c.before.before in omega (arith, t.loop-k.invariant.light, t.loop-k.invariant.inside, c.edge_gain-gains.ensures.1, t.requires.1)
+overflow_add-gains c = omega (arith, c.loop-k.invariant.light, c.loop-k.invariant.inside, c.edge_gain-gains.ensures.1, c.requires.1)
 
 edge_loss-losses-requires : tie.Need-edge_loss-losses-requires invariant-loop-k decreases-loop-k
 edge_loss-losses-requires c κs = search rules
 
 overflow_add-losses : tie.Need-overflow_add-losses invariant-loop-k decreases-loop-k
-overflow_add-losses c = let t = turn c.before.before.before in omega (arith, t.loop-k.invariant.small, t.loop-k.invariant.inside, c.edge_loss-losses.ensures.1, t.requires.1)
+overflow_add-losses c = omega (arith, c.loop-k.invariant.small, c.loop-k.invariant.inside, c.edge_loss-losses.ensures.1, c.requires.1)
 
 edge_from-v-requires : tie.Need-edge_from-v-requires invariant-loop-k decreases-loop-k
 edge_from-v-requires c κs = search rules
 
 returns-then-v-x : tie.Need-returns-then-v-x invariant-loop-k decreases-loop-k
 returns-then-v-x c = λ t.
-    let s = c.before in
-    let l = s.before in
-    let e = l.before.before.before in
-    back_closed _ _ _ _ _ _ _ _ (turn e).loop-k.invariant (entered e) s.edge_from-v.ensures.0 l.edge_gain-gains.ensures.0 l.edge_loss-losses.ensures.0 c.if-v-x.true (ltb-true _ _ t)
+    back_closed _ _ _ _ _ _ _ _ c.loop-k.invariant (c.enters.ensures c.if-not-enters.false) c.edge_from-v.ensures.0 c.edge_gain-gains.ensures.0 c.edge_loss-losses.ensures.0 c.if-v-x.true (ltb-true _ _ t)
 
 overflow_add-k : tie.Need-overflow_add-k invariant-loop-k decreases-loop-k
 overflow_add-k c = search rules
@@ -80,11 +69,8 @@ loop-k-smaller c = search rules
 
 loop-k-preserved : tie.Need-loop-k-preserved invariant-loop-k decreases-loop-k
 loop-k-preserved c =
-    let s = c.before in
-    let l = s.before in
-    let gain = l.edge_gain-gains.ensures in
-    let e = l.before.before.before in
-    back_more _ _ _ _ _ _ _ _ (turn e).loop-k.invariant (entered e) s.edge_from-v.ensures.0 gain.0 l.edge_loss-losses.ensures.0 e.loop-k-test.true s.edge_from-v.ensures.1 gain.1 l.edge_loss-losses.ensures.1
+    let gain = c.edge_gain-gains.ensures in
+    back_more _ _ _ _ _ _ _ _ c.loop-k.invariant (c.enters.ensures c.if-not-enters.false) c.edge_from-v.ensures.0 gain.0 c.edge_loss-losses.ensures.0 c.loop-k-test.true c.edge_from-v.ensures.1 gain.1 c.edge_loss-losses.ensures.1
 
 returns : tie.Need-returns invariant-loop-k decreases-loop-k
 returns c = λ h. absurd (true≢false (sym h))

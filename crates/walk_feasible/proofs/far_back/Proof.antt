@@ -3,10 +3,6 @@ use borrow.Author.Rules.{rules}
 use Prim.Native.Nat.{◌-◌, ◌<◌}
 use Rattle.walk_feasible.proofs.far_back.Statement.{statement}
 use Rattle.walk_feasible.proofs.far_back.Tie as tie
-use Rattle.walk_feasible.proofs.far_back.Reads as reads
-use Rattle.walk_feasible.proofs.far_back.Lts as lts
-use Rattle.data_edges.proofs.edge_from-v.Reads as edge-from-reads
-use Rattle.data_indices.proofs.index-i.Reads as index_Reads
 
 abbrev invariant-loop-k : tie.invariant-loop-k
 invariant-loop-k es via x n v₀ k₀ v k = v < 64

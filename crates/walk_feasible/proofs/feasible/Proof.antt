@@ -41,7 +41,7 @@ lowest-x-requires : tie.Need-lowest-x-requires invariant-loop-k decreases-loop-k
 lowest-x-requires c κs = omega arith
 
 far_back-y-requires : tie.Need-far_back-y-requires invariant-loop-k decreases-loop-k
-far_back-y-requires c κs = c.lowest-x.ensures.below-marks
+far_back-y-requires c κs = c.lowest-x.ensures.below
 
 closes_above-requires : tie.Need-closes_above-requires invariant-loop-k decreases-loop-k
 closes_above-requires c κs = let s = c.before in (s.far_back-y.ensures, (start (turn (passed s))).requires.few)
@@ -61,7 +61,7 @@ loop-k-preserved c =
     let x = back.lowest-x.ensures in
     let s = passed back in
     let t = turn s in
-    searched_more _ _ (start t).requires.some (start t).requires.few t.loop-k.invariant s.pass-marks.ensures _ x.below-marks x.member s.loop-k-test.true
+    searched_more _ _ (start t).requires.some (start t).requires.few t.loop-k.invariant s.pass-marks.ensures _ x.below x.member s.loop-k-test.true
 
 returns : tie.Need-returns invariant-loop-k decreases-loop-k
 returns c = let t = c.before in searched_spent _ _ (start t).requires.some (start t).requires.few t.loop-k.invariant (omega arith)

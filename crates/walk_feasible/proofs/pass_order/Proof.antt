@@ -17,9 +17,6 @@ invariant-loop-k row₀ via₀ marks es lists order n m₀ k₀ row via m k = (k
 abbrev decreases-loop-k : tie.decreases-loop-k
 decreases-loop-k row₀ via₀ marks es lists order n m₀ k₀ row via m k = n - k
 
-abbrev start : tie.At-loop-k invariant-loop-k decreases-loop-k → tie.Start invariant-loop-k decreases-loop-k
-start s = s.before.before.before
-
 loop-k-init : tie.Need-loop-k-init invariant-loop-k decreases-loop-k
 loop-k-init c = let p = c.requires.1 in (omega arith, passed_less (λ v x. absurd x) (omega arith) (passed_idle p.room.long p.noted))
 
@@ -31,10 +28,9 @@ place-u-requires c κs = search rules
 
 pass_step-m-requires : tie.Need-pass_step-m-requires invariant-loop-k decreases-loop-k
 pass_step-m-requires c κs =
-    let t = c.before.before.before.before.before in
-    let p = (start t).requires in
-    let been = t.loop-k.invariant.1 in
-    (c.place-u.ensures.1, record { listed = p.1.listed; room = passed_room t.loop-k.k 1 most_steps (omega (arith, p.0)) p.1.room been; noted = been.noted })
+    let p = c.requires in
+    let been = c.loop-k.invariant.1 in
+    (c.place-u.ensures.1, record { listed = p.1.listed; room = passed_room c.loop-k.k 1 most_steps (omega (arith, p.0)) p.1.room been; noted = been.noted })
 
 overflow_add-k : tie.Need-overflow_add-k invariant-loop-k decreases-loop-k
 overflow_add-k c = search rules
@@ -43,10 +39,10 @@ loop-k-smaller : tie.Need-loop-k-smaller invariant-loop-k decreases-loop-k
 loop-k-smaller c = search rules
 
 loop-k-preserved : tie.Need-loop-k-preserved invariant-loop-k decreases-loop-k
-loop-k-preserved c = let t = c.before.before.before.before.before.before in (omega arith, passed_then (λ v x. inl x) (omega arith) t.loop-k.invariant.1 c.pass_step-m.ensures)
+loop-k-preserved c = (omega arith, passed_then (λ v x. inl x) (omega arith) c.loop-k.invariant.1 c.pass_step-m.ensures)
 
 returns : tie.Need-returns invariant-loop-k decreases-loop-k
-returns c = let t = c.before in passed_less (λ v x. x) (omega (arith, (start t).requires.0, t.loop-k.invariant.0)) t.loop-k.invariant.1
+returns c = passed_less (λ v x. x) (omega (arith, c.requires.0, c.loop-k.invariant.0)) c.loop-k.invariant.1
 
 pub pass_order_spec : {M : Type 1} → statement M
 pass_order_spec =

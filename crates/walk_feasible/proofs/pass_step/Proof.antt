@@ -4,13 +4,6 @@ use borrow.Author.Rules.{rules}
 use Rattle.walk_feasible.proofs.pass_step.Statement.{statement}
 use Rattle.walk_feasible.proofs.pass_step.Tie as tie
 
--- Places: the start and where the mark is taken away, from where the edges have handed on.
-abbrev start : tie.After-push_step → tie.Start
-start s = s.before.before.before.before.before.before.before
-
-abbrev removed : tie.After-push_step → tie.After-remove-rest
-removed s = s.before.before.before.before
-
 remove-rest-requires : tie.Need-remove-rest-requires
 remove-rest-requires c κs = search rules
 
@@ -21,7 +14,7 @@ push_step-requires : tie.Need-push_step-requires
 push_step-requires c κs = search rules
 
 returns : tie.Need-returns
-returns c = passed_visit _ _ (start c).requires.1.listed.light (removed c).remove-rest.ensures c.push_step.ensures
+returns c = passed_visit _ _ c.requires.1.listed.light c.remove-rest.ensures c.push_step.ensures
 
 pub pass_step_spec : {M : Type 1} → statement M
 pass_step_spec = tie.close (tie.spec remove-rest-requires returns-then-rest-marks push_step-requires returns)

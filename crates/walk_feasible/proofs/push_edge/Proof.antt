@@ -40,10 +40,10 @@ own_fits : (s : tie.After-delta-by) → SFits w32 (start s).args.own
 own_fits s = (start s).ranges.own
 
 by_fits : (s : tie.After-delta-by) → SFits w32 s.delta-by.result
-by_fits s = sfits_of s.delta-by.type-inv
+by_fits s = sfits_of s.delta-by.type_inv
 
 moved_fits : (s : tie.After-moved-c) → SFits w32 s.moved-c.result
-moved_fits s = sfits_of s.moved-c.type-inv
+moved_fits s = sfits_of s.moved-c.type_inv
 
 old_fits : (s : tie.After-is_less) → SFits w32 (old (came s))
 old_fits s = sfits_of s.is_less-arg-1.given
@@ -105,7 +105,7 @@ insert-requires c κs = search rules
 
 returns-then-is_less : tie.Need-returns-then-is_less
 returns-then-is_less c =
-    let l = c.before.before in
+    let l = c.before.before.before in
     let m = came l in
     let s = entry m in
     let a = s.args in

@@ -3,9 +3,6 @@ use borrow.Author.Rules.{rules}
 use Prim.Native.Nat.{◌-◌, ◌≤◌}
 use Rattle.walk_heaviest.proofs.places.Statement.{statement}
 use Rattle.walk_heaviest.proofs.places.Tie as tie
-use Rattle.walk_heaviest.proofs.places.Reads as reads
-use Rattle.walk_heaviest.proofs.places.Lts as lts
-use Rattle.data_indices.proofs.place-v.Reads as place-reads
 
 abbrev invariant-loop-k : tie.invariant-loop-k
 invariant-loop-k order n place₀ k₀ place k = k ≤ n

@@ -3,7 +3,6 @@ use borrow.Author.Rules.{rules}
 use Prim.Native.Nat.{◌-◌}
 use native.Mathlib.Omega.{arith}
 use mathlib.Core.Path.{refl, sym, ◌∙◌}
-use borrow.Author.Tests.{not-true, not-false}
 use Rattle.laws.proofs.Bools.{both_ways}
 use Rattle.data_edges.specs.Serial.{leasts_in}
 use Rattle.definitions.specs.Limits.{most_steps}
@@ -12,10 +11,6 @@ use Rattle.walk_sweep.proofs.Sweeping.{sweepable_later}
 use Rattle.walk_heaviest.proofs.Settled.{settling_opened}
 use Rattle.walk_heaviest.proofs.settle.Statement.{statement}
 use Rattle.walk_heaviest.proofs.settle.Tie as tie
-
--- The start, from where the first sweep is done.
-abbrev start : tie.After-sweep_first-marks → tie.Start
-start s = s.before.before.before.before.before.before
 
 places-place-requires : tie.Need-places-place-requires
 places-place-requires c κs = search rules
@@ -31,31 +26,27 @@ shape_of-d-then-not-possible c = search rules
 
 returns-then-not-possible : tie.Need-returns-then-not-possible
 returns-then-not-possible c =
-    let f = c.before.before.before in
     record {
-      square = f.sweep_first-marks.ensures.swept.square;
+      square = c.sweep_first-marks.ensures.swept.square;
       settled = λ q. absurd (both_ways q refl);
-      told = λ shape rooted rest. sym (not-true _ c.if-not-possible.true) ∙ c.possible.ensures shape rooted (rest f.sweep_first-marks.new.d f.sweep_first-marks.result f.sweep_first-marks.ensures);
+      told = λ shape rooted rest. sym c.if-not-possible.true ∙ c.possible.ensures shape rooted (rest c.sweep_first-marks.new.d c.sweep_first-marks.result c.sweep_first-marks.ensures);
     }
 
 sweep_on-requires : tie.Need-sweep_on-requires
-sweep_on-requires c κs = let f = c.before.before.before.before.before in let p = (start f).requires in let first = f.sweep_first-marks.ensures.swept in sweepable_later 1 (most_steps - 1) p (omega arith) first.square (held_more (omega (arith, p.few)) (first.held p.level p.held))
+sweep_on-requires c κs = let p = c.requires in let first = c.sweep_first-marks.ensures.swept in sweepable_later 1 (most_steps - 1) p (omega arith) first.square (held_more (omega (arith, p.few)) (first.held p.level p.held))
 
 shape_of-d : tie.Need-shape_of-d
 shape_of-d c = search rules
 
 returns : tie.Need-returns
 returns c =
-    let tested = c.before.before.before.before in
-    let f = tested.before.before.before in
-    let s = start f in
-    let a = s.args in
-    let first = f.sweep_first-marks.ensures in
-    let settled = c.sweep_on.ensures _ (settling_opened a.es.now (leasts_in a.leasts.now) a.waiting.now a.number.now a.width a.n a.d-1.now s.requires.network.linked.square first) in
+    let a = c.args in
+    let first = c.sweep_first-marks.ensures in
+    let settled = c.sweep_on.ensures _ (settling_opened a.es.now (leasts_in a.leasts.now) a.waiting.now a.number.now a.width a.n a.d.now c.requires.network.linked.square first) in
     record {
       square = settled.square;
       settled = λ q. settled;
-      told = λ shape rooted rest. sym (not-false _ tested.if-not-possible.false) ∙ tested.possible.ensures shape rooted (rest f.sweep_first-marks.new.d f.sweep_first-marks.result first);
+      told = λ shape rooted rest. sym c.if-not-possible.false ∙ c.possible.ensures shape rooted (rest c.sweep_first-marks.new.d c.sweep_first-marks.result first);
     }
 
 pub settle_spec : {M : Type 1} → statement M

@@ -22,9 +22,6 @@ invariant-loop-k d₀ marks es lists leasts waiting order place number width n l
 abbrev decreases-loop-k : tie.decreases-loop-k
 decreases-loop-k d₀ marks es lists leasts waiting order place number width n left₀ k₀ d left k = n - k
 
-abbrev start : tie.At-loop-k invariant-loop-k decreases-loop-k → tie.Start invariant-loop-k decreases-loop-k
-start s = s.before.before.before
-
 loop-k-init : tie.Need-loop-k-init invariant-loop-k decreases-loop-k
 loop-k-init c = let p = c.requires in ((omega arith, p.some), p.network.linked.square, λ w H. held_more (omega arith) H, λ d' S. S)
 
@@ -33,12 +30,11 @@ shape_of-d-then-left-eq0 c = c.loop-k.invariant.1.rows
 
 returns-then-left-eq0 : tie.Need-returns-then-left-eq0 invariant-loop-k decreases-loop-k
 returns-then-left-eq0 c =
-    let s = c.before.before in
-    let a = (start s).args in
-    λ d' S. settling_rest a.es.now (leasts_in a.leasts.now) a.waiting.now a.number.now a.width a.n d' s.loop-k.invariant.0.1 c.if-left-eq0.true (s.loop-k.invariant.3 d' S)
+    let a = c.args in
+    λ d' S. settling_rest a.es.now (leasts_in a.leasts.now) a.waiting.now a.number.now a.width a.n d' c.loop-k.invariant.0.1 c.if-left-eq0.true (c.loop-k.invariant.3 d' S)
 
 sweep-left-requires : tie.Need-sweep-left-requires invariant-loop-k decreases-loop-k
-sweep-left-requires c κs = let s = c.before.before.before in let p = (start s).requires in sweepable_later (s.loop-k.k - 1) 1 p (omega (arith, p.few, s.loop-k.invariant.0)) s.loop-k.invariant.1 (s.loop-k.invariant.2 p.level p.held)
+sweep-left-requires c κs = let p = c.requires in sweepable_later (c.loop-k.k - 1) 1 p (omega (arith, p.few, c.loop-k.invariant.0)) c.loop-k.invariant.1 (c.loop-k.invariant.2 p.level p.held)
 
 overflow_add-k : tie.Need-overflow_add-k invariant-loop-k decreases-loop-k
 overflow_add-k c = search rules
@@ -48,18 +44,16 @@ loop-k-smaller c = search rules
 
 loop-k-preserved : tie.Need-loop-k-preserved invariant-loop-k decreases-loop-k
 loop-k-preserved c =
-    let s = c.before.before.before.before.before in
-    let a = (start s).args in
-    ((omega arith, omega arith), square_then s.loop-k.invariant.1 c.sweep-left.ensures.square, λ w H. held_more (omega (arith, (start s).requires.few, s.loop-k.invariant.0)) (c.sweep-left.ensures.held _ (s.loop-k.invariant.2 w H)), λ d' S. settling_more a.es.now (leasts_in a.leasts.now) a.waiting.now a.number.now a.width a.n d' (s.loop-k.invariant.3 d' S) c.sweep-left.ensures)
+    let a = c.args in
+    ((omega arith, omega arith), square_then c.loop-k.invariant.1 c.sweep-left.ensures.square, λ w H. held_more (omega (arith, c.requires.few, c.loop-k.invariant.0)) (c.sweep-left.ensures.held _ (c.loop-k.invariant.2 w H)), λ d' S. settling_more a.es.now (leasts_in a.leasts.now) a.waiting.now a.number.now a.width a.n d' (c.loop-k.invariant.3 d' S) c.sweep-left.ensures)
 
 shape_of-d : tie.Need-shape_of-d invariant-loop-k decreases-loop-k
 shape_of-d c = c.loop-k.invariant.1.rows
 
 returns : tie.Need-returns invariant-loop-k decreases-loop-k
 returns c =
-    let s = c.before in
-    let a = (start s).args in
-    λ d' S. settling_end a.es.now (leasts_in a.leasts.now) a.waiting.now a.number.now a.width a.n d' s.loop-k.invariant.0.1 (omega arith) (s.loop-k.invariant.3 d' S)
+    let a = c.args in
+    λ d' S. settling_end a.es.now (leasts_in a.leasts.now) a.waiting.now a.number.now a.width a.n d' c.loop-k.invariant.0.1 (omega arith) (c.loop-k.invariant.3 d' S)
 
 pub sweep_on_spec : {M : Type 1} → statement M
 sweep_on_spec =

@@ -22,7 +22,7 @@ decreases-loop-k d₀ row to delta width k₀ d k = width - k
 
 -- What is known of the columns of a turn: a turn lifts those of one more than the last, and there is room for all four.
 abbrev Lifts : tie.At-loop-k invariant-loop-k decreases-loop-k → ℕ → List (List ℤ) → Type 0
-Lifts s n d = let a = s.args in Lifted (λ j. j < n) a.to (back a.delta) a.row.now a.d-1.now d
+Lifts s n d = let a = s.args in Lifted (λ j. j < n) a.to (back a.delta) a.row.now a.d.now d
 
 ready : (s : tie.At-loop-k invariant-loop-k decreases-loop-k) {n : ℕ} {d : List (List ℤ)} (k : ℕ) → k < s.args.width → Lifts s n d → LiftableCell s.args.to k (back s.args.delta) s.args.row.now d
 ready s k b L = let fits = to_z-of_z s.ranges.delta in rw fits (liftable_turn k b s.requires (rw fits at L))

@@ -80,11 +80,11 @@ returns c =
     let read = told.before in
     let sum = read.before in
     let start = sum.before.before in
-    let new = sfits_of told.larger-new.type-inv in
-    let moved = sfits_of sum.moved-c.type-inv in
+    let new = sfits_of told.larger-new.type_inv in
+    let moved = sfits_of sum.moved-c.type_inv in
     let rises = risen_back (old_fits read) (handed_fits sum.before) start.ranges.delta moved new sum.moved-c.ensures told.larger-new.ensures in (
       lifted_cell start.args.to start.args.k start.args.delta _ start.args.row.now start.args.d.now start.requires.target (rw (old_in read, handed_in sum.before) at rises),
-      λ z. still_cell start.args.to start.args.k start.args.delta _ start.args.row.now start.args.d.now start.requires.target (c.change.ensures (sym (to_z-of_z (sfits_of c.change.type-inv)) ∙ z) ∙ to_z-of_z (old_fits read) ∙ old_in read),
+      λ z. still_cell start.args.to start.args.k start.args.delta _ start.args.row.now start.args.d.now start.requires.target (c.change.ensures (sym (to_z-of_z {w = w32} (sfits_of c.change.type_inv)) ∙ z) ∙ to_z-of_z (old_fits read) ∙ old_in read),
     )
 
 pub lift_cell_spec : {M : Type 1} → statement M

@@ -23,7 +23,7 @@ decreases-loop-k d₀ row to delta width g0₀ g1₀ g2₀ g3₀ k₀ d g0 g1 g2
 
 -- What is known of the columns of a turn: a turn lifts those of one more than the last, and there is room for all four.
 abbrev Lifts : tie.At-loop-k invariant-loop-k decreases-loop-k → ℕ → List (List ℤ) → Type 0
-Lifts s n d = let a = s.args in Lifted (λ j. j < n) a.to (back a.delta) a.row.now a.d-1.now d
+Lifts s n d = let a = s.args in Lifted (λ j. j < n) a.to (back a.delta) a.row.now a.d.now d
 
 ready : (s : tie.At-loop-k invariant-loop-k decreases-loop-k) {n : ℕ} {d : List (List ℤ)} (k : ℕ) → k < s.args.width → Lifts s n d → LiftableCell s.args.to k (back s.args.delta) s.args.row.now d
 ready s k b L = let fits = to_z-of_z s.ranges.delta in rw fits (liftable_turn k b s.requires (rw fits at L))
@@ -97,10 +97,10 @@ loop-k-preserved c =
       omega (arith, b.invariant.1),
       lifts_4 c,
       λ z₀ z₁ z₂ z₃ j.
-          let p₀ = none_noted b.g0 (sfits_of first.lift_cell-g0.type-inv) first.lift_cell-g0.ensures.1 z₀ in
-          let p₁ = none_noted b.g1 (sfits_of second.lift_cell-g1.type-inv) second.lift_cell-g1.ensures.1 z₁ in
-          let p₂ = none_noted b.g2 (sfits_of third.lift_cell-g2.type-inv) third.lift_cell-g2.ensures.1 z₂ in
-          let p₃ = none_noted b.g3 (sfits_of c.lift_cell-g3.type-inv) c.lift_cell-g3.ensures.1 z₃ in
+          let p₀ = none_noted _ (sfits_of first.lift_cell-g0.type_inv) first.lift_cell-g0.ensures.1 z₀ in
+          let p₁ = none_noted _ (sfits_of second.lift_cell-g1.type_inv) second.lift_cell-g1.ensures.1 z₁ in
+          let p₂ = none_noted _ (sfits_of third.lift_cell-g2.type_inv) third.lift_cell-g2.ensures.1 z₂ in
+          let p₃ = none_noted _ (sfits_of c.lift_cell-g3.type_inv) c.lift_cell-g3.ensures.1 z₃ in
           p₃.1 j ∙ p₂.1 j ∙ p₁.1 j ∙ p₀.1 j ∙ b.invariant.3 p₀.0 p₁.0 p₂.0 p₃.0 j,
     )
 
@@ -111,7 +111,7 @@ returns : tie.Need-returns invariant-loop-k decreases-loop-k
 returns c =
     let s = c.before in
     let e : s.loop-k.k ≡ s.args.width = omega arith in
-    (rw (e, to_z-of_z s.ranges.delta) at s.loop-k.invariant.2, λ q. all_none s.loop-k.g0 _ _ _ (eqb-true _ _ (not-false _ q)) s.loop-k.invariant.3)
+    (rw (e, to_z-of_z s.ranges.delta) at s.loop-k.invariant.2, λ q. all_none _ _ _ _ (eqb-true _ _ (not-false _ q)) s.loop-k.invariant.3)
 
 pub lift_noting_spec : {M : Type 1} → statement M
 lift_noting_spec =

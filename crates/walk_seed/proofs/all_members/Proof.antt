@@ -8,9 +8,6 @@ use Rattle.data_relations.specs.Rows.{row_bit}
 use Rattle.walk_seed.proofs.Numbering.{union_more, union_none}
 use Rattle.walk_seed.proofs.all_members.Statement.{statement}
 use Rattle.walk_seed.proofs.all_members.Tie as tie
-use Rattle.walk_seed.proofs.all_members.Reads as reads
-use Rattle.walk_seed.proofs.all_members.Lts as lts
-use Rattle.data_sets.proofs.union-all.Reads as union-reads
 
 abbrev invariant-loop-v : tie.invariant-loop-v
 invariant-loop-v sets n all₀ v₀ all v = (v ≤ n) × ((a : ℕ) → test_bit all a ≡ any_below (λ w. row_bit sets w a) v)

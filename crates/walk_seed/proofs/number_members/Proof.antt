@@ -5,10 +5,6 @@ use Rattle.laws.proofs.Maps.{removed_lt}
 use Rattle.walk_seed.proofs.Numbering.{Numbering, numbering_end, numbering_more, numbering_start}
 use Rattle.walk_seed.proofs.number_members.Statement.{statement}
 use Rattle.walk_seed.proofs.number_members.Tie as tie
-use Rattle.walk_seed.proofs.number_members.Reads as reads
-use Rattle.walk_seed.proofs.number_members.Lts as lts
-use Rattle.data_bits.proofs.lowest-a.Reads as lowest-reads
-use Rattle.data_bits.proofs.without_lowest-left.Reads as without-lowest-reads
 
 abbrev invariant-loop-left : tie.invariant-loop-left
 invariant-loop-left all number₀ width₀ left₀ number width left = Numbering all left width number

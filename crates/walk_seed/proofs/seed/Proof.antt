@@ -12,32 +12,21 @@ all_members-all-requires c κs = search rules
 number_members-width-requires : tie.Need-number_members-width-requires
 number_members-width-requires c κs = search rules
 
--- Places: the start, from where the numbers are given; and that, from where the rows are seeded.
-abbrev start : tie.After-number_members-width → tie.Start
-start s = s.before.before.before.before
-
-abbrev numbered : tie.After-seed_rows → tie.After-number_members-width
-numbered s = s.before.before.before
-
 seed_rows-requires : tie.Need-seed_rows-requires
 seed_rows-requires c κs = search rules
 
 seed_edges-requires : tie.Need-seed_edges-requires
 seed_edges-requires c κs =
-    let r = c.before.before.before in
-    let S = r.seed_rows.ensures.square in
-    record { ends = λ k b. omega (arith, (start (numbered r)).requires.ends k b, S.rows); square = square_own S; light = (start (numbered r)).requires.light }
+    let S = c.seed_rows.ensures.square in
+    record { ends = λ k b. omega (arith, c.requires.ends k b, S.rows); square = square_own S; light = c.requires.light }
 
 shape_of-d : tie.Need-shape_of-d
 shape_of-d c = search rules
 
 returns : tie.Need-returns
 returns c =
-    let r = c.before.before.before.before.before in
-    let m = numbered r in
-    let s = start m in
-    let all = m.all_members-all in
-    prepared s.args.sets.now s.args.n all.result s.requires.bare all.ensures m.number_members-width.ensures r.seed_rows.ensures c.seed_edges.ensures
+    let all = c.all_members-all in
+    prepared c.args.sets.now c.args.n all.result c.requires.bare all.ensures c.number_members-width.ensures c.seed_rows.ensures c.seed_edges.ensures
 
 pub seed_spec : {M : Type 1} → statement M
 seed_spec =

@@ -73,8 +73,8 @@ loop-left-preserved c =
     let S = s.loop-left.invariant.1.square in
     let leaves = c.without_lowest-left.ensures _ a.ensures in
     let stored = stored_cell args.v k.result least.result s.loop-left.d (square_own S) (omega (arith, s.requires.0, S.rows)) k.ensures.1 in (
-      λ j h. s.loop-left.invariant.0 j (still_left s.loop-left.false c.without_lowest-left.result a.result leaves j h).0,
-      rw (to_z-of_z fits) (passed_more (leasts_in args.leasts.now) args.number.now args.v args.map s.loop-left.false c.without_lowest-left.result a.result k.result least.result a.ensures.below (s.loop-left.invariant.0 _ a.ensures.member) a.ensures.member leaves k.ensures.0 least.ensures.0 (omega (arith, least.ensures.1)) s.loop-left.invariant.1 stored),
+      λ j h. s.loop-left.invariant.0 j (still_left s.loop-left.left c.without_lowest-left.result a.result leaves j h).0,
+      rw (to_z-of_z fits) (passed_more (leasts_in args.leasts.now) args.number.now args.v args.map s.loop-left.left c.without_lowest-left.result a.result k.result least.result a.ensures.below (s.loop-left.invariant.0 _ a.ensures.member) a.ensures.member leaves k.ensures.0 least.ensures.0 (omega (arith, least.ensures.1)) s.loop-left.invariant.1 stored),
     )
 
 shape_of-d : tie.Need-shape_of-d invariant-loop-left decreases-loop-left

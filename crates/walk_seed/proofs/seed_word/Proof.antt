@@ -2,7 +2,6 @@
 use borrow.Author.Rules.{rules}
 use native.Mathlib.Omega.{arith}
 use mathlib.Core.Path.{sym, ◌∙◌}
-use borrow.Author.Tests.{not-true, not-false}
 use Rattle.data_edges.specs.Words.{unpack}
 use Rattle.walk_seed.proofs.Seeding.{begun_light, begun_uncounted}
 use Rattle.walk_seed.proofs.seed_word.Statement.{statement}
@@ -12,7 +11,7 @@ is_counted-requires : tie.Need-is_counted-requires
 is_counted-requires c κs = search rules
 
 returns-then-not-is_counted : tie.Need-returns-then-not-is_counted
-returns-then-not-is_counted c = let s = c.before.before in begun_uncounted s.args.number.now (unpack s.args.w) s.args.d.now s.requires.square (sym c.is_counted.ensures ∙ not-true _ c.if-not-is_counted.true)
+returns-then-not-is_counted c = let s = c.before.before in begun_uncounted s.args.number.now (unpack s.args.w) s.args.d.now s.requires.square (sym c.is_counted.ensures ∙ c.if-not-is_counted.true)
 
 edge_gain-requires : tie.Need-edge_gain-requires
 edge_gain-requires c κs = search rules
@@ -27,7 +26,7 @@ seed_edge-requires : tie.Need-seed_edge-requires
 seed_edge-requires c κs =
     let counted = c.before.before.before.before.before in
     let p = counted.requires in
-    record { placed = p; counts = sym counted.is_counted.ensures ∙ not-false _ c.if-not-is_counted.false }
+    record { placed = p; counts = sym counted.is_counted.ensures ∙ c.if-not-is_counted.false }
 
 shape_of-d : tie.Need-shape_of-d
 shape_of-d c = search rules

@@ -10,9 +10,6 @@ use Rattle.walk_seed.specs.Seeds.{BegunAll}
 use Rattle.walk_seed.proofs.Seeding.{begun_end, begun_more, begun_start}
 use Rattle.walk_seed.proofs.seed_words.Statement.{statement}
 use Rattle.walk_seed.proofs.seed_words.Tie as tie
-use Rattle.walk_seed.proofs.seed_words.Reads as reads
-use Rattle.walk_seed.proofs.seed_words.Lts as lts
-use Rattle.walk_seed.proofs.seed_word.Reads as seed-word-reads
 
 abbrev invariant-loop-k : tie.invariant-loop-k
 invariant-loop-k d₀ number es k₀ d k = (k ≤ length es) × BegunAll (members (graph (take k es))) number d₀ d

@@ -23,10 +23,9 @@ handed-requires c κs = search rules
 
 returns : tie.Need-returns
 returns c =
-    let s = c.before.before.before.before.before in
     fields_handed
-    (said s.args.d.now)
-    (unpack s.args.w)
+    (said c.args.d.now)
+    (unpack c.args.w)
     c.edge_from-from.ensures.0
     c.edge_to-to.ensures.0
     c.edge_gain-gain.ensures.0

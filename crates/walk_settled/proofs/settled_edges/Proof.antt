@@ -6,7 +6,6 @@ use mathlib.Core.Bool.{Bool, true}
 use mathlib.Core.List.{List}
 use Prim.Native.Nat.{ℕ, ◌-◌, ◌≤◌}
 use lib.ListN.{length, get_or}
-use borrow.Author.Tests.{not-true, not-false}
 use Rattle.definitions.specs.Basics.{all_below}
 use Rattle.data_edges.specs.Words.{unpack}
 use Rattle.data_edges.proofs.Places.{graph_fails, graph_passes}
@@ -16,9 +15,6 @@ use Rattle.walk_cells.specs.Tables.{said}
 use Rattle.walk_settled.specs.Settled.{handed_on}
 use Rattle.walk_settled.proofs.settled_edges.Statement.{statement}
 use Rattle.walk_settled.proofs.settled_edges.Tie as tie
-use Rattle.walk_settled.proofs.settled_edges.Reads as reads
-use Rattle.walk_settled.proofs.settled_edges.Lts as lts
-use Rattle.walk_settled.proofs.handed_word.Reads as handed-word-reads
 
 abbrev handed_at : List (List ℕ) → List ℕ → ℕ → Bool
 handed_at d es j = handed_on d (unpack (get_or es j 0))
@@ -43,8 +39,7 @@ handed_word-requires c κs = search rules
 
 returns-then-not-handed_word : tie.Need-returns-then-not-handed_word invariant-loop-k decreases-loop-k
 returns-then-not-handed_word c =
-    let s = c.before.before.before.before in
-    sym (graph_fails (handed_on (said s.args.d.now)) s.args.es.now s.loop-k.k (search rules) (sym c.handed_word.ensures ∙ not-true _ c.if-not-handed_word.true))
+    sym (graph_fails (handed_on (said c.args.d.now)) c.args.es.now c.loop-k.k (search rules) (sym c.handed_word.ensures ∙ c.if-not-handed_word.true))
 
 overflow_add-k : tie.Need-overflow_add-k invariant-loop-k decreases-loop-k
 overflow_add-k c = search rules
@@ -54,15 +49,13 @@ loop-k-smaller c = search rules
 
 loop-k-preserved : tie.Need-loop-k-preserved invariant-loop-k decreases-loop-k
 loop-k-preserved c =
-    let s = c.before.before.before.before in
-    let given = s.args in
-    (search rules, all_below_more (handed_at (said given.d.now) given.es.now) s.loop-k.k s.loop-k.invariant.1 (sym c.handed_word.ensures ∙ not-false _ c.if-not-handed_word.false))
+    let given = c.args in
+    (search rules, all_below_more (handed_at (said given.d.now) given.es.now) c.loop-k.k c.loop-k.invariant.1 (sym c.handed_word.ensures ∙ c.if-not-handed_word.false))
 
 returns : tie.Need-returns invariant-loop-k decreases-loop-k
 returns c =
-    let s = c.before in
-    let given = s.args in
-    sym (graph_passes (handed_on (said given.d.now)) given.es.now (λ k b. all_below_each (handed_at (said given.d.now) given.es.now) s.loop-k.k s.loop-k.invariant.1 k (search rules)))
+    let given = c.args in
+    sym (graph_passes (handed_on (said given.d.now)) given.es.now (λ k b. all_below_each (handed_at (said given.d.now) given.es.now) c.loop-k.k c.loop-k.invariant.1 k (search rules)))
 
 pub settled_edges_spec : {M : Type 1} → statement M
 settled_edges_spec =

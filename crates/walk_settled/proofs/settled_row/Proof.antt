@@ -5,7 +5,6 @@ use mathlib.Core.Path.{◌≡◌, refl, sym, ◌∙◌}
 use mathlib.Core.Bool.{Bool}
 use mathlib.Core.List.{List}
 use Prim.Native.Nat.{ℕ}
-use borrow.Author.Tests.{not-true, not-false}
 use Rattle.definitions.specs.Waits.{wait_edge}
 use Rattle.data_edges.specs.Serial.{leasts_in}
 use Rattle.laws.proofs.Maps.{removed_lt}
@@ -14,11 +13,6 @@ use Rattle.walk_settled.specs.Settled.{handed_on, waits_handed_on}
 use Rattle.walk_settled.proofs.Handing.{members_fail, members_less, members_none}
 use Rattle.walk_settled.proofs.settled_row.Statement.{statement}
 use Rattle.walk_settled.proofs.settled_row.Tie as tie
-use Rattle.walk_settled.proofs.settled_row.Reads as reads
-use Rattle.walk_settled.proofs.settled_row.Lts as lts
-use Rattle.data_bits.proofs.lowest-a.Reads as lowest-reads
-use Rattle.data_bits.proofs.without_lowest-left.Reads as without-lowest-reads
-use Rattle.walk_settled.proofs.handed_wait.Reads as handed-wait-reads
 
 -- The wait of i for a has handed on.
 abbrev waited : List (List ℕ) → List ℕ → ℕ → ℕ → Bool
@@ -47,9 +41,8 @@ handed_wait-requires c κs = search rules
 
 returns-then-not-handed_wait : tie.Need-returns-then-not-handed_wait invariant-loop-left decreases-loop-left
 returns-then-not-handed_wait c =
-    let s = c.before.before.before.before.before in
     let low = c.lowest-a in
-    sym (s.loop-left.invariant ∙ members_fail (waited (said s.args.d.now) s.args.leasts.now s.args.i) s.loop-left.false low.result low.ensures.below low.ensures.member (sym c.handed_wait.ensures ∙ not-true _ c.if-not-handed_wait.true))
+    sym (c.loop-left.invariant ∙ members_fail (waited (said c.args.d.now) c.args.leasts.now c.args.i) c.loop-left.left low.result low.ensures.below low.ensures.member (sym c.handed_wait.ensures ∙ c.if-not-handed_wait.true))
 
 without_lowest-left-requires : tie.Need-without_lowest-left-requires invariant-loop-left decreases-loop-left
 without_lowest-left-requires c κs = omega arith
@@ -59,14 +52,13 @@ loop-left-smaller c = let low = c.lowest-a.ensures in removed_lt _ _ _ low.membe
 
 loop-left-preserved : tie.Need-loop-left-preserved invariant-loop-left decreases-loop-left
 loop-left-preserved c =
-    let s = c.before.before.before.before.before.before in
     let low = c.lowest-a in
-    s.loop-left.invariant
-    ∙ members_less (waited (said s.args.d.now) s.args.leasts.now s.args.i) s.loop-left.false c.without_lowest-left.result low.result
-    (sym c.handed_wait.ensures ∙ not-false _ c.if-not-handed_wait.false) (c.without_lowest-left.ensures _ low.ensures)
+    c.loop-left.invariant
+    ∙ members_less (waited (said c.args.d.now) c.args.leasts.now c.args.i) c.loop-left.left c.without_lowest-left.result low.result
+    (sym c.handed_wait.ensures ∙ c.if-not-handed_wait.false) (c.without_lowest-left.ensures _ low.ensures)
 
 returns : tie.Need-returns invariant-loop-left decreases-loop-left
-returns c = let s = c.before in sym (s.loop-left.invariant ∙ members_none (waited (said s.args.d.now) s.args.leasts.now s.args.i) s.loop-left.false (omega arith))
+returns c = sym (c.loop-left.invariant ∙ members_none (waited (said c.args.d.now) c.args.leasts.now c.args.i) c.loop-left.left (omega arith))
 
 pub settled_row_spec : {M : Type 1} → statement M
 settled_row_spec =

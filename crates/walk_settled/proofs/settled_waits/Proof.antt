@@ -5,7 +5,6 @@ use mathlib.Core.Path.{◌≡◌, sym, ◌∙◌}
 use mathlib.Core.Bool.{true}
 use Prim.Native.Nat.{◌-◌, ◌≤◌}
 use lib.ListN.{get_or}
-use borrow.Author.Tests.{not-true, not-false}
 use Rattle.definitions.specs.Basics.{all_below}
 use Rattle.data_edges.specs.Serial.{leasts_in}
 use Rattle.laws.proofs.Bools.{both_ways, not_passing}
@@ -15,9 +14,6 @@ use Rattle.walk_cells.specs.Tables.{said}
 use Rattle.walk_settled.specs.Settled.{waits_handed_on}
 use Rattle.walk_settled.proofs.settled_waits.Statement.{statement}
 use Rattle.walk_settled.proofs.settled_waits.Tie as tie
-use Rattle.walk_settled.proofs.settled_waits.Reads as reads
-use Rattle.walk_settled.proofs.settled_waits.Lts as lts
-use Rattle.walk_settled.proofs.settled_row.Reads as settled-row-reads
 
 abbrev invariant-loop-i : tie.invariant-loop-i
 invariant-loop-i d leasts maps n i₀ i = (i ≤ n) × (all_below (λ j. waits_handed_on (said d) (leasts_in leasts) (get_or maps j 0) j) i ≡ true)
@@ -38,7 +34,7 @@ settled_row-requires : tie.Need-settled_row-requires invariant-loop-i decreases-
 settled_row-requires c κs = search rules
 
 returns-then-not-settled_row : tie.Need-returns-then-not-settled_row invariant-loop-i decreases-loop-i
-returns-then-not-settled_row c = sym (not_passing _ (λ t. both_ways (all_below_each _ _ t _ c.loop-i-test.true) (sym c.settled_row.ensures ∙ not-true _ c.if-not-settled_row.true)))
+returns-then-not-settled_row c = sym (not_passing _ (λ t. both_ways (all_below_each _ _ t _ c.loop-i-test.true) (sym c.settled_row.ensures ∙ c.if-not-settled_row.true)))
 
 overflow_add-i : tie.Need-overflow_add-i invariant-loop-i decreases-loop-i
 overflow_add-i c = search rules
@@ -48,12 +44,11 @@ loop-i-smaller c = search rules
 
 loop-i-preserved : tie.Need-loop-i-preserved invariant-loop-i decreases-loop-i
 loop-i-preserved c =
-    let s = c.before.before.before.before in
-    let given = s.args in
-    (search rules, all_below_more (λ j. waits_handed_on (said given.d.now) (leasts_in given.leasts.now) (get_or given.maps.now j 0) j) s.loop-i.i s.loop-i.invariant.1 (sym c.settled_row.ensures ∙ not-false _ c.if-not-settled_row.false))
+    let given = c.args in
+    (search rules, all_below_more (λ j. waits_handed_on (said given.d.now) (leasts_in given.leasts.now) (get_or given.maps.now j 0) j) c.loop-i.i c.loop-i.invariant.1 (sym c.settled_row.ensures ∙ c.if-not-settled_row.false))
 
 returns : tie.Need-returns invariant-loop-i decreases-loop-i
-returns c = let s = c.before in sym (all_below_by _ _ (λ j b. all_below_each _ s.loop-i.i s.loop-i.invariant.1 j (omega arith)))
+returns c = sym (all_below_by _ _ (λ j b. all_below_each _ c.loop-i.i c.loop-i.invariant.1 j (omega arith)))
 
 pub settled_waits_spec : {M : Type 1} → statement M
 settled_waits_spec =

@@ -39,7 +39,7 @@ abbrev Hands : tie.After-without_lowest-todo invariant-loop-todo decreases-loop-
 Hands s u number =
     let t = turn s in
     let raised = s.raise_by-left in
-    HandedAll (λ a. UsableFrom (Only (wait s u)) a) number u (lent t.args.row.now t.args.width) t.loop-todo.d raised.new.0 t.loop-todo.false raised.result
+    HandedAll (λ a. UsableFrom (Only (wait s u)) a) number u (lent t.args.row.now t.args.width) t.loop-todo.d raised.new.d t.loop-todo.left raised.result
 
 handed : (s : tie.After-without_lowest-todo invariant-loop-todo decreases-loop-todo) (u : ℕ) (number : List ℕ) → Hands s u number
 handed s u number =

@@ -12,7 +12,7 @@ use Rattle.walk_sweep.proofs.raise_by.Tie as tie
 -- What the row is raised by, where the least is not 0: the cell of the least is the least.
 by_least : (s : tie.After-of_least) → to_z w32 (of_z w32 s.of_least.result) ≡ pos s.args.least
 by_least s =
-    let fits : SFits w32 s.of_least.result = sfits_of s.of_least.type-inv in
+    let fits : SFits w32 s.of_least.result = sfits_of s.of_least.type_inv in
     to_z-of_z fits ∙ value_walk s.of_least.result s.args.least s.of_least.ensures.0
 
 raise_row-requires : tie.Need-raise_row-requires

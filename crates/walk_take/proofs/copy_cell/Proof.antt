@@ -50,7 +50,7 @@ returns c =
     let start = read.before in
     let p = start.requires in
     let k = start.args.k in
-    let fits : SFits w32 cleaned.clean-c.result = sfits_of cleaned.clean-c.type-inv in
+    let fits : SFits w32 cleaned.clean-c.result = sfits_of cleaned.clean-c.type_inv in
     let place = cell_in (cells_of start) k (omega (arith, p.target.few, p.target.square.cells start.args.u p.target.row)) in
     let clear : Clear cleaned.clean-c.result × (value cleaned.clean-c.result ≡ value (cell_of (cells_of start) k)) = rw (to_z-of_z (sfits_of read.clean-arg-1.given), place) at cleaned.clean-c.ensures in
     rw (to_z-of_z fits) (copied_cell (cells_of start) _ k p.long (omega (arith, p.target.few)) cleaned.clean-c.result (p.low k) clear.0 clear.1 (rw (to_z-of_z fits) at c.weight.ensures))

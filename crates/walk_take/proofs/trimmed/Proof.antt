@@ -7,6 +7,7 @@ use Rattle.walk_take.proofs.Taking.{trimmed_turn}
 use lib.Dec.{ltb}
 use lib.IntN.{ℤ}
 use mir.Facts.{to_z-of_z}
+use mir.Syntax.{w32}
 use borrow.Author.Rules.{rules, sfits_of}
 use Rattle.walk_cells.specs.Cells.{value}
 use Rattle.walk_cells.specs.Tables.{cell_of}
@@ -52,7 +53,7 @@ loop-w-preserved c =
     let start = at-loop.before in
     let cells = start.args.cells.now in
     let place = cell_in cells (at-loop.loop-w.w - 1) (omega (arith, at-loop.loop-w.invariant.fits, start.requires.long, read.loop-w-test.true)) in
-    let says : tested.is_walk.result ≡ ltb 0 (value (cell_of cells (at-loop.loop-w.w - 1))) = tested.is_walk.ensures ∙ ap (λ (x : ℤ). ltb 0 (value x)) (to_z-of_z (sfits_of read.is_walk-arg-1.given) ∙ place) in
+    let says : tested.is_walk.result ≡ ltb 0 (value (cell_of cells (at-loop.loop-w.w - 1))) = tested.is_walk.ensures ∙ ap (λ (x : ℤ). ltb 0 (value x)) (to_z-of_z {w = w32} (sfits_of read.is_walk-arg-1.given) ∙ place) in
     trimmed_turn cells _ at-loop.loop-w.w at-loop.loop-w.invariant (omega (arith, read.loop-w-test.true)) (sym says ∙ c.if-is_walk.false)
 
 returns : tie.Need-returns invariant-loop-w decreases-loop-w

@@ -29,17 +29,17 @@ abbrev head : tie.After-index-k invariant-loop-i decreases-loop-i → tie.At-loo
 head k = k.before.before.before
 
 -- There are 512 records, and each number is one of them.
-long : (s : tie.Start invariant-loop-i decreases-loop-i) → length s.args.t1 ≡ 512
+long : (s : tie.Start invariant-loop-i decreases-loop-i) → length s.args.links ≡ 512
 long s = s.well_formed.0.1.0.1
 
 inside : (k : tie.After-index-k invariant-loop-i decreases-loop-i) → k.index-k.result < 512
 inside k = omega (arith, k.index-k.ensures, (start (head k)).requires.ordered.inside (head k).loop-i.i k.loop-i-test.true)
 
 -- The texts of the records with r numbers are what is to be put, and there is room for these.
-listed : (s : tie.Start invariant-loop-i decreases-loop-i) → texts (link_text s.args.t1 s.args.order.now) s.args.r ≡ links_text s.args.t1 s.args.order.now s.args.r
-listed s = links_listed s.args.t1 s.args.order.now s.args.r s.requires.ordered.long
+listed : (s : tie.Start invariant-loop-i decreases-loop-i) → texts (link_text s.args.links s.args.order.now) s.args.r ≡ links_text s.args.links s.args.order.now s.args.r
+listed s = links_listed s.args.links s.args.order.now s.args.r s.requires.ordered.long
 
-room : (s : tie.Start invariant-loop-i decreases-loop-i) → s.args.at + length (texts (link_text s.args.t1 s.args.order.now) s.args.r) ≤ length s.args.out.now
+room : (s : tie.Start invariant-loop-i decreases-loop-i) → s.args.at + length (texts (link_text s.args.links s.args.order.now) s.args.r) ≤ length s.args.out.now
 room s = omega (arith, ap length (listed s), s.requires.room)
 
 loop-i-init : tie.Need-loop-i-init invariant-loop-i decreases-loop-i
@@ -65,7 +65,7 @@ put_link-p-requires c κs =
     let k = c.before.before in
     let l = head k in
     let s = start l in
-    let t = s.args.t1 in
+    let t = s.args.links in
     let order = s.args.order.now in
     subst
     (λ (r : Link). l.loop-i.p + length (link_bytes r) ≤ length l.loop-i.out)
@@ -84,7 +84,7 @@ loop-i-preserved c =
     let k = p.before.before.before in
     let l = head k in
     let s = start l in
-    let t = s.args.t1 in
+    let t = s.args.links in
     let order = s.args.order.now in
     let here = inside_same t k.index-k.result _ blank_link (omega (arith, long s, inside k)) ∙ ap (λ (x : ℕ). get_or t x blank_link) k.index-k.ensures in
     (omega arith, next_text (link_text t order) s.args.r l.loop-i.i l.loop-i.invariant.1 (omega arith) (room s) (put_as (ap link_bytes here) p.put_link-p.ensures))
@@ -93,14 +93,14 @@ shape_of-out : tie.Need-shape_of-out invariant-loop-i decreases-loop-i
 shape_of-out c =
     let l = c.before in
     let s = start l in
-    texts_length (link_text s.args.t1 s.args.order.now) s.args.r l.loop-i.i l.loop-i.invariant.1 l.loop-i.invariant.0 (room s)
+    texts_length (link_text s.args.links s.args.order.now) s.args.r l.loop-i.i l.loop-i.invariant.1 l.loop-i.invariant.0 (room s)
 
 returns : tie.Need-returns invariant-loop-i decreases-loop-i
 returns c =
     let l = c.before in
     let s = start l in
     let e : l.loop-i.i ≡ s.args.r = omega arith in
-    put_as (ap (texts (link_text s.args.t1 s.args.order.now)) e ∙ listed s) l.loop-i.invariant.1
+    put_as (ap (texts (link_text s.args.links s.args.order.now)) e ∙ listed s) l.loop-i.invariant.1
 
 pub put_links_spec : {M : Type 1} → statement M
 put_links_spec =

@@ -25,13 +25,13 @@ decreases-loop-i n out₀ at steps p₀ i₀ out p i = n - i
 abbrev start : tie.At-loop-i invariant-loop-i decreases-loop-i → tie.Start invariant-loop-i decreases-loop-i
 start l = l.before.before
 
-long : (s : tie.Start invariant-loop-i decreases-loop-i) → length s.args.t1 ≡ 64
+long : (s : tie.Start invariant-loop-i decreases-loop-i) → length s.args.steps ≡ 64
 long s = s.well_formed.0.1.0.1
 
-listed : (s : tie.Start invariant-loop-i decreases-loop-i) → texts (step_text s.args.t1) s.args.n ≡ steps_text s.args.t1 s.args.n
-listed s = steps_listed s.args.t1 s.args.n (omega (arith, long s, s.requires.few))
+listed : (s : tie.Start invariant-loop-i decreases-loop-i) → texts (step_text s.args.steps) s.args.n ≡ steps_text s.args.steps s.args.n
+listed s = steps_listed s.args.steps s.args.n (omega (arith, long s, s.requires.few))
 
-room : (s : tie.Start invariant-loop-i decreases-loop-i) → s.args.at + length (texts (step_text s.args.t1) s.args.n) ≤ length s.args.out.now
+room : (s : tie.Start invariant-loop-i decreases-loop-i) → s.args.at + length (texts (step_text s.args.steps) s.args.n) ≤ length s.args.out.now
 room s = omega (arith, ap length (listed s), s.requires.room)
 
 loop-i-init : tie.Need-loop-i-init invariant-loop-i decreases-loop-i
@@ -49,8 +49,8 @@ put_step-p-requires c κs =
     let s = start l in
     subst
     (λ (o : Operation). l.loop-i.p + length (operation_bytes o) ≤ length l.loop-i.out)
-    (inside_same s.args.t1 l.loop-i.i blank_operation _ (omega (arith, long s, s.requires.few)))
-    (next_room (step_text s.args.t1) s.args.n l.loop-i.i l.loop-i.invariant.1 (omega arith) (room s))
+    (inside_same s.args.steps l.loop-i.i blank_operation _ (omega (arith, long s, s.requires.few)))
+    (next_room (step_text s.args.steps) s.args.n l.loop-i.i l.loop-i.invariant.1 (omega arith) (room s))
 
 overflow_add-i : tie.Need-overflow_add-i invariant-loop-i decreases-loop-i
 overflow_add-i c = search rules
@@ -63,21 +63,21 @@ loop-i-preserved c =
     let p = c.before.before in
     let l = p.before.before.before.before in
     let s = start l in
-    let here = inside_same s.args.t1 l.loop-i.i _ blank_operation (omega (arith, long s, s.requires.few)) in
-    (omega arith, next_text (step_text s.args.t1) s.args.n l.loop-i.i l.loop-i.invariant.1 (omega arith) (room s) (put_as (ap operation_bytes here) p.put_step-p.ensures))
+    let here = inside_same s.args.steps l.loop-i.i _ blank_operation (omega (arith, long s, s.requires.few)) in
+    (omega arith, next_text (step_text s.args.steps) s.args.n l.loop-i.i l.loop-i.invariant.1 (omega arith) (room s) (put_as (ap operation_bytes here) p.put_step-p.ensures))
 
 shape_of-out : tie.Need-shape_of-out invariant-loop-i decreases-loop-i
 shape_of-out c =
     let l = c.before in
     let s = start l in
-    texts_length (step_text s.args.t1) s.args.n l.loop-i.i l.loop-i.invariant.1 l.loop-i.invariant.0 (room s)
+    texts_length (step_text s.args.steps) s.args.n l.loop-i.i l.loop-i.invariant.1 l.loop-i.invariant.0 (room s)
 
 returns : tie.Need-returns invariant-loop-i decreases-loop-i
 returns c =
     let l = c.before in
     let s = start l in
     let e : l.loop-i.i ≡ s.args.n = omega arith in
-    put_as (ap (texts (step_text s.args.t1)) e ∙ listed s) l.loop-i.invariant.1
+    put_as (ap (texts (step_text s.args.steps)) e ∙ listed s) l.loop-i.invariant.1
 
 pub put_steps_spec : {M : Type 1} → statement M
 put_steps_spec =

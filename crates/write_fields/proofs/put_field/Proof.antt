@@ -13,9 +13,7 @@ enum_known-b : tie.Need-enum_known-b
 enum_known-b c = search rules
 
 put_number-requires : tie.Need-put_number-requires
-put_number-requires c κs =
-    let s = c.before.before.before.before.before in
-    omega (arith, s.requires, (size_there c.in-Ticks.is).same)
+put_number-requires c κs = omega (arith, c.requires, (size_there c.in-Ticks.is).same)
 
 returns-in-Absent : tie.Need-returns-in-Absent
 returns-in-Absent c = put_as (field_absent c.in-Absent.is) (put_none _ _)

@@ -20,14 +20,14 @@ decreases-loop-i r n cells₀ links seen₀ i₀ cells seen i = r - i
 abbrev start : tie.At-loop-i invariant-loop-i decreases-loop-i → tie.Start invariant-loop-i decreases-loop-i
 start l = l.before.before
 
-long : (s : tie.Start invariant-loop-i decreases-loop-i) → length s.args.t1 ≡ 512
+long : (s : tie.Start invariant-loop-i decreases-loop-i) → length s.args.links ≡ 512
 long s = s.well_formed.0.1.0.1
 
 seen_few : (l : tie.At-loop-i invariant-loop-i decreases-loop-i) → l.loop-i.seen.size ≤ longest_record * most_records
-seen_few l = omega (arith, l.loop-i.invariant.1.shown.small, length-take l.loop-i.i (start l).args.t1, long (start l))
+seen_few l = omega (arith, l.loop-i.invariant.1.shown.small, length-take l.loop-i.i (start l).args.links, long (start l))
 
 kept : (l : tie.At-loop-i invariant-loop-i decreases-loop-i) → length l.loop-i.cells ≡ length (start l).args.cells.now
-kept l = cells_kept l.loop-i.invariant.1 (omega (arith, l.loop-i.invariant.0, (start l).requires.room, length-take l.loop-i.i (start l).args.t1))
+kept l = cells_kept l.loop-i.invariant.1 (omega (arith, l.loop-i.invariant.0, (start l).requires.room, length-take l.loop-i.i (start l).args.links))
 
 loop-i-init : tie.Need-loop-i-init invariant-loop-i decreases-loop-i
 loop-i-init c = (omega arith, links_none _ _)
@@ -62,7 +62,7 @@ loop-i-preserved : tie.Need-loop-i-preserved invariant-loop-i decreases-loop-i
 loop-i-preserved c =
     let l = c.before.before.before.before in
     let s = start l in
-    (omega arith, links_more s.args.t1 _ _ l.loop-i.i (omega (arith, long s, s.requires.few)) l.loop-i.invariant.1 c.see_link-more.ensures _ c.cell.ensures (omega (arith, s.requires.room)))
+    (omega arith, links_more s.args.links _ _ l.loop-i.i (omega (arith, long s, s.requires.few)) l.loop-i.invariant.1 c.see_link-more.ensures _ c.cell.ensures (omega (arith, s.requires.room)))
 
 shape_of-cells : tie.Need-shape_of-cells invariant-loop-i decreases-loop-i
 shape_of-cells c = kept c.before
@@ -72,7 +72,7 @@ returns c =
     let l = c.before in
     let s = start l in
     let e : l.loop-i.i ≡ s.args.r = omega arith in
-    subst (λ (k : ℕ). LinksScanned s.args.n (take k s.args.t1) s.args.cells.now l.loop-i.seen l.loop-i.cells) e l.loop-i.invariant.1
+    subst (λ (k : ℕ). LinksScanned s.args.n (take k s.args.links) s.args.cells.now l.loop-i.seen l.loop-i.cells) e l.loop-i.invariant.1
 
 pub scan_links_spec : {M : Type 1} → statement M
 scan_links_spec =

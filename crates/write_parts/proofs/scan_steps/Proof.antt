@@ -18,11 +18,11 @@ abbrev decreases-loop-i : tie.decreases-loop-i
 decreases-loop-i n steps seen₀ i₀ seen i = n - i
 
 -- There are 64 steps; and those that have been seen are few.
-long : (s : tie.Start invariant-loop-i decreases-loop-i) → length s.args.t1 ≡ 64
+long : (s : tie.Start invariant-loop-i decreases-loop-i) → length s.args.steps ≡ 64
 long s = s.well_formed.0.1.0.1
 
 seen_few : (l : tie.At-loop-i invariant-loop-i decreases-loop-i) → l.loop-i.seen.size ≤ largest_step * most_steps
-seen_few l = omega (arith, l.loop-i.invariant.1.small, length-take l.loop-i.i l.args.t1, long l.before)
+seen_few l = omega (arith, l.loop-i.invariant.1.small, length-take l.loop-i.i l.args.steps, long l.before)
 
 loop-i-init : tie.Need-loop-i-init invariant-loop-i decreases-loop-i
 loop-i-init c = (omega arith, steps_none)
@@ -51,7 +51,7 @@ returns : tie.Need-returns invariant-loop-i decreases-loop-i
 returns c =
     let l = c.before in
     let e : l.loop-i.i ≡ l.args.n = omega arith in
-    subst (λ (k : ℕ). StepsScanned (take k l.args.t1) l.loop-i.seen) e l.loop-i.invariant.1
+    subst (λ (k : ℕ). StepsScanned (take k l.args.steps) l.loop-i.seen) e l.loop-i.invariant.1
 
 pub scan_steps_spec : {M : Type 1} → statement M
 scan_steps_spec =

@@ -9,20 +9,7 @@ use borrow.Author.Rules.{rules}
 use Rattle.write_sheet.proofs.write_counted.Statement.{statement}
 use Rattle.write_sheet.proofs.write_counted.Tie as tie
 
--- Places on the way. From where the faults have been looked for: where the link records and the steps have been seen, and the start.
-abbrev links_scanned : tie.After-fault-status → tie.After-scan_links-seen
-links_scanned f = f.before.before
-
-abbrev steps_scanned : tie.After-fault-status → tie.After-scan_steps-found
-steps_scanned f = (links_scanned f).before.before
-
-abbrev start : tie.After-fault-status → tie.Start
-start f = (steps_scanned f).before.before
-
--- That, from where there was none; that again, from where the cells have been ordered; and that, from where none came twice.
-abbrev looked : tie.In_default → tie.After-fault-status
-looked p = p.before.before
-
+-- Places on the way: where there was no fault, from where the cells have been ordered; and that, from where none came twice.
 abbrev passed : tie.After-order_cells → tie.In_default
 passed o = o.before.before.before
 
@@ -30,22 +17,16 @@ abbrev ordered : tie.Else-order_cells → tie.After-order_cells
 ordered m = m.before.before
 
 -- No fault before 6.
-faultless : (p : tie.In_default) →
-    let f = looked p in
-    let s = start f in
-    Faultless s.args.n s.args.a s.args.r s.args.b s.args.steps s.args.links (links_scanned f).scan_links-seen.new.cells (steps_scanned f).scan_steps-found.result (links_scanned f).scan_links-seen.result
-faultless p =
-    let f = looked p in
-    let s = start f in
-    record {
-      counts = s.requires;
-      all_steps = s.good.1.0.1.0.1;
-      all_links = s.good.1.1.1.1.0.1.0.1;
-      blank = replicate 512 0;
-      steps_seen = (steps_scanned f).scan_steps-found.ensures;
-      links_seen = (links_scanned f).scan_links-seen.ensures;
-      none = subst (Faults (steps_scanned f).scan_steps-found.result (links_scanned f).scan_links-seen.result) p.in_default.is f.fault-status.ensures;
-    }
+faultless : (p : tie.In_default) → Faultless p.args.n p.args.a p.args.r p.args.b p.args.steps p.args.links p.scan_links-seen.new.cells p.scan_steps-found.result p.scan_links-seen.result
+faultless p = record {
+  counts = p.requires;
+  all_steps = p.well_formed.1.0.1.0.1;
+  all_links = p.well_formed.1.1.1.1.0.1.0.1;
+  blank = replicate 512 0;
+  steps_seen = p.scan_steps-found.ensures;
+  links_seen = p.scan_links-seen.ensures;
+  none = subst (Faults p.scan_steps-found.result p.scan_links-seen.result) p.in_default.is p.fault-status.ensures;
+}
 
 scan_steps-found-requires : tie.Need-scan_steps-found-requires
 scan_steps-found-requires c κs = search rules
@@ -63,9 +44,7 @@ enum_known-status : tie.Need-enum_known-status
 enum_known-status c = search rules
 
 returns-in-Refused : tie.Need-returns-in-Refused
-returns-in-Refused c =
-    let f = c.before.before.before in
-    leaves_refused (parts_refused _ _ _ (steps_scanned f).scan_steps-found.ensures (links_scanned f).scan_links-seen.ensures.shown (subst (Faults (steps_scanned f).scan_steps-found.result (links_scanned f).scan_links-seen.result) c.in-Refused.is f.fault-status.ensures))
+returns-in-Refused c = leaves_refused (parts_refused _ _ _ c.scan_steps-found.ensures c.scan_links-seen.ensures.shown (subst (Faults c.scan_steps-found.result c.scan_links-seen.result) c.in-Refused.is c.fault-status.ensures))
 
 enum_told-1 : tie.Need-enum_told-1
 enum_told-1 c = search rules

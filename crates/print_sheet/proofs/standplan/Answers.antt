@@ -1,0 +1,28 @@
+-- `print_sheet::standplan` meets its contract: what is answered is the plan with the waits, or the refusal that is printed.
+use mathlib.Core.Path.{sym, ap, ◌∙◌}
+use native.Mathlib.Omega.{arith}
+use Rattle.read_sheet.proofs.Whole.{bytes_by}
+use Rattle.definitions.specs.Numbers.{verdict_of}
+use Rattle.print_line.specs.Texts.{refusal_text}
+use Rattle.print_line.proofs.Fronts.{printed_as}
+use Rattle.print_sheet.proofs.Sheets.{plan_plans, plan_refuses}
+use borrow.Author.Rules.{rules}
+use Rattle.print_sheet.proofs.standplan.Goals as goal
+
+pub print_accepted-requires : goal.print_accepted-requires
+print_accepted-requires c =
+    let p = c.answer-found.ensures in
+    let bytes = bytes_by c.args.s.now (λ i. omega (arith, c.type_inv.s i)) in
+    (plan_plans c.args.s.now bytes _ (search rules) (sym (ap verdict_of c.in-WellPosed.is) ∙ p.verdict) p.numbers p.maps p.count, search rules)
+
+pub print_accepted-requires-in-Serialized : goal.print_accepted-requires-in-Serialized
+print_accepted-requires-in-Serialized c =
+    let p = c.answer-found.ensures in
+    let bytes = bytes_by c.args.s.now (λ i. omega (arith, c.type_inv.s i)) in
+    (plan_plans c.args.s.now bytes _ (search rules) (sym (ap verdict_of c.in-Serialized.is) ∙ p.verdict) p.numbers p.maps p.count, search rules)
+
+pub returns-in-Refused : goal.returns-in-Refused
+returns-in-Refused c =
+    let bytes = bytes_by c.args.s.now (λ i. omega (arith, c.type_inv.s i)) in
+    let refuses = plan_refuses c.args.s.now bytes _ (search rules) (sym (ap verdict_of c.in-Refused.is) ∙ c.answer-found.ensures.verdict) in
+    printed_as (ap refusal_text c.refusal_number-number.ensures.0 ∙ refuses) c.print_refusal.ensures
