@@ -15,8 +15,7 @@ verdict_code-requires c κs = search rules
 
 returns : tie.Need-returns
 returns c =
-    let s = c.before.before.before in
-    coded (λ (b : Bool). judged s.args.sheet.now b) s.args.allow c.judge.ensures.verdict refl c.verdict_code.ensures
+    coded (λ (b : Bool). judged c.args.sheet.now b) c.args.allow c.judge.ensures.verdict refl c.verdict_code.ensures
 
 pub standplan_judge_spec : {M : Type 1} → statement M
 standplan_judge_spec = tie.close (tie.spec judge-requires verdict_code-requires returns)

@@ -18,9 +18,8 @@ shape_of-table c = search rules
 
 returns : tie.Need-returns
 returns c =
-    let s = c.before.before.before.before.before.before.before in
     let r = c.plan.ensures in
-    written (λ (b : Bool). planned s.args.sheet.now b s.args.table.now) s.args.allow (r.verdict, r.numbers) refl c.verdict_code.ensures
+    written (λ (b : Bool). planned c.args.sheet.now b c.args.table.now) c.args.allow (r.verdict, r.numbers) refl c.verdict_code.ensures
 
 pub standplan_plan_spec : {M : Type 1} → statement M
 standplan_plan_spec = tie.close (tie.spec plan-requires verdict_code-requires shape_of-table returns)

@@ -18,9 +18,8 @@ shape_of-out c = search rules
 
 returns : tie.Need-returns
 returns c =
-    let s = c.before.before.before.before.before.before.before.before in
     let r = c.starts.ensures in
-    written (λ (b : Bool). starts_answer s.args.sheet.now b s.args.list.now s.args.out.now) s.args.allow (r.verdict, r.numbers) refl c.verdict_code.ensures
+    written (λ (b : Bool). starts_answer c.args.sheet.now b c.args.list.now c.args.out.now) c.args.allow (r.verdict, r.numbers) refl c.verdict_code.ensures
 
 pub standplan_starts_spec : {M : Type 1} → statement M
 standplan_starts_spec =

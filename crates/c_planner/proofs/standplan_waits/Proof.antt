@@ -5,10 +5,6 @@ use Rattle.c_planner.proofs.Codes.{lists_as_lent, lists_stored}
 use Rattle.c_planner.proofs.standplan_waits.Statement.{statement}
 use Rattle.c_planner.proofs.standplan_waits.Tie as tie
 
--- The maps and the count as they are lent, from where the number of the verdict is known.
-abbrev start : tie.After-verdict_code-code → tie.Start
-start p = p.before.before.before
-
 waits-found-requires : tie.Need-waits-found-requires
 waits-found-requires c κs = search rules
 
@@ -17,13 +13,11 @@ verdict_code-code-requires c κs = search rules
 
 returns-then-code-ge-REFUSALS_PAST : tie.Need-returns-then-code-ge-REFUSALS_PAST
 returns-then-code-ge-REFUSALS_PAST c =
-    let p = c.before in
-    lists_as_lent (start p).args.maps.now (start p).args.count.now p.waits-found.ensures p.verdict_code-code.ensures (omega arith)
+    lists_as_lent c.args.maps.now c.args.count.now c.waits-found.ensures c.verdict_code-code.ensures (omega arith)
 
 returns : tie.Need-returns
 returns c =
-    let p = c.before.before in
-    lists_stored (start p).args.maps.now (start p).args.count.now p.waits-found.ensures p.verdict_code-code.ensures (omega arith)
+    lists_stored c.args.maps.now c.args.count.now c.waits-found.ensures c.verdict_code-code.ensures (omega arith)
 
 pub standplan_waits_spec : {M : Type 1} → statement M
 standplan_waits_spec = tie.close (tie.spec waits-found-requires verdict_code-code-requires returns-then-code-ge-REFUSALS_PAST returns)

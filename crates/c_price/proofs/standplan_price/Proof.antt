@@ -1,18 +1,9 @@
 -- On a refusal no total is stored; on acceptance both are.
-use mathlib.Core.List.{List}
-use Prim.Native.Nat.{ℕ}
 use native.Mathlib.Omega.{arith}
 use Rattle.c_price.proofs.Codes.{prices_as_lent, prices_stored}
 use borrow.Author.Rules.{rules}
 use Rattle.c_price.proofs.standplan_price.Statement.{statement}
 use Rattle.c_price.proofs.standplan_price.Tie as tie
-
--- Places: where the sheet is priced, from where the number of the verdict is known, and the totals as they are lent.
-abbrev priced : tie.After-verdict_code-code → tie.After-price-priced
-priced s = s.before.before.before.before.before
-
-abbrev lent : tie.After-verdict_code-code → List ℕ
-lent s = (priced s).args.totals.now
 
 price-priced-requires : tie.Need-price-priced-requires
 price-priced-requires c κs = search rules
@@ -27,7 +18,7 @@ shape_of-comparisons-then-code-ge-REFUSALS_PAST : tie.Need-shape_of-comparisons-
 shape_of-comparisons-then-code-ge-REFUSALS_PAST c = search rules
 
 returns-then-code-ge-REFUSALS_PAST : tie.Need-returns-then-code-ge-REFUSALS_PAST
-returns-then-code-ge-REFUSALS_PAST c = let p = c.before in prices_as_lent (lent p) (priced p).price-priced.ensures p.verdict_code-code.ensures (omega arith)
+returns-then-code-ge-REFUSALS_PAST c = prices_as_lent c.args.totals.now c.price-priced.ensures c.verdict_code-code.ensures (omega arith)
 
 shape_of-registers : tie.Need-shape_of-registers
 shape_of-registers c = search rules
@@ -36,7 +27,7 @@ shape_of-comparisons : tie.Need-shape_of-comparisons
 shape_of-comparisons c = search rules
 
 returns : tie.Need-returns
-returns c = let p = c.before.before in prices_stored (lent p) (priced p).price-priced.ensures p.verdict_code-code.ensures (omega arith)
+returns c = prices_stored c.args.totals.now c.price-priced.ensures c.verdict_code-code.ensures (omega arith)
 
 pub standplan_price_spec : {M : Type 1} → statement M
 standplan_price_spec =

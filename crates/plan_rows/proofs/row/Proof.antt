@@ -9,15 +9,12 @@ use Rattle.plan_rows.proofs.Parts.{Asked, row_done, row_refused, asked_part}
 use Rattle.plan_rows.proofs.row.Statement.{statement}
 use Rattle.plan_rows.proofs.row.Tie as tie
 
--- Where the companion call says that it is done: the start, that the row stands in the table, and that it ends within the longest one.
-abbrev start : tie.In-Done → tie.Start
-start p = p.before.before.before.before
+-- Where the companion call says that it is done: that the row stands in the table, and that it ends within the longest one.
+asked : (p : tie.In-Done) → Asked p.args.table.now p.args.n p.args.v
+asked p = row_done p.args.table.now p.args.n p.args.v _ p.row_status.ensures p.in-Done.is
 
-asked : (p : tie.In-Done) → Asked (start p).args.table.now (start p).args.n (start p).args.v
-asked p = row_done (start p).args.table.now (start p).args.n (start p).args.v _ p.row_status.ensures p.in-Done.is
-
-small : (p : tie.In-Done) → (start p).args.v * (start p).args.n + (start p).args.n ≤ longest_table
-small p = omega (arith, row_end (start p).args.n (start p).args.v (asked p).inside, square_small (start p).args.n (asked p).few)
+small : (p : tie.In-Done) → p.args.v * p.args.n + p.args.n ≤ longest_table
+small p = omega (arith, row_end p.args.n p.args.v (asked p).inside, square_small p.args.n (asked p).few)
 
 row_status-requires : tie.Need-row_status-requires
 row_status-requires c κs = search rules
@@ -41,7 +38,7 @@ slice_bounds-result-start : tie.Need-slice_bounds-result-start
 slice_bounds-result-start c = search rules
 
 slice_bounds-result-end : tie.Need-slice_bounds-result-end
-slice_bounds-result-end c = omega (arith, (asked c).long, row_end (start c).args.n (start c).args.v (asked c).inside)
+slice_bounds-result-end c = omega (arith, (asked c).long, row_end c.args.n c.args.v (asked c).inside)
 
 enum_told-in-Refused : tie.Need-enum_told-in-Refused
 enum_told-in-Refused c = search rules
