@@ -62,14 +62,6 @@ held_stored {v} {k} {d' = d'} T low H = record { most = λ w j. by w j (same_or_
     by w j (inl e) (inr f) = omega (arith, ap value (T.other w j (inr f)), H.most w j)
     by w j (inr e) f = omega (arith, ap value (T.other w j (inl e)), H.most w j)
 
-held_raised : {v k : ℕ} {c : ℤ} {d d' : List (List ℤ)} → Raised v k c d d' → value c ≤ suc most_gain → Held most_gain d → Held most_gain d'
-held_raised {v} {k} {d' = d'} R low H = record { most = λ w j. by w j (same_or_not w v) (same_or_not j k) }
-  where
-    by : (w j : ℕ) → (w ≡ v) ⊎ (w ≢ v) → (j ≡ k) ⊎ (j ≢ k) → value (cell_at d' w j) ≤ suc most_gain
-    by w j (inl e) (inl f) = rw (e, f) (omega (arith, R.here, H.most v k))
-    by w j (inl e) (inr f) = omega (arith, ap value (R.other w j (inr f)), H.most w j)
-    by w j (inr e) f = omega (arith, ap value (R.other w j (inl e)), H.most w j)
-
 -- The pairs of step v and the members of a map that are not left; and those of the rows of sets below v.
 abbrev pub Passed : ℕ → ℕ → ℕ → ℕ → ℕ → Type 0
 Passed v map left w a = (w ≡ v) × (a < 64) × (test_bit map a ≡ true) × (test_bit left a ≡ false)
@@ -180,51 +172,6 @@ module _ (number : List ℕ) where
 
   pub begun_light : (e : Edge) (d : List (List ℤ)) → Square (length d) d → e.gain ≤ e.loss → BegunAll (Only e) number d d
   begun_light e d S h = begun_none d S (λ x m a l. rw m h)
-
-  pub begun_source : (e : Edge) (d : List (List ℤ)) → Square (length d) d → e.from ≡ 0 → BegunAll (Only e) number d d
-  begun_source e d S h = begun_none d S (λ x m a l. absurd (l.not_source (sym l.leaves ∙ ap (λ (y : Edge). y.from) m ∙ h)))
-
-  -- A step without a column is no anchor.
-  pub begun_unnumbered : (e : Edge) (d : List (List ℤ)) → Square (length d) d → 64 ≤ get_or number e.from 0 → BegunAll (Only e) number d d
-  begun_unnumbered e d S h =
-      record { square = S; each = λ width anchor N few k b. record { up = λ v. omega arith; begun = λ x m l c. absurd (omega (arith, N.there k b, ap (λ (y : ℕ). get_or number y 0) (sym l.leaves ∙ ap (λ (y : Edge). y.from) m))); sound = λ t s below. below }; held = λ H. H }
-
-  -- One edge that leads: the cell at its end, in the column of its start, is raised.
-  module _ (e : Edge) (to k : ℕ) (c : ℤ) (d d' : List (List ℤ)) (p : to ≡ e.to) (light : e.gain ≤ most_gain) (counts : e.counted ≡ true) (apart : e.from ≢ 0) (low : e.from < 64) (is : k ≡ get_or number e.from 0) (weighs : value c ≡ suc (e.gain - e.loss)) (R : Raised to k c d d') where
-    module _ (width : ℕ) (anchor : ℕ → ℕ) (N : Numbers width number anchor) (j : ℕ) (b : j < width) where
-      other : j ≢ k → Begun (Only e) (anchor j) (column d j) (column d' j)
-      other o =
-          record {
-            up = λ v. omega (arith, ap value (R.other v j (inr o)));
-            begun = λ x m l h. absurd (o (sym (N.there j b) ∙ ap (λ (y : ℕ). get_or number y 0) (sym l.leaves ∙ ap (λ (y : Edge). y.from) m) ∙ sym is));
-            sound = λ t s below v. omega (arith, ap value (R.other v j (inr o)), below v);
-          }
-
-      own_anchor : j ≡ k → anchor j ≡ e.from
-      own_anchor h = ap anchor (h ∙ is) ∙ N.back e.from low (omega arith)
-
-      leads : j ≡ k → Leads (anchor j) e
-      leads h = record { not_source = λ z. apart (sym (own_anchor h) ∙ z); leaves = sym (own_anchor h); counts = counts }
-
-      up : j ≡ k → (v : ℕ) → (v ≡ to) ⊎ (v ≢ to) → column d j v ≤ column d' j v
-      up h v (inl f) = rw (h, f) (omega (arith, R.here))
-      up h v (inr f) = omega (arith, ap value (R.other v j (inl f)))
-
-      sound : j ≡ k → (t : ℕ → ℕ) → ((x : Edge) → Only e x → Leads (anchor j) x → suc (x.gain - x.loss) ≤ t x.to) → ((v : ℕ) → column d j v ≤ t v) → (v : ℕ) → (v ≡ to) ⊎ (v ≢ to) → column d' j v ≤ t v
-      sound h t s below v (inl f) =
-          rw f (omega (arith, s e refl (leads h), ap t p, below to, ap (λ (x : ℕ). column d x to) h, ap (λ (x : ℕ). column d' x to) h, R.here))
-      sound h t s below v (inr f) = omega (arith, ap value (R.other v j (inl f)), below v)
-
-      own : j ≡ k → Begun (Only e) (anchor j) (column d j) (column d' j)
-      own h =
-          record { up = λ v. up h v (same_or_not v to); begun = λ x m l q. rw (m, ← p) (omega (arith, R.here, ap (λ (y : ℕ). column d' y to) h)); sound = λ t s below v. sound h t s below v (same_or_not v to) }
-
-      by : (j ≡ k) ⊎ (j ≢ k) → Begun (Only e) (anchor j) (column d j) (column d' j)
-      by (inl h) = own h
-      by (inr h) = other h
-
-    pub begun_edge : BegunAll (Only e) number d d'
-    begun_edge = record { square = R.square; each = λ width anchor N few j b. by width anchor N j b (same_or_not j k); held = λ H. held_raised R (omega (arith, weighs, light)) H }
 
   -- One graph and then another.
   begun_both : {E F G : Graph} {d d' d'' : List (List ℤ)} → E ⊑ G → F ⊑ G → ((e : Edge) → G e → E e ⊎ F e) → BegunAll E number d d' → BegunAll F number d' d'' → BegunAll G number d d''

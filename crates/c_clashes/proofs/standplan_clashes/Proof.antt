@@ -19,10 +19,9 @@ shape_of-numbers-in-Count c = search rules
 
 returns-in-Count : tie.Need-returns-in-Count
 returns-in-Count c =
-    let called = c.before.before.before.before.before in
-    let lent = called.args.count.now in
-    let answer = sym (ap tally_of c.in-Count.is) ∙ called.clashes-tally.ensures.tally-1 in
-    record { verdict = ap tally_code answer; numbers = called.clashes-tally.ensures.numbers-1; count = ap (λ (o : Outcome ℕ). count_left o lent) answer }
+    let lent = c.args.count.now in
+    let answer = sym (ap tally_of c.in-Count.is) ∙ c.clashes-tally.ensures.tally in
+    record { verdict = ap tally_code answer; numbers = c.clashes-tally.ensures.numbers; count = ap (λ (o : Outcome ℕ). count_left o lent) answer }
 
 enum_told-1 : tie.Need-enum_told-1
 enum_told-1 c = search rules
@@ -35,10 +34,9 @@ shape_of-numbers c = search rules
 
 returns : tie.Need-returns
 returns c =
-    let called = c.before.before.before.before.before in
-    let lent = called.args.count.now in
-    let answer = sym (ap tally_of c.in_default.is) ∙ called.clashes-tally.ensures.tally-1 in
-    record { verdict = c.tally_code.ensures ∙ ap tally_code called.clashes-tally.ensures.tally-1; numbers = called.clashes-tally.ensures.numbers-1; count = ap (λ (o : Outcome ℕ). count_left o lent) answer }
+    let lent = c.args.count.now in
+    let answer = sym (ap tally_of c.in_default.is) ∙ c.clashes-tally.ensures.tally in
+    record { verdict = c.tally_code.ensures ∙ ap tally_code c.clashes-tally.ensures.tally; numbers = c.clashes-tally.ensures.numbers; count = ap (λ (o : Outcome ℕ). count_left o lent) answer }
 
 pub standplan_clashes_spec : {M : Type 1} → statement M
 standplan_clashes_spec =

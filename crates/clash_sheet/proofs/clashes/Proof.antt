@@ -1,24 +1,11 @@
 -- `clash_sheet::clashes` meets its contract: what reading refused is refused; else the words hold the sheet, and what is answered of it is the sheet's.
 use Rattle.read_fields.proofs.Counts.{room_any}
 use Rattle.read_sheet.proofs.Reports.{report_refused}
-use Rattle.read_sheet.proofs.Whole.{Whole, whole}
+use Rattle.read_sheet.proofs.Whole.{whole}
 use borrow.Author.Rules.{rules}
 use Rattle.clash_sheet.proofs.Laws.{few_unread, few_whole, whole_held, whole_holding}
 use Rattle.clash_sheet.proofs.clashes.Statement.{statement}
 use Rattle.clash_sheet.proofs.clashes.Tie as tie
-
--- Places on the way: the start, from where the bytes have been read; and that, from where the sheet is found whole.
-abbrev start : tie.After-read-report → tie.Start
-start r = r.before.before.before.before.before
-
-abbrev reported : tie.In_default → tie.After-read-report
-reported s = s.before.before.before
-
--- What was read: the sheet, held in the words. Bytes are below 256.
-read_whole : (s : tie.In_default) → let r = reported s in Whole (start r).args.s.now r.read-report.new.words r.read-report.new.leasts r.read-report.result
-read_whole s =
-    let r = reported s in
-    whole (start r).args.s.now _ _ _ (λ i. (r.shared_slice_known-1.given i).fits) r.read-report.ensures s.in_default.is
 
 slice_bounds-read-end : tie.Need-slice_bounds-read-end
 slice_bounds-read-end c = search rules
@@ -31,8 +18,7 @@ enum_known-reading c = search rules
 
 returns-in-Refused : tie.Need-returns-in-Refused
 returns-in-Refused c =
-    let r = c.before.before.before.before in
-    few_unread (start r).args.s.now (start r).args.list.now _ (report_refused _ _ _ _ _ r.read-report.ensures c.in-Refused.is)
+    few_unread c.args.s.now c.args.list.now _ (report_refused _ _ _ _ _ c.read-report.ensures c.in-Refused.is)
 
 enum_told-1 : tie.Need-enum_told-1
 enum_told-1 c = search rules
@@ -41,16 +27,15 @@ slice_bounds-clashes_of-end : tie.Need-slice_bounds-clashes_of-end
 slice_bounds-clashes_of-end c = search rules
 
 clashes_of-requires : tie.Need-clashes_of-requires
-clashes_of-requires c κs = whole_held (read_whole c.before.before)
+clashes_of-requires c κs = whole_held (whole c.args.s.now _ _ _ (λ i. (c.shared_slice_known-1.given i).fits) c.read-report.ensures c.in_default.is)
 
 shape_of-list : tie.Need-shape_of-list
 shape_of-list c = search rules
 
 returns : tie.Need-returns
 returns c =
-    let called = c.before.before in
-    let w = read_whole called.before.before.before in
-    few_whole w _ (called.clashes_of.ensures w.found.whole (whole_holding w))
+    let w = whole c.args.s.now _ _ _ (λ i. (c.shared_slice_known-1.given i).fits) c.read-report.ensures c.in_default.is in
+    few_whole w _ (c.clashes_of.ensures w.found.whole (whole_holding w))
 
 pub clashes_spec : {M : Type 1} → statement M
 clashes_spec =

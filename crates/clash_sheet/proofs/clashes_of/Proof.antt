@@ -1,28 +1,12 @@
 -- By the status of 8, 10 and 11: nothing refused is 31, a circle is 8, and for 10 and 11 the report is handed out.
-use mathlib.Core.Path.{◌≡◌, sym, ap, ◌∙◌}
-use Rattle.definitions.specs.Answers.{count_of, edges_of}
-use Rattle.definitions.specs.Bytes.{Records}
+use mathlib.Core.Path.{sym, ap, ◌∙◌}
 use Rattle.definitions.specs.Numbers.{status_of}
 use Rattle.definitions.specs.declared.Status.{Status}
-use Rattle.definitions.specs.declared.Status.TheVariants as Statuses
-use Rattle.judge_possible.specs.Possible.{judge_possible}
-use Rattle.clash_sheet.specs.Reports.{Holding}
 use lib.Seq.{length-take-le}
 use borrow.Author.Rules.{rules}
 use Rattle.clash_sheet.proofs.Laws.{answered_circle, answered_done, answered_report, held_edges, held_records}
 use Rattle.clash_sheet.proofs.clashes_of.Statement.{statement}
 use Rattle.clash_sheet.proofs.clashes_of.Tie as tie
-
--- Places: the words judged, from where it is known whether they are refused, and from where they are; whether by 8 is asked then.
-abbrev passed : tie.In-Done → tie.After-judge
-passed s = s.before.before
-
-abbrev stopped : tie.In-Refused-2 → tie.After-judge
-stopped s = s.before.before
-
--- The status, as a refusal is told.
-told : (s : tie.In-Refused-2) (q : Records) → (let a = (stopped s).args in Holding q a.words.now a.count a.linked a.records a.n) → status_of (Statuses.Refused s.in-Refused.k) tt ≡ judge_possible (count_of q) (edges_of q)
-told s q H = ap (λ (st : Status). status_of st tt) (sym s.in-Refused.is) ∙ (stopped s).judge.ensures q H.completed
 
 slice_bounds-judge-end : tie.Need-slice_bounds-judge-end
 slice_bounds-judge-end c = sym (length-take-le _ _ c.requires.within)
@@ -41,8 +25,7 @@ is_circle-requires c κs = search rules
 
 returns-then-is_circle : tie.Need-returns-then-is_circle
 returns-then-is_circle c q H =
-    let s = c.before.before.before in
-    answered_circle q _ s.in-Refused.k (told s q H) (sym c.is_circle.ensures ∙ c.if-is_circle.true)
+    answered_circle q _ c.in-Refused.k (ap (λ (st : Status). status_of st tt) (sym c.in-Refused.is) ∙ c.judge.ensures q H.completed) (sym c.is_circle.ensures ∙ c.if-is_circle.true)
 
 slice_bounds-report-end : tie.Need-slice_bounds-report-end
 slice_bounds-report-end c = sym (length-take-le _ _ c.requires.linked_within)
@@ -51,17 +34,14 @@ report-requires : tie.Need-report-requires
 report-requires c κs = held_records c.requires
 
 returns-in-Done : tie.Need-returns-in-Done
-returns-in-Done c q H = answered_done q _ (ap (λ (st : Status). status_of st tt) (sym c.in-Done.is) ∙ (passed c).judge.ensures q H.completed)
+returns-in-Done c q H = answered_done q _ (ap (λ (st : Status). status_of st tt) (sym c.in-Done.is) ∙ c.judge.ensures q H.completed)
 
 shape_of-list : tie.Need-shape_of-list
 shape_of-list c = search rules
 
 returns-else-is_circle : tie.Need-returns-else-is_circle
 returns-else-is_circle c q H =
-    let called = c.before.before in
-    let other = called.before.before.before in
-    let s = other.before.before.before in
-    answered_report q _ s.in-Refused.k (told s q H) (sym other.is_circle.ensures ∙ other.if-is_circle.false) (called.report.ensures q H.recorded)
+    answered_report q _ c.in-Refused.k (ap (λ (st : Status). status_of st tt) (sym c.in-Refused.is) ∙ c.judge.ensures q H.completed) (sym c.is_circle.ensures ∙ c.if-is_circle.false) (c.report.ensures q H.recorded)
 
 pub clashes_of_spec : {M : Type 1} → statement M
 clashes_of_spec =

@@ -5,38 +5,26 @@ use Prim.Native.Nat.{ℕ, ◌-◌, ◌≤◌}
 use native.Mathlib.Omega.{arith}
 use lib.ListN.{drop, length-drop, take}
 use lib.Seq.{take_all}
-use Rattle.clash_filter.specs.Sheets.{Reported}
 use borrow.Author.Rules.{rules}
 use Rattle.clash_sheet.specs.Reports.{Handed}
 use Rattle.clash_sheet.proofs.Laws.{filterable}
 use Rattle.clash_sheet.proofs.report.Statement.{statement}
 use Rattle.clash_sheet.proofs.report.Tie as tie
 
--- The start, from where the report is there.
-abbrev start : tie.After-clash-at → tie.Start
-start c = c.before.before.before.before
-
--- What is reported of the sheet that there is.
-reported : (c : tie.After-clash-at) → Reported (start c).requires.sheet c.clash-at.new.numbers c.clash-at.result
-reported c = let p = (start c).requires in c.clash-at.ensures p.sheet p.holds
-
-within : (c : tie.After-clash-at) → c.clash-at.result ≤ 512
-within c = (reported c).within
-
 clash-at-requires : tie.Need-clash-at-requires
 clash-at-requires c κs = filterable c.requires
 
 offset_bounds-numbers-at : tie.Need-offset_bounds-numbers-at
-offset_bounds-numbers-at c = let b = within c in search rules
+offset_bounds-numbers-at c = let b : c.clash-at.result ≤ 512 = (c.clash-at.ensures c.requires.sheet c.requires.holds).within in search rules
 
 slice_bounds-hand_out-count : tie.Need-slice_bounds-hand_out-count
-slice_bounds-hand_out-count c = within c
+slice_bounds-hand_out-count c = (c.clash-at.ensures c.requires.sheet c.requires.holds).within
 
 slice_bounds-hand_out-start : tie.Need-slice_bounds-hand_out-start
-slice_bounds-hand_out-start c = let b = within c.before in omega arith
+slice_bounds-hand_out-start c = omega (arith, (c.clash-at.ensures c.requires.sheet c.requires.holds).within)
 
 slice_bounds-hand_out-end : tie.Need-slice_bounds-hand_out-end
-slice_bounds-hand_out-end c = let b = (reported c.before).long in omega arith
+slice_bounds-hand_out-end c = omega (arith, (c.clash-at.ensures c.requires.sheet c.requires.holds).long)
 
 hand_out-requires : tie.Need-hand_out-requires
 hand_out-requires c κs = search rules
@@ -46,13 +34,11 @@ shape_of-list c = search rules
 
 returns : tie.Need-returns
 returns c q R =
-    let called = c.before.before in
-    let s = called.before.before.before.before in
-    let numbers = s.clash-at.new.numbers in
-    let at = s.clash-at.result in
-    let report = s.clash-at.ensures q R in
+    let numbers = c.clash-at.new.numbers in
+    let at = c.clash-at.result in
+    let report = c.clash-at.ensures q R in
     let all : take (512 - at) (drop at numbers) ≡ drop at numbers = take_all (512 - at) (drop at numbers) (omega (arith, report.long, length-drop at numbers)) in
-    subst (λ (l : List ℕ). Handed l (start s).args.list.now called.hand_out.result called.hand_out.new.list) (all ∙ report.same) called.hand_out.ensures
+    subst (λ (l : List ℕ). Handed l c.args.list.now c.hand_out.result c.hand_out.new.list) (all ∙ report.same) c.hand_out.ensures
 
 pub report_spec : {M : Type 1} → statement M
 report_spec =
