@@ -5,12 +5,11 @@ use mathlib.Core.Logic.{◌⊎◌, inl, inr}
 use Prim.Native.Nat.{ℕ, zero, suc, ◌+◌, ◌-◌, ◌<◌, ◌≤◌, ◌^◌}
 use native.Mathlib.Omega.{arith}
 use native.Mathlib.Numerals.{add-one}
-use lib.Bits.{and_le_l, and_le_r, bit_xor, xor_add_and}
 use lib.Dec.{T, eqb, leb, ltb}
 use lib.IntN.{ℤ, pos, negsuc, ◌+ℤ◌, ◌-ℤ◌, nat_abs, neg_ℤ, sub_ℕ}
 use lib.Signed.{mag, lt_z, le_z, non_neg}
 use borrow.Author.Tests.{le-leb, le-ltb, lt-ltb, ltb-false, ltb-true, ne_eqb}
-use mir.Facts.{Fits-of_z, Fits-xor, to_z_inj, to_z-of_z}
+use mir.Facts.{to_z-of_z}
 use mir.Val.{Fits, SFits, of_z, to_z}
 use mir.ValLaws.{to_z_pos}
 use mir.Syntax.{w32, w64}
@@ -284,15 +283,6 @@ pub risen_back : {old c delta m new : ℤ} → SFits w32 old → SFits w32 c →
 risen_back {old} {c} {delta} {m} {new} fo fc fd fm fn sum larger =
     record { moved = m; sum = rw (to_z-of_z fc, to_z-of_z fd) at sum; larger = rw (to_z-of_z fn) (rw (to_z-of_z fo, to_z-of_z fm) at larger) }
 
--- Numbers that differ in no bit are the same; and one that has no bit is 0.
-pub no_change : {old new : ℤ} → SFits w32 old → SFits w32 new → to_z w32 (bit_xor (of_z w32 old) (of_z w32 new)) ≡ pos 0 → new ≡ old
-no_change {old} {new} fo fn h =
-    let bits : bit_xor (of_z w32 old) (of_z w32 new) ≡ 0 = to_z_inj (Fits-xor (Fits-of_z fo) (Fits-of_z fn)) (record { fits = omega arith }) h in
-    let same : of_z w32 new ≡ of_z w32 old = by (of_z w32 old) (of_z w32 new) bits in
-    sym (to_z-of_z fn) ∙ ap (to_z w32) same ∙ to_z-of_z fo
-  where
-    by : (a b : ℕ) → bit_xor a b ≡ 0 → b ≡ a
-    by a b e = omega (arith, xor_add_and a b, and_le_l a b, and_le_r a b)
-
+-- A number that has no bit is 0.
 pub no_bits : {c : ℤ} → SFits w32 c → of_z w32 c ≡ 0 → c ≡ pos 0
 no_bits f e = sym (to_z-of_z f) ∙ ap (to_z w32) e

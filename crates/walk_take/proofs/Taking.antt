@@ -1,5 +1,5 @@
 -- Rows of cells: how they are made ready.
-use mathlib.Core.Path.{◌≡◌, ◌∙◌}
+use mathlib.Core.Path.{◌≡◌}
 use mathlib.Core.Bool.{false}
 use mathlib.Core.Logic.{◌⊎◌, inl, inr, ◌≢◌}
 use mathlib.Core.List.{List}
@@ -8,12 +8,11 @@ use native.Mathlib.Omega.{arith}
 use lib.Bits.{bit_or}
 use lib.Dec.{ltb}
 use lib.IntN.{ℤ}
-use lib.ListN.{length, set, length-set}
-use lib.Seq.{get_or-set_same, get_or-set_other}
+use lib.ListN.{length}
 use borrow.Author.Tests.{ltb-false}
 use Rattle.laws.proofs.Bools.{same_or_not}
 use Rattle.laws.proofs.Maps.{or_above}
-use Rattle.walk_cells.specs.Cells.{Clear, Movable, most_weight, none, value}
+use Rattle.walk_cells.specs.Cells.{Movable, value}
 use Rattle.walk_cells.specs.Tables.{cell_of}
 use Rattle.walk_take.specs.Rows.{CopiedCell, Taken, Trimmed}
 
@@ -26,19 +25,6 @@ pub record Copied (cells row : List ℤ) (n : ℕ) : Type 0 where
 -- None of them weighs more than b.
 abbrev pub Bound : List ℤ → ℕ → ℕ → Type 0
 Bound cells n b = (j : ℕ) → j < n → value (cell_of cells j) ≤ suc b
-
--- One cell is stored, which says what the table's cell says.
-module _ (cells row : List ℤ) (k : ℕ) (long : length row ≡ 64) (b : k < 64) where
-  pub copied_cell : (c : ℤ) {w : ℕ} → value (cell_of cells k) ≤ suc most_weight → Clear c → value c ≡ value (cell_of cells k) → w ≡ value c - 1 → CopiedCell cells row (set row k c) k w
-  copied_cell c low clear says weighs =
-      let here : cell_of (set row k c) k ≡ c = get_or-set_same row k c none (omega arith) in
-      record {
-        long = length-set row k c ∙ long;
-        movable = rw here (record { clear = clear; low = omega arith });
-        same = rw here says;
-        weighs = omega arith;
-        keeps = λ j o. get_or-set_other row k j c none o;
-      }
 
 -- The loop: so far nothing, and a turn makes one more cell ready.
 pub copied_start : (cells row : List ℤ) → length row ≡ 64 → Copied cells row 0
