@@ -15,7 +15,7 @@ answer-found-requires : tie.Need-answer-found-requires
 answer-found-requires c κs = search rules
 
 returns : tie.Need-returns
-returns c = let a = c.answer-found.ensures in record { verdict = a.verdict ∙ waits_verdict _; maps = a.maps-1; count = a.count }
+returns c = let a = c.answer-found.ensures in record { verdict = a.verdict ∙ waits_verdict _; maps = a.maps; count = a.count }
 
 pub waits_spec : {M : Type 1} → statement M
 waits_spec = tie.close (tie.spec slice_bounds-answer-end slice_bounds-answer-end-2 answer-found-requires returns)
