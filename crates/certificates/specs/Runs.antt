@@ -44,7 +44,7 @@ pub record Starts (st : State) (table : List ℕ) (v : ℕ) : Type 0 where
   pub each : (a : ℕ) → a < st.n → entry st table v a ≢ undecided → Finished st a × (finish_tick st a + entry st table v a ≤ st.tick)
 
 -- "Each call returns a 64-bit map of the steps it started." These have started then, at this tick; of all others nothing changes. For any state with as many start ticks as steps, and any table. Proof:
--- sweeps-meant.
+-- sweeps_meant.
 pub record SweepFor (st : State) (table : List ℕ) : Type 0 where
   pub map : (v : ℕ) → (test_bit (sweep st table).map v ≡ true) ↔ Starts st table v
   pub started : (v : ℕ) → Started (sweep st table).state v ↔ (Started st v ⊎ Starts st table v)
@@ -77,7 +77,7 @@ pub data Run (q : Records) : State → Type 0 where
   goes_on : {st before : State} → Run q before → (c : Call) (leasts table : List ℕ) → IsLent q table → st ≡ state_after before (called before table leasts c) → Run q st
 
 -- What a sheet gives to begin a run with (`steps_answer`), without anyone reading its bytes: its N, its open map, and its least durations at the front of the numbers that are lent for them. A Begin with these three
--- begins a run of the sheet. Proof: begun-with-steps.
+-- begins a run of the sheet. Proof: begun_with_steps.
 pub record BeginsRun (q : Records) (b : Beginning) : Type 0 where
   pub count : b.n ≡ count_of q
   pub open_map : IsOpenMap q b.unbounded
@@ -101,7 +101,7 @@ planned_tick q st v = our_start q (reported st) v
 abbrev pub DecidersFinished : Records → State → ℕ → Type 0
 DecidersFinished q st v = (a : ℕ) → sheet_decides q a v ≡ true → Finished st a
 
--- Each step has started exactly if all its deciding steps have finished and its planned tick is not above the tick, and then its start tick is the planned tick. Proof: planned-ticks.
+-- Each step has started exactly if all its deciding steps have finished and its planned tick is not above the tick, and then its start tick is the planned tick. Proof: planned_ticks.
 pub record OnTime (q : Records) (st : State) (v : ℕ) : Type 0 where
   pub exactly : Started st v ↔ (DecidersFinished q st v × (planned_tick q st v ≤ st.tick))
   pub at_planned : Started st v → start_tick st v ≡ planned_tick q st v
@@ -112,7 +112,7 @@ PlannedTicks =
 
 -- What else holds of the state: it keeps N, the open map and the least durations; the tick fits 32 bits; steps numbered N or more never start or finish; only open steps and step 0 finish, once
 -- they have started, and no reported duration is below its least: that is no assumption, but what 20 sees to; start and finish ticks are not above the tick, and "0 until then". Proof:
--- run-states.
+-- run_states.
 pub record StateFor (q : Records) (st : State) : Type 0 where
   pub count : st.n ≡ count_of q
   pub open_map : IsOpenMap q st.unbounded
@@ -144,7 +144,7 @@ abbrev pub least_end : Records → State → ℕ → ℕ
 least_end q st x = start_tick st x + leasts_of q x
 
 -- No other call of a run is refused than Begin (16), a Tick at the clock's end (18), a Finish of a step that cannot finish (17), and one below the least duration (20). So a hand's finish is
--- taken at every tick from the least end on. Proof: run-answers.
+-- taken at every tick from the least end on. Proof: run_answers.
 pub record AnswersFor (q : Records) (st : State) (table : List ℕ) : Type 0 where
   pub begins_never : (n unbounded : ℕ) (leasts : List ℕ) → begin st n unbounded leasts table ≡ refused 16
   pub ticks : st.tick ≢ last_tick → tick st table ≡ given (sweep (ticked st) table)
@@ -158,7 +158,7 @@ RunAnswers =
     (s : List ℕ) (allow : Bool) (q : Records) (w : ℕ) → Accepted s allow q w → (st : State) → Run q st → (table : List ℕ) → IsLent q table → AnswersFor q st table
 
 -- What a call of a run changes. The start tick of a step is the tick of the call whose map named it, its finish tick is the tick at which its Finish was taken, and no such tick changes later; only a Tick moves
--- the clock, by one. That holds of every call, whatever table it is lent. The map of the Begin names what has started then, at tick 0. Proofs: history-kept, begin-named.
+-- the clock, by one. That holds of every call, whatever table it is lent. The map of the Begin names what has started then, at tick 0. Proofs: history_kept, begin_named.
 pub record HistoryFor (st : State) (c : Call) (map : ℕ) (after : State) : Type 0 where
   pub named : (v : ℕ) → (test_bit map v ≡ true) ↔ ((test_bit st.started v ≡ false) × Started after v)
   pub starts_now : (v : ℕ) → test_bit st.started v ≡ false → Started after v → start_tick after v ≡ after.tick
@@ -176,7 +176,7 @@ BeginNamed =
     (before : State) (n unbounded : ℕ) (leasts table : List ℕ) (g : Progress) → begin before n unbounded leasts table ≡ given g → (g.state.tick ≡ 0) × ((v : ℕ) → (test_bit g.map v ≡ true) ↔ Started g.state v)
 
 -- No run is stuck: a step that has not started waits for an open step of its start set that is at work, or for the clock to come to a planned tick, its own or that of a step of its start set. Proof:
--- nothing-stuck.
+-- nothing_stuck.
 pub data WaitsOn (q : Records) (st : State) (v : ℕ) : Type 0 where
   on_hand : (a : ℕ) → in_start_set q a v ≡ true → CanFinish q st a → WaitsOn q st v
   on_clock : (u : ℕ) → (u ≡ v) ⊎ (in_start_set q u v ≡ true) → test_bit st.started u ≡ false → DecidersFinished q st u → st.tick < planned_tick q st u → WaitsOn q st v
@@ -256,7 +256,7 @@ pub record WorkedRun (bytes : List ℕ) (verdict n unbounded : ℕ) (leasts : Li
 -- "Run of it: Begin gives 7; Finish 2 gives 0; ticks give 8, 0, 16. A second Finish 2: 17." A run in which the hand takes 10: "Stand sheet, hand 10: starts 0, 0, 0, 10, 12." And a run of two hands, in which step 3
 -- waits for hand 2. Of request L11: the exposure starts when the hand is done, 3 ticks in; of the hand-over, hand 1 starts when hand 2 is done, and step 3 when hand 1 is; and
 -- the hand that is held back is done at 7, while step 2 waits for tick 10. Of request L1: the hand is done at 3, and the step after it starts six ticks later.
--- Of request L6: the hand of at least eight ticks says at 7 that it is done, which is refused 20, and is done at 8. Proof: runs-met.
+-- Of request L6: the hand of at least eight ticks says at 7 that it is done, which is refused 20, and is done at 8. Proof: runs_met.
 pub record RunsMet : Type 0 where
   pub stand_at_once : WorkedRun (stand 2) 0 5 4 (replicate 5 0) (Finish 2 ∷ Tick ∷ Tick ∷ Tick ∷ Finish 2 ∷ []) (0 ∷ 0 ∷ 0 ∷ 1 ∷ 3 ∷ [])
   pub stand_hand_ten : WorkedRun (stand 2) 0 5 4 (replicate 5 0) (Tick ∷ Tick ∷ Tick ∷ Tick ∷ Tick ∷ Tick ∷ Tick ∷ Tick ∷ Tick ∷ Tick ∷ Finish 2 ∷ Tick ∷ Tick ∷ []) (0 ∷ 0 ∷ 0 ∷ 10 ∷ 12 ∷ [])

@@ -21,7 +21,7 @@ pub record Possible (q : Records) : Type 0 where
   pub starts : (d : ℕ → ℕ) → Durations q d → (t : ℕ → ℕ) × KeepsLinks q d t
 
 -- "L3's links are worked out afresh for each part." A part of a well-formed sheet is judged as a sheet with these steps and records. It is never refused 8, so that "still refused as 10 or 11" asks for these two
--- alone, whether or not waits are allowed; and what they mean of a sheet they mean of the part. Proof: parts-judged.
+-- alone, whether or not waits are allowed; and what they mean of a sheet they mean of the part. Proof: parts_judged.
 pub record PartJudged (p : Records) : Type 0 where
   pub no_circle : closes_circle (count_of p) (edges_of p) ≡ false
   pub never_8 : (allow : Bool) → judge_records p allow ≢ refused 8
@@ -41,7 +41,7 @@ remove_at (x ∷ xs) zero = xs
 remove_at (x ∷ xs) (suc i) = x ∷ remove_at xs i
 
 -- "What stays is reported as record numbers, counted from 0, rising. The part is itself impossible, and without any one of its records it is not." There is at least one, and there are no more than the sheet has.
--- Proof: few-clash.
+-- Proof: few_clash.
 pub record FewFor (q : Records) (ks : List ℕ) : Type 0 where
   pub numbers : Within (length q.pairs) ks
   pub rising : Rising (λ k l. k < l) ks
@@ -65,7 +65,7 @@ pub record FewCall (s : List ℕ) (q : Records) (list : List ℕ) : Type 0 where
   pub reported : (k : ℕ) → ((few_answer s list).verdict ≡ given k) ↔ (WellFormed s q × SomeListLeavesNone q × (k ≡ length (few q)) × (k ≤ length list))
   pub numbers : (k : ℕ) → (few_answer s list).verdict ≡ given k → (few_answer s list).numbers ≡ few q ++ drop (length (few q)) list
 
--- The refusals of the call: those of reading, 8, 31 and 14. So it is never refused with 10, 11, 12, 13 or 28. Proof: few-exactly.
+-- The refusals of the call: those of reading, 8, 31 and 14. So it is never refused with 10, 11, 12, 13 or 28. Proof: few_exactly.
 abbrev pub FromFew : ℕ → Type 0
 FromFew k = FromReading k ⊎ ((k ≡ 8) ⊎ ((k ≡ 31) ⊎ (k ≡ 14)))
 
@@ -77,6 +77,6 @@ pub record FewExactly : Type 0 where
 
 -- ## The hypotheses are met
 
--- A sheet of the worked table that has two clashes, 0 with 2 and 1 with 3: of its four records two are reported, and the two of the other clash are not. Proof: few-met.
+-- A sheet of the worked table that has two clashes, 0 with 2 and 1 with 3: of its four records two are reported, and the two of the other clash are not. Proof: few_met.
 abbrev pub FewMet : Type 0
 FewMet = (q : Records) × WellFormed two_clashes q × SomeListLeavesNone q × (length q.pairs ≡ 4) × (few q ≡ 0 ∷ 2 ∷ []) × FewFor q (0 ∷ 2 ∷ [])

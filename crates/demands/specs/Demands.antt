@@ -78,7 +78,7 @@ pub record Durations (q : Records) (d : ℕ → ℕ) : Type 0 where
 abbrev pub extras : Records → (ℕ → ℕ) → ℕ → ℕ
 extras q d a = d a - leasts_of q a
 
--- The edges of a sheet ask of start times what its links do, for durations that respect the leasts; offsets and start sets are taken over the edges. Proof: edges-meant.
+-- The edges of a sheet ask of start times what its links do, for durations that respect the leasts; offsets and start sets are taken over the edges. Proof: edges_meant.
 abbrev pub EdgesMeant : Type 0
 EdgesMeant = (q : Records) (d t : ℕ → ℕ) → Respects q.steps d → KeepsLinks q d t ↔ Schedule (members (edges_of q)) (extras q d) t
 
@@ -91,7 +91,7 @@ pub record IsDelayList (q : Records) (list : List ℕ) : Type 0 where
   pub size : length list ≡ count_of q
   pub within : delays_wrong q.steps list ≡ false
 
--- What the test for refusal 13 says: document 01's words, and "A list entry below it is 13." An entry that is not there counts as 0, and is not below a least. Proof: lists-meant.
+-- What the test for refusal 13 says: document 01's words, and "A list entry below it is 13." An entry that is not there counts as 0, and is not below a least. Proof: lists_meant.
 pub record WithinLimits (q : Records) (list : List ℕ) : Type 0 where
   pub most : (i : ℕ) → i < count_of q → delays list i ≤ most_duration
   pub source : delays list 0 ≡ 0
@@ -142,7 +142,7 @@ NoLateLinks q = (i j u : ℕ) → Memᴰ (finish_maximum i j u) (links_of q) →
 -- ## Demand 3
 
 -- "10. With all open durations 0, no start times keep every link. 11. Not 10, yet some list of durations leaves none." "Impossible means 10 or 11." "Where the papers take open durations as 0,
--- they now take the least". And where a sheet is not impossible, all durations that respect the leasts leave start times, those past a list's limit too. Proof: impossible-exactly.
+-- they now take the least". And where a sheet is not impossible, all durations that respect the leasts leave start times, those past a list's limit too. Proof: impossible_exactly.
 pub record ImpossibleFor (s : List ℕ) (allow : Bool) (q : Records) : Type 0 where
   pub refused_10 : (judged s allow ≡ refused 10) ↔ NoStarts q (leasts_of q)
   pub refused_11 : (judged s allow ≡ refused 11) ↔ ((judged s allow ≢ refused 10) × SomeListLeavesNone q)
@@ -152,8 +152,8 @@ pub record ImpossibleFor (s : List ℕ) (allow : Bool) (q : Records) : Type 0 wh
 abbrev pub ImpossibleExactly : Type 0
 ImpossibleExactly = (s : List ℕ) (allow : Bool) (q : Records) → WellFormed s q → ImpossibleFor s allow q
 
--- The refusals 1 to 7 and 26 are those of reading the bytes, and reading gives no others. So a sheet is well-formed exactly if no refusal from 1 to 9 and not 26 is given. Proofs: read-exactly,
--- well-formed-exactly.
+-- The refusals 1 to 7 and 26 are those of reading the bytes, and reading gives no others. So a sheet is well-formed exactly if no refusal from 1 to 9 and not 26 is given. Proofs: read_exactly,
+-- well_formed_exactly.
 abbrev pub ReadExactly : Type 0
 ReadExactly = (s : List ℕ) → Bytes s → (allow : Bool) (k : ℕ) → (read s ≡ refused k) ↔ ((judged s allow ≡ refused k) × FromReading k)
 
@@ -162,7 +162,7 @@ WellFormedExactly = (s : List ℕ) → Bytes s → (allow : Bool) → ((q : Reco
 
 -- "8. Forward links close a circle." "9 never occurs any more": every step of the completed sheet then has a forward chain from step 0. "12. Waits are needed and the caller did not allow them." "Verdict 0 is sound, 1 sound with waits."
 -- "28, the waits close a circle of forward links, or leave no start times with each open step at its least, after 11". "Each refusal is given when its condition holds and no earlier one does, and only
--- then." Proof: judged-exactly.
+-- then." Proof: judged_exactly.
 abbrev pub ForwardCircle : List Edge → Type 0
 ForwardCircle es = (x : ℕ) × (k : ℕ) × (g : ℕ) × (l : ℕ) × Walk (Forward (members es)) x x (suc k) g l
 
@@ -189,7 +189,7 @@ pub record JudgedFor (s : List ℕ) (allow : Bool) (q : Records) : Type 0 where
 abbrev pub JudgedExactly : Type 0
 JudgedExactly = (s : List ℕ) (allow : Bool) (q : Records) → IsSheet s q → JudgedFor s allow q
 
--- "From each call that judges, lists waits, plans or works out starts": the refusals but 13 and 14 are the same in each. Whoever lists waits allows them. Proof: each-call-refuses.
+-- "From each call that judges, lists waits, plans or works out starts": the refusals but 13 and 14 are the same in each. Whoever lists waits allows them. Proof: each_call_refuses.
 pub record SameRefusal (s : List ℕ) (allow : Bool) (k : ℕ) : Type 0 where
   pub waits : ((waits_answer s).verdict ≡ refused k) ↔ (judged s true ≡ refused k)
   pub plan : (table : List ℕ) → ((planned s allow table).verdict ≡ refused k) ↔ (judged s allow ≡ refused k)
@@ -198,7 +198,7 @@ pub record SameRefusal (s : List ℕ) (allow : Bool) (k : ℕ) : Type 0 where
 abbrev pub EachCallRefuses : Type 0
 EachCallRefuses = (s : List ℕ) (allow : Bool) (k : ℕ) → k ≢ 13 → k ≢ 14 → SameRefusal s allow k
 
--- "Our starts are the N numbers that working out starts returns for a sheet and a list." A list's duration of step 0 is 0. Proof: starts-returned.
+-- "Our starts are the N numbers that working out starts returns for a sheet and a list." A list's duration of step 0 is 0. Proof: starts_returned.
 pub record ReturnedFor (s : List ℕ) (allow : Bool) (q : Records) (v : ℕ) (list out : List ℕ) : Type 0 where
   pub accepted : Accepted s allow q v
   pub source : delays list 0 ≡ 0
@@ -208,7 +208,7 @@ abbrev pub StartsReturned : Type 0
 StartsReturned = (s : List ℕ) (allow : Bool) (q : Records) (v : ℕ) (list out : List ℕ) → IsSheet s q → (starts_answer s allow list out).verdict ≡ given v → ReturnedFor s allow q v list out
 
 -- "13. The list of durations is not as above." "14. A lent table or list is too short (N × N or N numbers)." "14 comes after 1 to 13; 13 judges those of the first N entries that are there."
--- "On acceptance lent numbers and bytes past the answer stay as lent." A refusal leaves lent memory untouched, and gives maps of 0. Proof: calls-exactly.
+-- "On acceptance lent numbers and bytes past the answer stay as lent." A refusal leaves lent memory untouched, and gives maps of 0. Proof: calls_exactly.
 abbrev pub IsAccepted : List ℕ → Bool → Type 0
 IsAccepted s allow = (v : ℕ) × (judged s allow ≡ given v)
 
@@ -241,13 +241,13 @@ abbrev pub CallsExactly : Type 0
 CallsExactly = (s : List ℕ) (allow : Bool) (q : Records) → IsSheet s q → CallsFor s allow q
 
 -- What a run of a sheet is begun with: refused as reading refuses, then 14 where fewer than N numbers are lent for the leasts; else N, the map of the open steps and the leasts are given, also where judging
--- refuses the sheet. Proof: steps-exactly.
+-- refuses the sheet. Proof: steps_exactly.
 pub record StepsExactly : Type 0 where
   pub unread : (s lent : List ℕ) (k : ℕ) → read s ≡ refused k → steps_answer s lent ≡ refused k
   pub short : (s lent : List ℕ) (q : Records) → read s ≡ given q → length lent < count_of q → steps_answer s lent ≡ refused 14
   pub enough : (s lent : List ℕ) (q : Records) → read s ≡ given q → count_of q ≤ length lent → steps_answer s lent ≡ given (beginning q lent)
 
--- "For every accepted sheet and every list our starts keep every link and wait." Proof: starts-kept.
+-- "For every accepted sheet and every list our starts keep every link and wait." Proof: starts_kept.
 pub record KeptFor (q : Records) (d : ℕ → ℕ) : Type 0 where
   pub links : KeepsLinks q d (our_start q d)
   pub waits : (w : WaitPair) → Memᴰ w (sheet_waits q) → Keeps q.steps d (our_start q d) (wait_link w)
@@ -256,18 +256,18 @@ abbrev pub StartsKept : Type 0
 StartsKept = (s : List ℕ) (allow : Bool) (q : Records) (v : ℕ) → Accepted s allow q v → (d : ℕ → ℕ) → Durations q d → KeptFor q d
 
 -- "Nobody is earlier: not a rival who knows every duration beforehand and gives any start times that keep every link (no waits needed)." The rival's t may depend on d in any way. On sheets without
--- late links. Proof: nobody-earlier.
+-- late links. Proof: nobody_earlier.
 abbrev pub NobodyEarlier : Type 0
 NobodyEarlier =
     (s : List ℕ) (allow : Bool) (q : Records) → Accepted s allow q 0 → NoLateLinks q → (d t : ℕ → ℕ) → Durations q d → KeepsLinks q d t → (i : ℕ) → i < count_of q → our_start q d i ≤ t i
 
 -- "Nor one who picks any sound sheet with these steps, these links and further after or at-least links, and any start times that keep it (waits added)." It holds where no waits are needed too.
--- Proof: nobody-earlier-with-waits.
+-- Proof: nobody_earlier_with_waits.
 abbrev pub NobodyEarlierWithWaits : Type 0
 NobodyEarlierWithWaits =
     (s : List ℕ) (allow : Bool) (q : Records) (v : ℕ) → Accepted s allow q v → NoLateLinks q → (fs : List Constraint) → Extension q.steps (links_of q) fs → (d t : ℕ → ℕ) → Durations q d → KeepsAll q.steps fs d t → (i : ℕ) → i < count_of q → our_start q d i ≤ t i
 
--- The sheet with our waits put in as after links is one of these rivals' sheets, and our starts keep it. So the bound is met. Proof: ours-among-rivals.
+-- The sheet with our waits put in as after links is one of these rivals' sheets, and our starts keep it. So the bound is met. Proof: ours_among_rivals.
 pub record OursAmong (q : Records) (d : ℕ → ℕ) (fs : List Constraint) : Type 0 where
   pub extension : Extension q.steps (links_of q) fs
   pub kept : KeepsAll q.steps fs d (our_start q d)
@@ -279,17 +279,17 @@ OursAmongRivals =
 -- ## Request L11
 
 -- "For earliest starts on sheets with bit 4 on an open i the rival no longer knows the future." For every rival that keeps every link for every list, with no largest duration, and does not know the future:
--- each of its starts is at least ours, for every list. It holds on sheets without bit 4 too. Proof: nobody-earlier-without-foresight.
+-- each of its starts is at least ours, for every list. It holds on sheets without bit 4 too. Proof: nobody_earlier_without_foresight.
 abbrev pub NobodyEarlierWithoutForesight : Type 0
 NobodyEarlierWithoutForesight =
     (s : List ℕ) (allow : Bool) (q : Records) (v : ℕ) → Accepted s allow q v → (ρ : (ℕ → ℕ) → ℕ → ℕ) → DynamicStrategy q.steps (links_of q) ρ → (d : ℕ → ℕ) → DelayAssignment q.steps d → (i : ℕ) → i < count_of q → our_start q d i ≤ ρ d i
 
--- Our starts are such a rival. Proof: ours-without-foresight.
+-- Our starts are such a rival. Proof: ours_without_foresight.
 abbrev pub OursWithoutForesight : Type 0
 OursWithoutForesight =
     (s : List ℕ) (allow : Bool) (q : Records) (v : ℕ) → Accepted s allow q v → DynamicStrategy q.steps (links_of q) (our_start q)
 
--- Refused 28 exactly if, not being 10 or 11, no such rival exists. Proof: refused-28-exactly.
+-- Refused 28 exactly if, not being 10 or 11, no such rival exists. Proof: refused_28_exactly.
 abbrev pub NoRival : Records → Type 0
 NoRival q = (ρ : (ℕ → ℕ) → ℕ → ℕ) → ¬ DynamicStrategy q.steps (links_of q) ρ
 
@@ -298,7 +298,7 @@ Refused28Exactly =
     (s : List ℕ) (allow : Bool) (q : Records) → WellFormed s q → (judged s allow ≡ refused 28) ↔ ((judged s allow ≢ refused 10) × (judged s allow ≢ refused 11) × NoRival q)
 
 -- On a sheet without late links nothing is new: every walk may take every edge, without waits and with them, so that waits, offsets and sound are those of document 01 word for word, and 28
--- is never given. All else that makes a plan is defined from these. Proof: nothing-new. A plain wait is one of document 01, with walks over all edges.
+-- is never given. All else that makes a plan is defined from these. Proof: nothing_new. A plain wait is one of document 01, with walks over all edges.
 pub record PlainWait (E : Graph) (a i : ℕ) : Type 0 where
   pub edge : Edge
   pub mem : E edge
@@ -322,7 +322,7 @@ NothingNew = (s : List ℕ) (allow : Bool) (q : Records) → IsSheet s q → NoL
 
 -- "Every sheet without the bit plans as before". What was read before is read as the same records, with the edges that they had, and the offsets of an accepted one keep to document 01's limit: "Offsets never
 -- exceed 4,128,705." What was refused is refused as before, unless it was a map; and of the link maps those without bit 3 are allowed as before. All else is worked out from the steps and the edges. Proof:
--- plans-as-before.
+-- plans_as_before.
 pub record AsBefore (s : List ℕ) (q : Records) : Type 0 where
   pub reads : read s ≡ given q
   pub edges : edges_of q ≡ gapless_edges_of q
@@ -336,16 +336,16 @@ pub record PlansAsBefore : Type 0 where
 -- ## Request L3
 
 -- "What buyers are promised about impossible sheets and earliest starts is read on the sheet so completed." Times are whole numbers from 0 on, and step 0 ends at tick 0, so an added link asks
--- nothing more of them: the same start times keep the links of the records. Proof: added-links-free.
+-- nothing more of them: the same start times keep the links of the records. Proof: added_links_free.
 abbrev pub AddedLinksFree : Type 0
 AddedLinksFree = (s : List ℕ) (q : Records) → IsSheet s q → (d t : ℕ → ℕ) → KeepsLinks q d t ↔ KeepsAll q.steps (constraints q.pairs) d t
 
--- "A sheet whose only forward link out of step 1 goes back to 0 is then a circle, 8"; and so is every sheet with a forward link into step 0. Proof: into-source-circle.
+-- "A sheet whose only forward link out of step 1 goes back to 0 is then a circle, 8"; and so is every sheet with a forward link into step 0. Proof: into_source_circle.
 abbrev pub IntoSourceCircle : Type 0
 IntoSourceCircle = (s : List ℕ) (allow : Bool) (q : Records) → IsSheet s q → Entry (members (edges_of q)) 0 → judged s allow ≡ refused 8
 
 -- A sheet on which a forward link leads into every step other than 0 means and plans what it did: nothing is added, so its links and edges are those of its records, and judging has no need of 9. All else is
--- worked out from the steps and the edges. Proof: entered-as-before.
+-- worked out from the steps and the edges. Proof: entered_as_before.
 abbrev pub AllEntered : Records → Type 0
 AllEntered q = Entered (count_of q) (members (sent_edges q))
 
@@ -371,7 +371,7 @@ pub record LeastlessFor (q : Records) : Type 0 where
   pub durations : (d : ℕ → ℕ) → d 0 ≡ 0 → Durations q d
 
 -- What was read before is read as the same records, and they are as above. What was refused is refused as before, unless it was a map; and of the step maps those without bit 2 are allowed as before:
--- "Step map bit 2, only with bit 0 and not on step 0, gives an open step a two-byte least duration." Proof: leastless-as-before.
+-- "Step map bit 2, only with bit 0 and not on step 0, gives an open step a two-byte least duration." Proof: leastless_as_before.
 pub record LeastlessAsBefore : Type 0 where
   pub sheets : (s : List ℕ) (q : Records) → Bytes s → leastless_read s ≡ given q → (read s ≡ given q) × LeastlessFor q
   pub refusals : (s : List ℕ) (k : ℕ) → k ≢ 4 → leastless_read s ≡ refused k → read s ≡ refused k
@@ -388,7 +388,7 @@ pub record Meant (n : ℕ) (es : List Edge) : Type 0 where
   pub sound : (well_posed n es ≡ true) ↔ WellPosed (members es)
   pub circle : (closes_circle n es ≡ true) ↔ ForwardCircle es
 
--- For every sheet, without its waits and with them. "Step 0 is in every set, its own too. Another open step .." Proof: tests-meant.
+-- For every sheet, without its waits and with them. "Step 0 is in every set, its own too. Another open step .." Proof: tests_meant.
 pub record MeantFor (q : Records) : Type 0 where
   pub unwaited : Meant (count_of q) (edges_of q)
   pub with_waits : Meant (count_of q) (serialized_of q)
@@ -410,7 +410,7 @@ abbrev pub WaitBefore : WaitPair → WaitPair → Type 0
 WaitBefore w u = (w.anchor < u.anchor) ⊎ ((w.anchor ≡ u.anchor) × (w.target < u.target))
 
 -- What is listed are the waits of document 01, each for an open step other than 0. "The library returns them as 64 maps of 64 bits, bit a of map i." The maps and the count say what the list says.
--- Proof: waits-listed.
+-- Proof: waits_listed.
 pub record WaitOf (q : Records) (w : WaitPair) : Type 0 where
   pub anchor_below : w.anchor < count_of q
   pub target_below : w.target < count_of q
@@ -431,7 +431,7 @@ abbrev pub WaitsListed : Type 0
 WaitsListed = (s : List ℕ) (q : Records) → IsSheet s q → ListedFor q
 
 -- "Verdict 0 is sound, 1 sound with waits." No step waits for itself, and step 0 for none. With the waits in, the sheet is sound, its forward links close no circle, and no closed walk
--- weighs above 0. Proof: waits-sound.
+-- weighs above 0. Proof: waits_sound.
 pub record WaitsFor (q : Records) (v : ℕ) : Type 0 where
   pub verdicts : (v ≡ 0) ⊎ (v ≡ 1)
   pub sound : (v ≡ 0) ↔ Sound q
@@ -449,7 +449,7 @@ WaitsSound = (s : List ℕ) (allow : Bool) (q : Records) (v : ℕ) → Accepted 
 
 -- "Offset of v for a in its start set: the heaviest walk from a to v that begins with an after link out of a; for a = 0, the heaviest walk from 0." "A walk that counts from the end of i, for a wait
 -- or an offset, never takes" i's own return from the finish. "An offset still counts from the end of its open step, so its walk's first link adds no least." "Offsets may now reach 8,191,875".
--- Proof: offsets-right.
+-- Proof: offsets_right.
 pub record OffsetFor (q : Records) (a v : ℕ) : Type 0 where
   pub heaviest : Offset (leasts_of q) (UsableFrom (members (serialized_of q)) a) a v (sheet_offset q a v)
   pub small : sheet_offset q a v ≤ most_offset
@@ -458,7 +458,7 @@ abbrev pub OffsetsRight : Type 0
 OffsetsRight =
     (s : List ℕ) (allow : Bool) (q : Records) (v : ℕ) → Accepted s allow q v → (a i : ℕ) → i < count_of q → in_start_set q a i ≡ true → OffsetFor q a i
 
--- "Start of v: start(0) = 0; else the largest of start(a) + duration(a) + offset, over a in the start set." For a list, starts fit 32 bits. Proof: start-rule.
+-- "Start of v: start(0) = 0; else the largest of start(a) + duration(a) + offset, over a in the start set." For a list, starts fit 32 bits. Proof: start_rule.
 pub record StartRuleFor (q : Records) : Type 0 where
   pub source : (d : ℕ → ℕ) → our_start q d 0 ≡ 0
   pub rule : (d : ℕ → ℕ) (i : ℕ) → suc i < count_of q → our_start q d (suc i) ≡ largest (λ a. in_start_set q a (suc i)) (term q d (suc i)) (count_of q)
@@ -490,7 +490,7 @@ pub record LeftOut (q : Records) (a v b : ℕ) : Type 0 where
   pub reaches : sheet_offset q a v ≤ sheet_offset q a b + leasts_of q b + sheet_offset q b v
 
 -- "Deciding set of v: the smallest part of the start set with the same largest value for every list of durations." For durations past a list's limit too. An open step is listed exactly if some
--- durations need it. Proof: deciding-sets.
+-- durations need it. Proof: deciding_sets.
 pub record DecidingFor (q : Records) (v : ℕ) : Type 0 where
   pub enough : (d : ℕ → ℕ) → Durations q d → our_start q d v ≡ largest (λ a. sheet_decides q a v) (term q d v) (count_of q)
   pub part : GivesStart q v (λ a. sheet_decides q a v)
@@ -502,7 +502,7 @@ abbrev pub DecidingSets : Type 0
 DecidingSets = (s : List ℕ) (allow : Bool) (q : Records) (v : ℕ) → Accepted s allow q v → (i : ℕ) → i < count_of q → DecidingFor q i
 
 -- "A plan is a table of N by N numbers of 32 bits .. The number at v × N + a is the offset, or 4,294,967,295 where a does not decide v." No offset is that number.
--- "Row v can be asked for: that part of the caller's table is handed back, N numbers." The table may be longer than the plan. Proof: plan-table.
+-- "Row v can be asked for: that part of the caller's table is handed back, N numbers." The table may be longer than the plan. Proof: plan_table.
 pub record PlanFor (q : Records) : Type 0 where
   pub size : length (plan_table (count_of q) (leasts_of q) (serialized_of q)) ≡ count_of q * count_of q
   pub entry : (v a : ℕ) → v < count_of q → a < count_of q → get_or (plan_table (count_of q) (leasts_of q) (serialized_of q)) (v * count_of q + a) 0 ≡ cond (sheet_decides q a v) (sheet_offset q a v) undecided
@@ -513,7 +513,7 @@ abbrev pub PlanTable : Type 0
 PlanTable = (s : List ℕ) (allow : Bool) (q : Records) (v : ℕ) → Accepted s allow q v → PlanFor q
 
 -- "A start line is step, deciding step, offset, in rising order of the first two." What is listed of an accepted sheet is its verdict, its waits and these lines. Proof:
--- lines-listed.
+-- lines_listed.
 abbrev pub sheet_lines : Records → List StartLine
 sheet_lines q = start_lines (count_of q) (leasts_of q) (serialized_of q)
 
@@ -531,7 +531,7 @@ LinesListed = (s : List ℕ) (allow : Bool) (q : Records) (v : ℕ) → Accepted
 -- ## How much of an input decides
 
 -- The longest sheet has 5,825 bytes (`longest_sheet`); one more shows that something follows it. So any longer front of any bytes decides what is read and what `standplan` and `standprice` print. Proof:
--- front-decides.
+-- front_decides.
 pub record FrontFor (s : List ℕ) (limit : ℕ) : Type 0 where
   pub reads : read (take limit s) ≡ read s
   pub prints : standplan (take limit s) ≡ standplan s
@@ -548,7 +548,7 @@ WorkedBytes s = (w : Worked) × Memᴰ w worked_sheets × (w.bytes ≡ s)
 
 -- There are accepted sheets of both verdicts; sheets refused 10, and 11 with a list that leaves none; and for one with waits a rival's sheet, with links of its own, and start times that keep it and
 -- differ from ours. Of request L11: a sheet with a late link that needs no waits, on which a rival with foresight is earlier than we are, so that `NobodyEarlier` is false there; and two that are refused 28, by
--- a circle and without. Of request L6: an accepted sheet with a least. Proof: hypotheses-met.
+-- a circle and without. Of request L6: an accepted sheet with a least. Proof: hypotheses_met.
 pub record RivalMet (q : Records) : Type 0 where
   pub links : List Constraint
   pub extension : Extension q.steps (links_of q) links

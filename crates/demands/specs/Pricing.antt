@@ -15,7 +15,7 @@ pub record SmallestPower (n b : ℕ) : Type 0 where
   pub enough : n ≤ 2 ^ b
   pub smallest : (c : ℕ) → c < b → 2 ^ c < n
 
--- "A printed table of 1,024 entries: entry n is the smallest b whose power of two is at least n, and entry 0 is 0." Proof: printed-rule.
+-- "A printed table of 1,024 entries: entry n is the smallest b whose power of two is at least n, and entry 0 is 0." Proof: printed_rule.
 pub record PrintedRule : Type 0 where
   pub size : length printed_table ≡ register_entries
   pub rule : (n : ℕ) → n < register_entries → SmallestPower n (get_or printed_table n 0)
@@ -29,7 +29,7 @@ pub record LargestOffset (q : Records) (a x : ℕ) : Type 0 where
   pub attained : ((v : ℕ) × (v < count_of q) × (sheet_decides q a v ≡ true) × (sheet_offset q a v ≡ x)) ⊎ (((v : ℕ) → v < count_of q → sheet_decides q a v ≡ false) × (x ≡ 0))
 
 -- "For each open step and the start", which is open, "take the largest offset at which it stands in the plan." "The register count comes from a printed table": the entry there, of any table. A fixed step has none. "Each member of a deciding set is
--- one comparison." "The totals equal the sums of these counts, taken from the plan's own entries." Proof: prices-right.
+-- one comparison." "The totals equal the sums of these counts, taken from the plan's own entries." Proof: prices_right.
 pub record PriceFor (entries : List ℕ) (q : Records) (p : Price) : Type 0 where
   pub start_open : open_at q 0 ≡ true
   pub register_counts : length p.registers ≡ count_of q
@@ -68,7 +68,7 @@ pub record PriceCall (entries s : List ℕ) (allow : Bool) (q : Records) (regist
     comparison_total = (price_records entries q).comparison_total;
   }
 
--- Each refusal exactly: 19, 14 and those of judging, in this order from the last; and a refusal leaves the lists as they were lent, with totals of 0. Proof: price-exactly.
+-- Each refusal exactly: 19, 14 and those of judging, in this order from the last; and a refusal leaves the lists as they were lent, with totals of 0. Proof: price_exactly.
 pub record PriceExactly : Type 0 where
   pub unread : (entries s : List ℕ) (allow : Bool) (registers comparisons : List ℕ) (k : ℕ) → Bytes s → (read s ≡ refused k) ↔ (((price_answer entries s allow registers comparisons).verdict ≡ refused k) × FromReading k)
   pub sheets : (entries s : List ℕ) (allow : Bool) (q : Records) (registers comparisons : List ℕ) → IsSheet s q → PriceCall entries s allow q registers comparisons
@@ -78,11 +78,11 @@ pub record PriceExactly : Type 0 where
 
 -- ## The hypotheses are met
 
--- The stand sheet is accepted and has a price: step 0 needs two registers for the offset 3, the hand one for the offset 2. Proof: price-met.
+-- The stand sheet is accepted and has a price: step 0 needs two registers for the offset 3, the hand one for the offset 2. Proof: price_met.
 abbrev pub PriceMet : Type 0
 PriceMet = (q : Records) × Accepted (stand 2) true q 0 × PriceFor printed_table q (price_records printed_table q) × ((price_records printed_table q).registers ≡ 2 ∷ 0 ∷ 1 ∷ 0 ∷ 0 ∷ [])
 
--- Start sets do not count: step 0 is in the start set of step 2 of this sheet, with the offset 1,024, and does not decide it. The sheet is priced, and step 0 has no register. Proof: start-sets-uncounted.
+-- Start sets do not count: step 0 is in the start set of step 2 of this sheet, with the offset 1,024, and does not decide it. The sheet is priced, and step 0 has no register. Proof: start_sets_uncounted.
 pub record Uncounted (q : Records) : Type 0 where
   pub accepted : Accepted far_undecided true q 0
   pub member : in_start_set q 0 2 ≡ true

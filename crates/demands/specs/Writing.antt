@@ -109,7 +109,7 @@ pub data Short (n r : ℕ) (steps : List Operation) (links : List Link) (buffer 
 abbrev pub PairBefore : Link → Link → Type 0
 PairBefore l m = (l.from < m.from) ⊎ ((l.from ≡ m.from) × (l.to < m.to))
 
--- What is written are the same records, each as often. They rise where no pair comes twice, and no other list has these records and rises; records that rise are written as they come. Proof: records-rising.
+-- What is written are the same records, each as often. They rise where no pair comes twice, and no other list has these records and rises; records that rise are written as they come. Proof: records_rising.
 pub record RisingFor (links : List Link) : Type 0 where
   pub same_records : Permᴰ (rising links) links
   pub same_members : (l : Link) → Memᴰ l (rising links) ↔ Memᴰ l links
@@ -121,13 +121,13 @@ pub record RisingFor (links : List Link) : Type 0 where
 abbrev pub RecordsRising : Type 0
 RecordsRising = (links : List Link) → RisingFor links
 
--- "Records may come in any order": where the first r of two lists are the same records, each as often, the verdict is the same and the same bytes are in the buffer. Proof: any-order.
+-- "Records may come in any order": where the first r of two lists are the same records, each as often, the verdict is the same and the same bytes are in the buffer. Proof: any_order.
 abbrev pub AnyOrder : Type 0
 AnyOrder = (n r : ℕ) (steps : List Operation) (links links' : List Link) (buffer : List ℕ) → Permᴰ (take r links) (take r links') → write_answer n r steps links buffer ≡ write_answer n r steps links' buffer
 
 -- ## Written, then read
 
--- "What is written and then read gives the same steps and, rising, the same records". It is never longer than the longest sheet. Proof: written-read.
+-- "What is written and then read gives the same steps and, rising, the same records". It is never longer than the longest sheet. Proof: written_read.
 abbrev pub in_rising_order : Records → Records
 in_rising_order q = record { steps = q.steps; pairs = rising q.pairs }
 
@@ -178,7 +178,7 @@ pub record Sent (q : Records) (s : List ℕ) : Type 0 where
   pub bytes : s ≡ length q.steps ∷ two_bytes_of (length q.pairs) ++ step_bytes ++ flat_map link_bytes q.pairs
   pub length_less : length s ≡ length (sheet_bytes q) + 2 * kept
 
--- "A sheet read and written again means the same and is never longer": its parts have no fault, and their records rise already. It is shorter by the two bytes of each fixed duration that was sent as 0. Proof: read-written.
+-- "A sheet read and written again means the same and is never longer": its parts have no fault, and their records rise already. It is shorter by the two bytes of each fixed duration that was sent as 0. Proof: read_written.
 pub record WrittenAgain (s : List ℕ) (q : Records) : Type 0 where
   pub numbers : Numbers q
   pub in_order : rising q.pairs ≡ q.pairs
@@ -194,7 +194,7 @@ ReadWritten = (s : List ℕ) (q : Records) → IsSheet s q → WrittenAgain s q
 -- ## What is turned away
 
 -- "Turned away: the parts' faults are 2 to 6, in that order, where 6 now means that a pair comes twice; a short buffer is 14." 26 comes right after 4. Each is given exactly if its condition holds and no earlier
--- one does; no other is given; and a refusal leaves the buffer as lent. The call has this verdict, and leaves the buffer as `after`. Proof: write-exactly.
+-- one does; no other is given; and a refusal leaves the buffer as lent. The call has this verdict, and leaves the buffer as `after`. Proof: write_exactly.
 pub record WriteFor (n r : ℕ) (steps : List Operation) (links : List Link) (buffer : List ℕ) (verdict : Outcome ℕ) (after : List ℕ) : Type 0 where
   pub refused_2 : (verdict ≡ refused 2) ↔ BadCount n
   pub refused_3 : (verdict ≡ refused 3) ↔ ((¬ BadCount n) × TooMany r)
