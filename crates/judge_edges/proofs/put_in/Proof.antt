@@ -17,8 +17,7 @@ refused-requires c κs = search rules
 
 returns-then-waits_clash : tie.Need-returns-then-waits_clash
 returns-then-waits_clash c =
-    let u = c.refused.ensures in
-    (
+    let u = c.refused.ensures in (
       u.1.sorts,
       λ w.
           let count = c.count_waits-count.ensures.1 _ w.waits in
@@ -30,8 +29,7 @@ waits_counted-requires c κs = search rules
 
 returns : tie.Need-returns
 returns c =
-    let f = c.waits_counted.ensures in
-    (
+    let f = c.waits_counted.ensures in (
       f.sorts,
       λ w.
           let count = c.count_waits-count.ensures.1 _ w.waits in

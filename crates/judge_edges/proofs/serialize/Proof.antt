@@ -26,8 +26,7 @@ refused-requires c κs = search rules
 
 returns-then-is_inconsistent : tie.Need-returns-then-is_inconsistent
 returns-then-is_inconsistent c =
-    let u = c.refused.ensures in
-    (
+    let u = c.refused.ensures in (
       u.1.sorts,
       λ h.
           let R = c.reach.ensures.0 h.anchors in
@@ -42,18 +41,17 @@ put_in-requires : tie.Need-put_in-requires
 put_in-requires c κs = search rules
 
 returns : tie.Need-returns
-returns c =
-    (
-      c.put_in.ensures.0,
-      λ h.
-          let R = c.reach.ensures.0 h.anchors in
-          let reaches = reached_reaches h.sheet.shape R in
-          let consistent = sym (c.is_inconsistent.ensures.1 _ reaches) ∙ c.if-is_inconsistent.false in
-          let maps = c.wait_maps.ensures.1 _ (record { shape = h.sheet.shape; reaches = reaches; anchors = h.anchors }) in
-          let some = c.requires.0.some in
-          unweighed_rest _ _ _ _ _ _ _ h.sheet.shape R consistent (λ first.
-          c.put_in.ensures.1 (record { well = passed_well _ _ some h.sheet.shape h.sheet.entered first consistent; acyclic = order_acyclic _ _ h.passes some h.sheet.shape; gains = h.sheet.gains; leasts = h.sheet.leasts; waits = maps })),
-    )
+returns c = (
+  c.put_in.ensures.0,
+  λ h.
+      let R = c.reach.ensures.0 h.anchors in
+      let reaches = reached_reaches h.sheet.shape R in
+      let consistent = sym (c.is_inconsistent.ensures.1 _ reaches) ∙ c.if-is_inconsistent.false in
+      let maps = c.wait_maps.ensures.1 _ (record { shape = h.sheet.shape; reaches = reaches; anchors = h.anchors }) in
+      let some = c.requires.0.some in
+      unweighed_rest _ _ _ _ _ _ _ h.sheet.shape R consistent (λ first.
+      c.put_in.ensures.1 (record { well = passed_well _ _ some h.sheet.shape h.sheet.entered first consistent; acyclic = order_acyclic _ _ h.passes some h.sheet.shape; gains = h.sheet.gains; leasts = h.sheet.leasts; waits = maps })),
+)
 
 pub serialize_spec : {M : Type 1} → statement M
 serialize_spec =
