@@ -16,34 +16,34 @@ returns-then-not-accepted c =
 pub overflow_mul-size : goal.overflow_mul-size
 overflow_mul-size c =
     let h : Held c.args.s.now c.args.allow (verdict_of c.answer-found.result.verdict) c.answer-found.new.out =
-        holds c.args.s.now (bytes_by c.args.s.now (λ i. omega (arith, c.type_inv.s i))) _ _ (search rules) _ c.answer-found.ensures.verdict (sym c.accepted.ensures ∙ c.if-not-accepted.false) c.answer-found.ensures.numbers
+    holds c.args.s.now (bytes_by c.args.s.now (λ i. omega (arith, c.type_inv.s i))) _ _ (search rules) _ c.answer-found.ensures.verdict (sym c.accepted.ensures ∙ c.if-not-accepted.false) c.answer-found.ensures.numbers
     in
     omega (arith, plan_small h (search rules) c.steps.ensures)
 
 pub slice_bounds-table-end : goal.slice_bounds-table-end
 slice_bounds-table-end c =
     let h : Held c.args.s.now c.args.allow (verdict_of c.answer-found.result.verdict) c.answer-found.new.out =
-        holds c.args.s.now (bytes_by c.args.s.now (λ i. omega (arith, c.type_inv.s i))) _ _ (search rules) _ c.answer-found.ensures.verdict (sym c.accepted.ensures ∙ c.if-not-accepted.false) c.answer-found.ensures.numbers
+    holds c.args.s.now (bytes_by c.args.s.now (λ i. omega (arith, c.type_inv.s i))) _ _ (search rules) _ c.answer-found.ensures.verdict (sym c.accepted.ensures ∙ c.if-not-accepted.false) c.answer-found.ensures.numbers
     in
     plan_room h (search rules) c.steps.ensures
 
 pub slice_bounds-quote_plan-end : goal.slice_bounds-quote_plan-end
 slice_bounds-quote_plan-end c =
     let h : Held c.args.s.now c.args.allow (verdict_of c.answer-found.result.verdict) c.answer-found.new.out =
-        holds c.args.s.now (bytes_by c.args.s.now (λ i. omega (arith, c.type_inv.s i))) _ _ (search rules) _ c.answer-found.ensures.verdict (sym c.accepted.ensures ∙ c.if-not-accepted.false) c.answer-found.ensures.numbers
+    holds c.args.s.now (bytes_by c.args.s.now (λ i. omega (arith, c.type_inv.s i))) _ _ (search rules) _ c.answer-found.ensures.verdict (sym c.accepted.ensures ∙ c.if-not-accepted.false) c.answer-found.ensures.numbers
     in
     front_length _ _ (plan_room h (search rules) c.steps.ensures)
 
 pub quote_plan-requires : goal.quote_plan-requires
 quote_plan-requires c =
     let h : Held c.args.s.now c.args.allow (verdict_of c.answer-found.result.verdict) c.answer-found.new.out =
-        holds c.args.s.now (bytes_by c.args.s.now (λ i. omega (arith, c.type_inv.s i))) _ _ (search rules) _ c.answer-found.ensures.verdict (sym c.accepted.ensures ∙ c.if-not-accepted.false) c.answer-found.ensures.numbers
+    holds c.args.s.now (bytes_by c.args.s.now (λ i. omega (arith, c.type_inv.s i))) _ _ (search rules) _ c.answer-found.ensures.verdict (sym c.accepted.ensures ∙ c.if-not-accepted.false) c.answer-found.ensures.numbers
     in
     record { few = omega (arith, count_is h (search rules) c.steps.ensures, h.few); long = omega (arith, front_length (c.steps.new.n * c.steps.new.n) c.answer-found.new.out (plan_room h (search rules) c.steps.ensures)) }
 
 pub returns : goal.returns
 returns c =
     let h : Held c.args.s.now c.args.allow (verdict_of c.answer-found.result.verdict) c.answer-found.new.out =
-        holds c.args.s.now (bytes_by c.args.s.now (λ i. omega (arith, c.type_inv.s i))) _ _ (search rules) _ c.answer-found.ensures.verdict (sym c.accepted.ensures ∙ c.if-not-accepted.false) c.answer-found.ensures.numbers
+    holds c.args.s.now (bytes_by c.args.s.now (λ i. omega (arith, c.type_inv.s i))) _ _ (search rules) _ c.answer-found.ensures.verdict (sym c.accepted.ensures ∙ c.if-not-accepted.false) c.answer-found.ensures.numbers
     in
     quotes_sheet h _ _ _ (count_is h (search rules) c.steps.ensures) (map_is h (search rules) c.steps.ensures) refl (c.quote_plan.ensures h.value h.verdict)
