@@ -1,18 +1,19 @@
 // What the programs read and write, from a reader and to a writer that are lent, which are standard input and output.
 #![tactic(auto)]
 
-ghost use Rattle.std.specs.Prelude.{◌∷◌, ◌<◌, ◌≤◌, decimal, length, take, IfOk, OnOk};
-ghost use Rattle.print_console.specs.Texts.{code_text};
+ghost use Rattle.std.specs.Prelude.{◌∷◌, ◌<◌, ◌≤◌, decimal, length, take, IfOk, OnErr, OnOk};
+ghost use Rattle.print_console.specs.Texts.{code_text, TakenToFront};
 ghost use Rattle.std.specs.Io.KnownBytes.{Appends, Consumes, IsAtEnd};
 
 use std::io;
 use std::io::{Read, Write};
 
-// Reads until the lent bytes are full or the input ends. Returns how many there are.
+// Reads until the lent bytes are full or the input ends. Returns how many there are. Where a read fails, what was taken before stands at the front of the lent bytes.
 pub fn read_full<R: Read>(input: &mut R, buffer: &mut [u8]) -> io::Result<usize>
     ensures within { IfOk result (λ n. n ≤ length buffer.new) }
     ensures bytes { IfOk result (λ n. Consumes (R.remaining input.old) (R.remaining input.new) (take n buffer.new)) }
     ensures end { IfOk result (λ n. n < length buffer.new → IsAtEnd (R.remaining input.new)) }
+    ensures err { OnErr result (TakenToFront (R.remaining input.old) (R.remaining input.new) buffer.new) }
 {
     let mut done = 0;
     while done < buffer.len() {
