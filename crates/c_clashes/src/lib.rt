@@ -4,8 +4,6 @@
 ghost use Rattle.definitions.specs.Clashes.{few_answer};
 ghost use Rattle.data_numbers.specs.Codes.{CountsInto};
 
-use definitions::Tally;
-
 // Where the sheet is refused as 10 or 11, the numbers of the records that clash, counted from 0 and rising, become the first numbers, and `count` how many they are. Returns 0 then, and 256 + k where it is refused by k.
 // All other numbers stay as lent, and on a refusal all of them, the count too.
 #[unsafe(no_mangle)]
@@ -13,7 +11,7 @@ pub extern "C" fn standplan_clashes(sheet: &[u8], numbers: &mut [u32], count: &m
     ensures { CountsInto (few_answer sheet.now numbers.old) count.old result numbers.new count.new }
 {
     let tally = clash_sheet::clashes(sheet, numbers);
-    if let Tally::Count(k) = tally {
+    if let Ok(k) = tally {
         *count = k;
         return 0;
     }

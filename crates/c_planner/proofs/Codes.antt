@@ -1,5 +1,8 @@
 -- The planner's answer as a number. The operand that the planner was asked with comes beside its answer, so that a wrong one is met before the answers are compared.
 use mathlib.Core.Path.{◌≡◌, ap, refl, subst, ◌∙◌}
+use Rattle.std.specs.Prelude.{Err, Ok}
+use Rattle.definitions.specs.declared.Acceptance.TheVariants as Acceptances
+use Rattle.definitions.specs.Numbers.{Status, Verdict, status_of, verdict_of}
 use mathlib.Core.Bool.{Bool}
 use mathlib.Core.List.{List}
 use Prim.Native.Nat.{ℕ, ◌<◌, ◌≤◌}
@@ -7,12 +10,7 @@ use native.Mathlib.Omega.{arith}
 use Rattle.definitions.specs.Answers.{Beginning, Written, waits_answer}
 use Rattle.definitions.specs.Basics.{Outcome, given, when_given}
 use Rattle.definitions.specs.Dispatcher.{Progress}
-use Rattle.definitions.specs.Numbers.{status_of, verdict_of}
 use Rattle.definitions.specs.Worked.{idle}
-use Rattle.definitions.specs.declared.Status.{Status}
-use Rattle.definitions.specs.declared.Status.TheVariants as Statuses
-use Rattle.definitions.specs.declared.Verdict.{Verdict}
-use Rattle.definitions.specs.declared.Verdict.TheVariants as Verdicts
 use Rattle.definitions.specs.declared.WaitMaps.{WaitMaps}
 use Rattle.plan_answer.specs.Returned.{WaitsReturned}
 use Rattle.data_numbers.specs.Codes.{call_code, code, refusals_past}
@@ -30,14 +28,14 @@ written answer allow e same c =
 
 -- The number of a verdict tells a refusal from an answer.
 left_refused : {A : Type 0} (v : Verdict) (answer lent : A) → refusals_past ≤ code (verdict_of v) → lent ≡ left (verdict_of v) answer lent
-left_refused Verdicts.WellPosed answer lent b = absurd (omega arith)
-left_refused Verdicts.Serialized answer lent b = absurd (omega arith)
-left_refused (Verdicts.Refused k) answer lent b = refl
+left_refused (Ok Acceptances.WellPosed) answer lent b = absurd (omega arith)
+left_refused (Ok Acceptances.Serialized) answer lent b = absurd (omega arith)
+left_refused (Err k) answer lent b = refl
 
 left_given : {A : Type 0} (v : Verdict) (answer lent : A) → code (verdict_of v) < refusals_past → answer ≡ left (verdict_of v) answer lent
-left_given Verdicts.WellPosed answer lent b = refl
-left_given Verdicts.Serialized answer lent b = refl
-left_given (Verdicts.Refused k) answer lent b = absurd (omega arith)
+left_given (Ok Acceptances.WellPosed) answer lent b = refl
+left_given (Ok Acceptances.Serialized) answer lent b = refl
+left_given (Err k) answer lent b = absurd (omega arith)
 
 -- Waits: what judging lists, of which nothing is stored on a refusal.
 module _ {s : List ℕ} (maps : List ℕ) (count : ℕ) {found : WaitMaps} {r : ℕ} (lists : WaitsReturned s found) (coded : r ≡ code (verdict_of found.verdict)) where
@@ -63,8 +61,8 @@ module _ {s : List ℕ} (maps : List ℕ) (count : ℕ) {found : WaitMaps} {r : 
 -- What a run is begun with: a status has the same number beside whatever it stands.
 status_coded : (s : Status) (g : Progress) (b : Beginning) → call_code (status_of s g) ≡ code (when_given (status_of s b) (λ b. given 0))
 unfolding when_given
-status_coded Statuses.Done g b = refl
-status_coded (Statuses.Refused k) g b = refl
+status_coded (Ok tt) g b = refl
+status_coded (Err k) g b = refl
 
 pub begins_into : {outcome : Outcome Beginning} {lent after : Beginning} {s : Status} {r : ℕ} → Returns outcome lent s after → ((g : Progress) → r ≡ call_code (status_of s g)) → BeginsInto outcome lent r after
 begins_into {after = after} {s = s} R coded =

@@ -22,8 +22,7 @@ pub extern "C" fn standplan_waits(sheet: &[u8], maps: &mut [u64; 64], count: &mu
     ensures { ListsInto (waits_answer sheet.now) maps.old count.old result maps.new count.new }
 {
     let found = judge_sheet::waits(sheet);
-    let verdict = found.verdict;
-    let code = data_numbers::verdict_code(verdict);
+    let code = data_numbers::verdict_code(found.verdict);
     if data_numbers::REFUSALS_PAST <= code {
         return code;
     }

@@ -1,28 +1,28 @@
 -- The price as it is returned to C: the number of a verdict tells a refusal, which stores nothing, from an answer. Assumes nothing.
 use mathlib.Core.Path.{◌≡◌, ap, ap₂, refl, subst, ◌∙◌}
+use Rattle.std.specs.Prelude.{Err, Ok}
+use Rattle.definitions.specs.declared.Acceptance.TheVariants as Acceptances
+use Rattle.definitions.specs.Numbers.{Verdict, verdict_of}
 use mathlib.Core.Bool.{Bool}
 use mathlib.Core.List.{List, [], ◌∷◌}
 use Prim.Native.Nat.{ℕ, ◌<◌, ◌≤◌}
 use native.Mathlib.Omega.{arith}
 use Rattle.definitions.specs.Basics.{Outcome}
-use Rattle.definitions.specs.Numbers.{verdict_of}
 use Rattle.definitions.specs.Price.{Priced, price_answer, printed_table}
-use Rattle.definitions.specs.declared.Verdict.{Verdict}
-use Rattle.definitions.specs.declared.Verdict.TheVariants as Verdicts
 use Rattle.data_numbers.specs.Codes.{code, refusals_past}
 use Rattle.price_sheet.specs.Returned.{PriceReturned}
 use Rattle.price_sheet.specs.declared.Totals.{Totals}
 use Rattle.c_price.specs.Memory.{PricesInto, totals_left}
 
 left_refused : (v : Verdict) (x y : ℕ) (lent : List ℕ) → refusals_past ≤ code (verdict_of v) → lent ≡ totals_left (verdict_of v) x y lent
-left_refused Verdicts.WellPosed x y lent b = absurd (omega arith)
-left_refused Verdicts.Serialized x y lent b = absurd (omega arith)
-left_refused (Verdicts.Refused k) x y lent b = refl
+left_refused (Ok Acceptances.WellPosed) x y lent b = absurd (omega arith)
+left_refused (Ok Acceptances.Serialized) x y lent b = absurd (omega arith)
+left_refused (Err k) x y lent b = refl
 
 left_given : (v : Verdict) (x y : ℕ) (lent : List ℕ) → code (verdict_of v) < refusals_past → x ∷ y ∷ [] ≡ totals_left (verdict_of v) x y lent
-left_given Verdicts.WellPosed x y lent b = refl
-left_given Verdicts.Serialized x y lent b = refl
-left_given (Verdicts.Refused k) x y lent b = absurd (omega arith)
+left_given (Ok Acceptances.WellPosed) x y lent b = refl
+left_given (Ok Acceptances.Serialized) x y lent b = refl
+left_given (Err k) x y lent b = absurd (omega arith)
 
 module _ {s registers comparisons registers' comparisons' : List ℕ} {allow : Bool} (lent : List ℕ) {found : Totals} {r : ℕ} (priced : PriceReturned s allow registers comparisons found registers' comparisons') (coded : r ≡ code (verdict_of found.verdict)) where
   abbrev answer : Priced

@@ -18,8 +18,7 @@ pub extern "C" fn standplan_price(
         totals.old result registers.new comparisons.new totals.new }
 {
     let priced = price_sheet::price(sheet, allow, registers, comparisons);
-    let verdict = priced.verdict;
-    let code = data_numbers::verdict_code(verdict);
+    let code = data_numbers::verdict_code(priced.verdict);
     if data_numbers::REFUSALS_PAST <= code {
         return code;
     }

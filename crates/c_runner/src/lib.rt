@@ -19,19 +19,21 @@ fn state_in(
 ) -> State
     ensures { result ≡ state_in words tick start finish least }
 {
+    let [n, unbounded, started, finished] = words;
     State {
-        n: words[0] as usize,
-        unbounded: words[1],
-        tick: tick,
-        started: words[2],
-        finished: words[3],
-        start: start,
-        finish: finish,
-        least: least,
+        n: n as usize,
+        unbounded,
+        tick,
+        started,
+        finished,
+        start,
+        finish,
+        least,
     }
 }
 
 // The dispatcher's call on a state, by its arguments; the least durations are for Begin alone.
+#[tactic(auto, unfolding(definitions::specs::Dispatcher::called))]
 fn called(st: State, call: Call, leasts: &[u16], table: &[u32]) -> Dispatch
     ensures { Returns st (Dispatcher.called st table.now leasts.now call) result }
 {
@@ -43,15 +45,10 @@ fn called(st: State, call: Call, leasts: &[u16], table: &[u32]) -> Dispatch
 }
 
 // The words of a state.
-fn words_of(st: State) -> [u64; 4]
-    ensures { result ≡ words_of st }
+fn words_of(st: &State) -> [u64; 4]
+    ensures { result ≡ words_of st.now }
 {
-    let mut words = [0u64; 4];
-    words[0] = st.n as u64;
-    words[1] = st.unbounded;
-    words[2] = st.started;
-    words[3] = st.finished;
-    words
+    [st.n as u64, st.unbounded, st.started, st.finished]
 }
 
 // What is lent as least durations beside a call that takes none.
@@ -73,27 +70,18 @@ fn perform(
         (memory words.old tick.old start.old finish.old least.old map.old) result
         (memory words.new tick.new start.new finish.new least.new map.new) }
 {
-    let held = *words;
-    let starts = *start;
-    let ends = *finish;
-    let shortest = *least;
-    let lent = state_in(held, *tick, starts, ends, shortest);
+    let lent = state_in(*words, *tick, *start, *finish, *least);
     let done = called(lent, call, leasts, table);
-    let status = done.status;
-    let code = data_numbers::status_code(status);
-    if 0 < code {
+    let code = data_numbers::status_code(done.status);
+    if done.status.is_err() {
         return code;
     }
     let next = done.state;
-    let new_words = words_of(next);
-    let new_starts = next.start;
-    let new_ends = next.finish;
-    let new_shortest = next.least;
-    *words = new_words;
+    *words = words_of(&next);
     *tick = next.tick;
-    *start = new_starts;
-    *finish = new_ends;
-    *least = new_shortest;
+    *start = next.start;
+    *finish = next.finish;
+    *least = next.least;
     *map = done.map;
     code
 }
@@ -101,6 +89,7 @@ fn perform(
 // ---- the calls
 
 // Begins a run of n steps, with the map of those that are open and the least durations, of which n are taken along.
+#[tactic(auto, unfolding(definitions::specs::Dispatcher::called))]
 #[unsafe(no_mangle)]
 pub extern "C" fn standplan_begin(
     words: &mut [u64; 4],
@@ -132,6 +121,7 @@ pub extern "C" fn standplan_begin(
 }
 
 // The tick grows by one.
+#[tactic(auto, unfolding(definitions::specs::Dispatcher::called))]
 #[unsafe(no_mangle)]
 pub extern "C" fn standplan_tick(
     words: &mut [u64; 4],
@@ -160,6 +150,7 @@ pub extern "C" fn standplan_tick(
 }
 
 // Open step s ends at this tick.
+#[tactic(auto, unfolding(definitions::specs::Dispatcher::called))]
 #[unsafe(no_mangle)]
 pub extern "C" fn standplan_finish(
     words: &mut [u64; 4],

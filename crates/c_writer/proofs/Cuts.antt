@@ -1,5 +1,6 @@
 -- The writer is handed no more parts than the counts say and than there can be: its answer is that for all that is there.
 use mathlib.Core.Path.{◌≡◌, sym, ap, ap₂, ◌∙◌}
+use Rattle.definitions.specs.Numbers.{Tally}
 use mathlib.Core.Bool.{Bool, true, false, not, ◌&&◌}
 use mathlib.Core.Logic.{◌⊎◌, inl, inr}
 use mathlib.Core.List.{List}
@@ -17,7 +18,6 @@ use Rattle.definitions.specs.Limits.{most_records, most_steps}
 use Rattle.definitions.specs.Writer.{parts, sheet_bytes, write_answer, write_verdict}
 use Rattle.definitions.specs.declared.Link.{Link}
 use Rattle.definitions.specs.declared.Operation.{Operation}
-use Rattle.definitions.specs.declared.Tally.{Tally}
 use Rattle.laws.proofs.Bools.{bool_cases}
 use Rattle.laws.proofs.Outcomes.{passes_by, stops_at}
 use Rattle.write_sheet.specs.Written.{WriteReturned}

@@ -3,8 +3,7 @@
 
 ghost use Rattle.c_writer.specs.Memory.{WritesSheet};
 
-use definitions::{MOST_RECORDS, Tally};
-use write_sheet::smaller;
+use definitions::MOST_RECORDS;
 
 // Writes the sheet of n steps and r link records. `steps` has two numbers for each step, its map (0, 1, 2 or 5) and its ticks; `records` seven for each link record, which may come in any order: its map, i, j, at
 // least, at most, the gap, at most from the finish. A field whose bit does not stand is not looked at. The bytes become the first ones of the buffer, and `length` how many they are. Returns 0 then, and 256 + k
@@ -21,8 +20,8 @@ pub extern "C" fn standplan_write(
     ensures { WritesSheet n r steps.now records.now buffer.old
         length.old result buffer.new length.new }
 {
-    let a = smaller(smaller(n, 64), steps.len() / 2);
-    let b = smaller(smaller(r, MOST_RECORDS), records.len() / 7);
+    let a = n.min(64).min(steps.len() / 2);
+    let b = r.min(MOST_RECORDS).min(records.len() / 7);
     let tally = write_sheet::write_given(
         n,
         write_numbers::steps_from(steps, a),
@@ -32,9 +31,8 @@ pub extern "C" fn standplan_write(
         b,
         buffer,
     );
-    if let Tally::Count(k) = tally {
+    if let Ok(k) = tally {
         *length = k;
-        return 0;
     }
     data_numbers::tally_code(tally)
 }

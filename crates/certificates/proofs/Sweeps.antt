@@ -15,9 +15,8 @@ use Rattle.definitions.specs.Plan.{undecided}
 use Rattle.definitions.specs.Dispatcher.{entry, names, due, ready, starting, start_ticks, sweep}
 use Rattle.definitions.specs.declared.State.{State}
 use Rattle.laws.proofs.Bools.{bool_cases, both_ways, not_passing, and_split, and_join, or_split, or_left, or_right, cond_true, cond_false}
-use Rattle.laws.proofs.Maps.{test_bits_below}
+use Rattle.laws.proofs.Maps.{test_bits_below, test_or}
 use Rattle.laws.proofs.Tests.{any_below_has, any_below_by, all_below_each, all_below_by, last_or_below}
-use Rattle.laws.proofs.Maps.{test_or}
 use Rattle.certificates.specs.Runs.{Started, Finished, finish_tick, Starts, SweepFor}
 
 module _ (st : State) (table : List ℕ) where

@@ -9,10 +9,11 @@ use lib.Seq.{paste, take-paste, take-length, take-take, length-take-le, take-app
 use Rattle.definitions.specs.Answers.{edges_of, judge_edges, judge_records, leasts_of}
 use Rattle.definitions.specs.Bytes.{Records}
 use Rattle.definitions.specs.Clashes.{impossible, is_impossible}
+use Rattle.definitions.specs.Limits.{most_steps}
 use Rattle.definitions.specs.Links.{Edge, constraints, links_of, members}
 use Rattle.data_edges.specs.Words.{unpack, graph, Light}
 use Rattle.data_edges.proofs.Places.{graph_at}
-use Rattle.data_lists.specs.Lists.{Empty, Lists, Unlisted, WithLists}
+use Rattle.data_lists.specs.Lists.{Empty, Unlisted}
 use Rattle.theory.specs.Graphs.{Shape, Entered}
 use Rattle.demands.proofs.Edges.{sheet_shape, sheet_entered, sheet_gains}
 use Rattle.clash_parts.specs.Completed.{PartCompletes}
@@ -40,10 +41,11 @@ module _ (n : ℕ) (es lists : List ℕ) (J : Judgeable n es lists) where
   pub sheet_unlisted : (lists' : List ℕ) → length lists' ≡ length lists → Empty lists' → Unlisted es lists'
   sheet_unlisted lists' long empty = record { few = J.few; light = sheet_light J.sheet n es J.holds; long = omega (arith, J.long); empty = empty }
 
-  pub sheet_listed : (lists' : List ℕ) → Lists es lists' → WithLists n es lists'
-  sheet_listed lists' listed =
-      let fits = J.holds.fits in
-      record { some = omega (arith, fits.some, J.holds.steps); few = omega (arith, fits.few, J.holds.steps); listed = listed }
+  pub sheet_some : 1 ≤ n
+  sheet_some = omega (arith, J.holds.fits.some, J.holds.steps)
+
+  pub sheet_few : n ≤ most_steps
+  sheet_few = omega (arith, J.holds.fits.few, J.holds.steps)
 
 -- ---- the words of a part's records
 

@@ -1,5 +1,6 @@
 -- The edges of records stand in rows behind each other, a row for each record: all edges of a row have the pair of its record, no row is empty, and pairs rise.
 use mathlib.Core.Path.{◌≡◌, refl, sym, ap, ◌∙◌}
+use Rattle.std.specs.Prelude.{None, Option, Some}
 use mathlib.Core.Bool.{Bool, true, false}
 use mathlib.Core.Logic.{◌⊎◌, inl, inr, ◌≢◌}
 use mathlib.Core.List.Memᴰ
@@ -11,8 +12,6 @@ use lib.Seq.{take-suc, get_or-take}
 use Rattle.definitions.specs.Clashes.{blank_link}
 use Rattle.definitions.specs.Limits.{most_steps}
 use Rattle.definitions.specs.Links.{Constraint, Edge, sequencing, minimum, maximum, finish_maximum, sequencing_of, minimum_of, maximum_of, finish_maximum_of, ticks_said, link_constraints, constraints, delay_at, least_at, sequencing_edge, finish_edge, edge_of, edges}
-use Rattle.definitions.specs.declared.Bound.{Bound}
-use Rattle.definitions.specs.declared.Bound.TheVariants.{Absent, Ticks}
 use Rattle.definitions.specs.declared.Delay.{Delay}
 use Rattle.definitions.specs.declared.Delay.TheVariants.{Open, Fixed}
 use Rattle.definitions.specs.declared.Link.{Link}
@@ -93,20 +92,20 @@ module _ (i j : ℕ) where
   sequencing_ranked true g = ranked_one (sequencing i j g)
   sequencing_ranked false g = ranked_none (i * most_steps + j)
 
-  minimum_ranked : (b : Bound) → Ranked (i * most_steps + j) (minimum_of i j b)
+  minimum_ranked : (b : Option ℕ) → Ranked (i * most_steps + j) (minimum_of i j b)
   unfolding minimum_of
-  minimum_ranked (Ticks m) = ranked_one (minimum i j m)
-  minimum_ranked Absent = ranked_none (i * most_steps + j)
+  minimum_ranked (Some m) = ranked_one (minimum i j m)
+  minimum_ranked None = ranked_none (i * most_steps + j)
 
-  maximum_ranked : (b : Bound) → Ranked (i * most_steps + j) (maximum_of i j b)
+  maximum_ranked : (b : Option ℕ) → Ranked (i * most_steps + j) (maximum_of i j b)
   unfolding maximum_of
-  maximum_ranked (Ticks u) = ranked_one (maximum i j u)
-  maximum_ranked Absent = ranked_none (i * most_steps + j)
+  maximum_ranked (Some u) = ranked_one (maximum i j u)
+  maximum_ranked None = ranked_none (i * most_steps + j)
 
-  finish_ranked : (b : Bound) → Ranked (i * most_steps + j) (finish_maximum_of i j b)
+  finish_ranked : (b : Option ℕ) → Ranked (i * most_steps + j) (finish_maximum_of i j b)
   unfolding finish_maximum_of
-  finish_ranked (Ticks u) = ranked_one (finish_maximum i j u)
-  finish_ranked Absent = ranked_none (i * most_steps + j)
+  finish_ranked (Some u) = ranked_one (finish_maximum i j u)
+  finish_ranked None = ranked_none (i * most_steps + j)
 
 record_ranked : (l : Link) → Ranked (rank l) (link_constraints l)
 unfolding link_constraints

@@ -8,6 +8,7 @@ ghost use Rattle.data_edges.specs.Words.{graph};
 ghost use Rattle.clash_filter.specs.Sheets.{Completed, Judgeable, Triable, Tried, Recorded, Filterable, Workable, Reported};
 
 use clash_parts::{clear, complete_part, put, record_start};
+use data_lists::Edges;
 use definitions::{MOST_ADDED, MOST_EDGES, MOST_RECORDS};
 
 // The words of the edges of all records that there may be, and numbers for the adjacency lists of all edges (see the crate data_lists).
@@ -22,7 +23,7 @@ fn impossible_edges(es: &[u64], n: usize, lists: &mut [u16]) -> bool
 {
     clear(lists);
     data_lists::list(es, lists);
-    judge_possible::is_impossible(es, lists, n)
+    judge_possible::is_impossible(Edges { words: es, lists }, n)
 }
 
 // Whether the part is impossible that has the records of the first count words, and of these others. Its words are put together behind the first ones, which stay, with those of the links that are added to it.
@@ -57,9 +58,7 @@ fn filter(
     let mut front = es.len();
     let mut back = MOST_SENT;
     let mut at = MOST_RECORDS;
-    let mut k = records;
-    while k > 0 {
-        k -= 1;
+    for k in (0..records).rev() {
         let first = record_start(es, front);
         if !impossible_with(part, first, &kept[back..], n, lists) {
             back -= front - first;

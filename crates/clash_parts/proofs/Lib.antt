@@ -2,4 +2,3 @@ pub mod Starts
 pub mod Putting
 pub mod Entering
 pub mod Completing
-pub mod Clearing

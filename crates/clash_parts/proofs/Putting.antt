@@ -1,33 +1,17 @@
--- Words put over others, one after another.
-use mathlib.Core.Path.{◌≡◌, refl, sym, ap, ◌∙◌}
-use mathlib.Core.List.{List}
-use Prim.Native.Nat.{ℕ, ◌+◌, ◌≤◌, ◌<◌}
+-- Words put over others.
+use mathlib.Core.Path.{◌≡◌, sym, ap, ap₂, ◌∙◌}
+use mathlib.Core.List.{List, ◌++◌, append_assoc}
+use Prim.Native.Nat.{ℕ, ◌+◌, ◌-◌}
 use native.Mathlib.Omega.{arith}
-use native.Mathlib.Numerals.{add-one}
-use lib.ListN.{length, get_or, set, length-set}
-use lib.Seq.{paste, paste-zero, paste-suc}
-use Rattle.clash_parts.specs.Words.{Room}
+use lib.ListN.{length, take, drop}
+use lib.Seq.{paste, drop-drop, take-length}
+use borrow.Rule.Slice.PartMut.{put_mid}
 
--- The loop's invariant: the first i of them stand from place `at` on.
-pub record Putting (words₀ : List ℕ) (at : ℕ) (these words : List ℕ) (i : ℕ) : Type 0 where
-  pub within : i ≤ length these
-  pub long : length words ≡ length words₀
-  pub same : words ≡ paste words₀ at these i
-
-module _ (words₀ : List ℕ) (at : ℕ) (these : List ℕ) where
-  pub putting_none : Putting words₀ at these words₀ 0
-  putting_none = record { within = omega arith; long = refl; same = paste-zero words₀ at these }
-
-  module _ (words : List ℕ) (i : ℕ) (so : Putting words₀ at these words i) where
-    pub putting_more : Room words₀ at these → i < length these → Putting words₀ at these (set words (at + i) (get_or these i 0)) (i + 1)
-    putting_more fits b = record {
-      within = omega arith;
-      long = length-set words (at + i) (get_or these i 0) ∙ so.long;
-      same =
-          ap (λ (l : List ℕ). set l (at + i) (get_or these i 0)) so.same
-          ∙ paste-suc words₀ at these i 0 (omega (arith, fits.room)) b
-          ∙ ap (paste words₀ at these) (sym (add-one i));
-    }
-
-    pub putting_all : length these ≤ i → words ≡ paste words₀ at these (length these)
-    putting_all all = so.same ∙ ap (paste words₀ at these) (let e : i ≡ length these = omega (arith, so.within) in e)
+-- Where these stand in the place of as many words, they have been put over them.
+pub put_over : (words : List ℕ) (at : ℕ) (these put : List ℕ) → put ≡ these → put_mid at (at + length these - at) words put ≡ paste words at these (length these)
+put_over words at these put e =
+    let many : at + length these - at ≡ length these = omega arith in
+    ap (λ (n : ℕ). put_mid at n words put) many
+    ∙ ap (put_mid at (length these) words) e
+    ∙ ap₂ (λ (x y : List ℕ). take at words ++ (x ++ y)) (sym (take-length these)) (drop-drop (length these) at words)
+    ∙ sym (append_assoc (take at words) (take (length these) these) (drop (at + length these) words))

@@ -28,15 +28,13 @@ pub fn record_start(es: &[u64], end: usize) -> usize
     requires { Ends es.now end }
     ensures { Begins es.now end result }
 {
-    let mut first = end - 1;
-    let pair = pair_of(es[first]);
-    while first > 0 {
+    let pair = pair_of(es[end - 1]);
+    for first in (1..end).rev() {
         if pair_of(es[first - 1]) != pair {
             return first;
         }
-        first -= 1;
     }
-    first
+    0
 }
 
 // These words, from place `at` on, over those that stand there.
@@ -44,11 +42,7 @@ pub fn put(words: &mut [u64], at: usize, these: &[u64])
     requires { Room words.old at these.now }
     ensures { words.new ≡ paste words.old at these.now (length these.now) }
 {
-    let mut i = 0;
-    while i < these.len() {
-        words[at + i] = these[i];
-        i += 1;
-    }
+    words[at..at + these.len()].copy_from_slice(these);
 }
 
 // The map of the steps that forward edges lead into.
@@ -56,11 +50,8 @@ fn entered(es: &[u64]) -> u64
     ensures { (v : ℕ) → test_bit result v ≡ any (enters v) (graph es.now) }
 {
     let mut m = 0;
-    let mut i = 0;
-    while i < es.len() {
-        let w = es[i];
-        m = data_bits::insert_if(m, edge_to(w), !is_back(w));
-        i += 1;
+    for w in es {
+        m = data_bits::insert_if(m, edge_to(*w), !is_back(*w));
     }
     m
 }
@@ -79,9 +70,5 @@ pub fn clear(lists: &mut [u16])
     requires { most_steps ≤ length lists.old }
     ensures { Empty lists.new }
 {
-    let mut u = 0;
-    while u < 64 {
-        lists[u] = 0;
-        u += 1;
-    }
+    lists[..64].fill(0);
 }

@@ -1,12 +1,11 @@
 -- What asking for the records that clash returns.
 use Rattle.std.specs.Prelude.{◌≡◌, List, ℕ, ◌+◌, ◌*◌, ◌≤◌, length, take}
+use Rattle.definitions.specs.Numbers.{Tally, tally_of}
 use Rattle.definitions.specs.Answers.{too_short, written}
 use Rattle.definitions.specs.Basics.{Outcome, given, refuse_if}
 use Rattle.definitions.specs.Bytes.{Records}
 use Rattle.definitions.specs.Clashes.{few, few_answer, few_verdict}
 use Rattle.definitions.specs.Limits.{links_of_record, most_edges, most_records}
-use Rattle.definitions.specs.Numbers.{tally_of}
-use Rattle.definitions.specs.declared.Tally.{Tally}
 use Rattle.data_edges.specs.Words.{graph}
 use Rattle.clash_filter.specs.Sheets.{Completed, Recorded}
 

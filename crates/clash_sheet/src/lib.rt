@@ -1,7 +1,7 @@
 // The library over bytes: the few records of an impossible sheet that clash (request L14).
 #![tactic(auto)]
 
-ghost use Rattle.std.specs.Prelude.{◌≡◌, ◌++◌, ◌≤◌, eqb, length, drop};
+ghost use Rattle.std.specs.Prelude.{◌≡◌, eqb};
 ghost use Rattle.definitions.specs.Answers.{count_of, edges_of};
 ghost use Rattle.definitions.specs.Bytes.{Records};
 ghost use Rattle.definitions.specs.Clashes.{few};
@@ -11,38 +11,27 @@ ghost use Rattle.judge_possible.specs.Possible.{judge_possible};
 ghost use Rattle.clash_filter.specs.Sheets.{Completed, Recorded};
 ghost use Rattle.clash_sheet.specs.Reports.{Answered, EdgeWords, FewReturned, Handed, Held, Holding, RecordWords};
 
-use definitions::{MOST_EDGES, MOST_RECORDS, Reading, Refusal, Status, Tally};
+use data_lists::Edges;
+use definitions::{MOST_EDGES, MOST_RECORDS, Refusal};
 use judge_possible::judge_possible;
 
 // Adjacency lists of all edges that there may be (see the crate data_lists).
 const MOST_LISTED: usize = 64 + 2 * MOST_EDGES + 1;
 
-// These numbers, over the front of those that are lent.
-fn copy(numbers: &[u32], list: &mut [u32])
-    requires { length numbers.now ≤ length list.old }
-    ensures { list.new ≡ numbers.now ++ drop (length numbers.now) list.old }
-{
-    let mut i = 0;
-    while i < numbers.len() {
-        list[i] = numbers[i];
-        i += 1;
-    }
-}
-
-// The same where there is room. Refuses 14.
-fn hand_out(numbers: &[u32], list: &mut [u32]) -> Tally
+// These numbers, over the front of those that are lent, where there is room. Refuses 14.
+fn hand_out(numbers: &[u32], list: &mut [u32]) -> Result<usize, Refusal>
     ensures { Handed numbers.now list.old result list.new }
 {
     let count = numbers.len();
     if list.len() < count {
-        return Tally::Refused(Refusal::TooShort);
+        return Err(Refusal::TooShort);
     }
-    copy(numbers, list);
-    Tally::Count(count)
+    list[..count].copy_from_slice(numbers);
+    Ok(count)
 }
 
 // The report of the records that these words are of, at the front of the list. Refuses 14.
-fn report(es: &[u64], records: usize, n: usize, list: &mut [u32]) -> Tally
+fn report(es: &[u64], records: usize, n: usize, list: &mut [u32]) -> Result<usize, Refusal>
     requires { RecordWords n records es.now }
     ensures { (q : Records) → Recorded q n records es.now → Handed (few q) list.old result list.new }
 {
@@ -52,20 +41,21 @@ fn report(es: &[u64], records: usize, n: usize, list: &mut [u32]) -> Tally
 }
 
 // Refusals 8, 10 and 11 of the sheet of n steps that has these edges.
-fn judge(es: &[u64], n: usize) -> Status
+fn judge(es: &[u64], n: usize) -> Result<(), Refusal>
     requires { EdgeWords n es.now }
     ensures { (q : Records) → Completed q n (graph es.now) → status_of result tt ≡ judge_possible (count_of q) (edges_of q) }
 {
     let mut lists = [0u16; MOST_LISTED];
     data_lists::list(es, &mut lists);
-    judge_possible(es, &lists, n)
+    let lists = &lists;
+    judge_possible(Edges { words: es, lists }, n)
 }
 
 // Whether a refusal is 8.
 fn is_circle(k: Refusal) -> bool
     ensures { result ≡ eqb (number k) 8 }
 {
-    data_numbers::refusal_number(k) == 8
+    matches!(k, Refusal::ForwardCycle)
 }
 
 // What is answered of a sheet that was read: the first `count` words are of its edges, and the first `linked` of these of its records. Refuses 8, 31 and 14.
@@ -76,15 +66,15 @@ fn clashes_of(
     records: usize,
     n: usize,
     list: &mut [u32],
-) -> Tally
+) -> Result<usize, Refusal>
     requires { Held words.now count linked records n }
     ensures { (q : Records) → Holding q words.now count linked records n → Answered q list.old result list.new }
 {
     match judge(&words[..count], n) {
-        Status::Done => Tally::Refused(Refusal::NotImpossible),
-        Status::Refused(k) => {
+        Ok(()) => Err(Refusal::NotImpossible),
+        Err(k) => {
             if is_circle(k) {
-                return Tally::Refused(k);
+                return Err(k);
             }
             report(&words[..linked], records, n, list)
         }
@@ -94,16 +84,12 @@ fn clashes_of(
 // The few records that clash of a sheet refused as 10 or 11, whatever its bytes: from the last record to the first each one is dropped whose loss leaves it refused so. The numbers of those that stay, counted from 0 and
 // rising, stand at the front of the list then, and their count is answered; those past them stay as lent.
 // Refuses what reading refuses, 1 to 7 and 26, then 8, then 31 where the sheet is not refused as 10 or 11, then 14 where the list is shorter than the report. Nothing changes on a refusal.
-pub fn clashes(s: &[u8], list: &mut [u32]) -> Tally
+pub fn clashes(s: &[u8], list: &mut [u32]) -> Result<usize, Refusal>
     ensures { FewReturned s.now list.old result list.new }
 {
     let mut words = [0u64; MOST_EDGES];
     let mut leasts = [0u16; 64];
-    let report = read_sheet::read(s, &mut words, &mut leasts);
-    let reading = report.reading;
-    if let Reading::Refused(fault) = reading {
-        return Tally::Refused(fault);
-    }
+    let report = read_sheet::read(s, &mut words, &mut leasts)?;
     clashes_of(
         &words,
         report.count,

@@ -3,7 +3,8 @@
 
 ghost use Rattle.std.specs.Prelude.{◌≡◌, not, ◌&&◌, ◌||◌, ℕ, ◌<◌, eqb};
 ghost use Rattle.definitions.specs.Basics.{test_bit};
-ghost use Rattle.data_bits.specs.Members.{Lowest, Highest};
+ghost use Rattle.std.specs.Iterator.{at_most};
+ghost use Rattle.data_bits.specs.Members.{Lowest, Highest, NextMember};
 
 // Whether k is a member.
 pub fn has(m: u64, k: usize) -> bool
@@ -62,4 +63,35 @@ pub fn highest(m: u64) -> usize
     ensures { Highest m result }
 {
     63 - (u64::leading_zeros(m) as usize)
+}
+
+// The members of a set, lowest first.
+#[derive(Drop)]
+pub struct EachMember {
+    // Those that are still to come.
+    left: u64,
+}
+
+// The members of a set, lowest first.
+pub fn members(m: u64) -> EachMember
+    ensures { result.left ≡ m }
+{
+    EachMember { left: m }
+}
+
+impl Iterator for EachMember {
+    type Item = usize;
+
+    ghost next_gives = { λ s r t. NextMember s.left r t.left };
+
+    ghost remaining = { λ s. at_most s.left };
+
+    fn next(&mut self) -> Option<usize> {
+        if self.left == 0 {
+            return None;
+        }
+        let k = lowest(self.left);
+        self.left = without_lowest(self.left);
+        Some(k)
+    }
 }

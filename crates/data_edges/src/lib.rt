@@ -1,5 +1,5 @@
 // Edges held as words: specs/Words.antt has their layout, with its reasons.
-#![tactic(auto)]
+#![tactic(auto, unfolding(crate::specs::Words::unpack))]
 
 ghost use Rattle.std.specs.Prelude.{◌≡◌, not, ◌&&◌, ℕ, ◌<◌};
 ghost use Rattle.definitions.specs.Basics.{test_bit};

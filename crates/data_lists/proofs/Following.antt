@@ -10,7 +10,7 @@ use lib.ListN.{length, get_or}
 use Rattle.definitions.specs.Links.{Edge, Graph, ◌⊑◌, members}
 use Rattle.data_edges.specs.Words.{graph, unpack}
 use Rattle.data_edges.proofs.Places.{graph_at, graph_place}
-use Rattle.data_lists.specs.Lists.{Lists, last_from}
+use Rattle.data_lists.specs.Lists.{EdgeOut, Lists, last_from}
 use Rattle.data_lists.proofs.Laws.{last_below, last_leaves, last_skips}
 
 -- The edges at place k or a later one of the list.
@@ -70,6 +70,15 @@ following_next {es = es} {lists = lists} {k = k} A some L h =
     ∙ A.nexts (k - 1) (omega (arith, L.few))
     ∙ ap (λ (v : ℕ). last_from es v (k - 1)) (L.leaves some)
 
+-- An edge of a list, and what follows it there.
+pub edge_out : {es lists : List ℕ} {k x : ℕ} → Lists es lists → 1 ≤ k → k ≤ length es → x ≡ get_or lists (64 + (k - 1)) 0 → EdgeOut es k (k - 1) x
+edge_out {k = k} A some few h =
+    record { place = omega arith; inside = omega arith; follows = h ∙ A.nexts (k - 1) (omega arith) }
+
+-- What follows it comes before it.
+pub edge_out_less : {es : List ℕ} {k i k' : ℕ} → EdgeOut es k i k' → k' < k
+edge_out_less {es} {i = i} N = omega (arith, N.place, N.follows, last_below es (unpack (get_or es i 0)).from i)
+
 -- A turn: what holds of the edges behind k comes to hold of those and edge k - 1, and so of all behind the one that follows it.
 pub following_turn : {Q Q' : Graph → Type 0} {es : List ℕ} {u k k' : ℕ} → 1 ≤ k → k' ≡ last_from es u (k - 1) → ((G : Graph) → Adds u (Behind es k) (unpack (get_or es (k - 1) 0)) G → Q (Behind es k) → Q' G) → Following Q es u k → Following Q' es u k'
 following_turn {es = es} {u = u} {k = k} {k' = k'} some next more L =
@@ -86,6 +95,19 @@ following_turn {es = es} {u = u} {k = k} {k' = k'} some next more L =
 
     adds : Adds u (Behind es k) (unpack (get_or es (k - 1) 0)) (Behind es k')
     adds = record { leaves = L.leaves some; old = old; new = new; split = λ e b o. behind_split es u k k' next e o b }
+
+-- The edge that a list gives leaves its step.
+pub given_leaves : {Q : Graph → Type 0} {es : List ℕ} {u k i k' : ℕ} → EdgeOut es k i k' → Following Q es u k → (unpack (get_or es i 0)).from ≡ u
+given_leaves {es = es} {k = k} {i = i} N L =
+    let own : i ≡ k - 1 = omega (arith, N.place) in
+    ap (λ (j : ℕ). (unpack (get_or es j 0)).from) own ∙ L.leaves (omega (arith, N.place))
+
+-- A turn with the edge that a list gives.
+pub following_given : {Q Q' : Graph → Type 0} {es : List ℕ} {u k i k' : ℕ} → EdgeOut es k i k' → ((G : Graph) → Adds u (Behind es k) (unpack (get_or es i 0)) G → Q (Behind es k) → Q' G) → Following Q es u k → Following Q' es u k'
+following_given {es = es} {k = k} {i = i} N more L =
+    let own : i ≡ k - 1 = omega (arith, N.place) in
+    let next = N.follows ∙ ap (λ (v : ℕ). last_from es v i) (given_leaves N L) ∙ ap (last_from es _) own in
+    following_turn (omega (arith, N.place)) next (rw own at more) L
 
 -- What falls.
 pub following_less : {Q : Graph → Type 0} {es : List ℕ} {u k k' : ℕ} → 1 ≤ k → k' ≡ last_from es u (k - 1) → Following Q es u k → k' < k

@@ -1,7 +1,7 @@
 -- Adjacency lists of edge words by their start, in one array: place u, below 64, is the head of the list of step u, place 64 + i is what follows edge i.
 -- Behind them stand the returns, the words of backward edges, rising, from place 64 + length es on.
 -- A place holds one more than the index of an edge, or 0 at the end.
-use Rattle.std.specs.Prelude.{◌≡◌, Bool, true, cond, List, ℕ, zero, suc, ◌+◌, ◌<◌, ◌≤◌, eqb, length, get_or, set}
+use Rattle.std.specs.Prelude.{◌≡◌, Bool, true, cond, List, ℕ, zero, suc, ◌+◌, ◌-◌, ◌<◌, ◌≤◌, eqb, length, get_or, set, Option, MatchOption}
 use Rattle.definitions.specs.Limits.{most_edges, most_steps}
 use Rattle.data_edges.specs.Words.{Light, unpack}
 
@@ -28,12 +28,6 @@ pub record Lists (es lists : List ℕ) : Type 0 where
   pub last : get_or lists (return_place es (length es)) 0 ≡ 0
   pub long : 64 + length es + length es < length lists
 
--- What an analysis is given: the edges of a sheet of n steps, with their adjacency lists.
-pub record WithLists (n : ℕ) (es lists : List ℕ) : Type 0 where
-  pub some : 1 ≤ n
-  pub few : n ≤ most_steps
-  pub listed : Lists es lists
-
 -- No step's list has an edge yet.
 abbrev pub Empty : List ℕ → Type 0
 Empty lists = (u : ℕ) → u < 64 → get_or lists u 0 ≡ 0
@@ -53,3 +47,29 @@ put_first lists from k = set (set lists (64 + k) (get_or lists from 0)) from (k 
 pub record Appended (back : Bool) (at k : ℕ) (lists lists' : List ℕ) (r : ℕ) : Type 0 where
   pub put : lists' ≡ set lists at (k + 1)
   pub next : r ≡ cond back (at + 1) at
+
+-- A loop over the edges that leave a step, from the last one on: k is one more than the index of the one that comes next, 0 at the end. That is edge i, behind which comes k'.
+pub record EdgeOut (es : List ℕ) (k i k' : ℕ) : Type 0 where
+  pub place : k ≡ suc i
+  pub inside : i < length es
+  pub follows : k' ≡ last_from es (unpack (get_or es i 0)).from i
+
+abbrev pub NextOut : List ℕ → ℕ → Option ℕ → ℕ → Type 0
+NextOut es k r k' = MatchOption r (k ≡ 0) (λ i. EdgeOut es k i k')
+
+-- A loop over the returns, from the first one on: k, which stands at place `at`, is one more than the index of the one that comes next, 0 at the end.
+pub record AtReturn (es : List ℕ) (at k : ℕ) : Type 0 where
+  pub few : k ≤ length es
+  pub stands : 1 ≤ k → at ≡ return_place es (k - 1)
+  pub back : 1 ≤ k → (unpack (get_or es (k - 1) 0)).back ≡ true
+
+-- The return that comes next is edge i, behind which stands k' at place at'.
+pub record ReturnOut (es lists : List ℕ) (at k i at' k' : ℕ) : Type 0 where
+  pub place : k ≡ suc i
+  pub inside : i < length es
+  pub back : (unpack (get_or es i 0)).back ≡ true
+  pub behind : at' ≡ at + 1
+  pub follows : k' ≡ get_or lists at' 0
+
+abbrev pub NextReturn : List ℕ → List ℕ → ℕ → ℕ → Option ℕ → ℕ → ℕ → Type 0
+NextReturn es lists at k r at' k' = MatchOption r (k ≡ 0) (λ i. ReturnOut es lists at k i at' k')

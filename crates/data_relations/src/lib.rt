@@ -10,12 +10,10 @@ pub fn has_loop(rows: &[u64; 64], n: usize) -> bool
     requires { n ≤ 64 }
     ensures { result ≡ any_below (λ v. row_bit rows.now v v) n }
 {
-    let mut v = 0;
-    while v < n {
+    for v in 0..n {
         if data_bits::has(rows[v], v) {
             return true;
         }
-        v += 1;
     }
     false
 }
@@ -25,12 +23,8 @@ fn spread(out: &mut [u64], m: u64, v: usize)
     requires { (v < 64) × (length out.old ≡ 64) }
     ensures { Spread m v out.old out.new }
 {
-    let mut left = m;
-    while left != 0 {
-        let k = data_bits::lowest(left);
-        let row = data_bits::insert(out[k], v);
-        out[k] = row;
-        left = data_bits::without_lowest(left);
+    for k in data_bits::members(m) {
+        out[k] = data_bits::insert(out[k], v);
     }
 }
 
@@ -39,9 +33,7 @@ pub fn transpose(rows: &[u64; 64], n: usize, out: &mut [u64; 64])
     requires { (n ≤ 64) × (out.old ≡ replicate 64 0) }
     ensures { (v k : ℕ) → row_bit out.new k v ≡ (ltb v n && row_bit rows.now v k) }
 {
-    let mut i = 0;
-    while i < n {
+    for i in 0..n {
         spread(out, rows[i], i);
-        i += 1;
     }
 }

@@ -1,15 +1,11 @@
 -- "A sheet in bytes", and the refusals 1 to 7 of "From the input"; with the gap of request L1, the least duration of request L6, and the limit from the finish and 26 of request L11.
-use Rattle.std.specs.Prelude.{Bool, true, false, not, ◌&&◌, ◌||◌, List, [], ◌∷◌, ℕ, zero, suc, ◌+◌, ◌*◌, eqb, leb, ltb}
+use Rattle.std.specs.Prelude.{Bool, true, false, not, ◌&&◌, ◌||◌, List, [], ◌∷◌, ℕ, zero, suc, ◌+◌, ◌*◌, eqb, leb, ltb, None, Option, Some}
 use Rattle.definitions.specs.Limits.{most_steps, most_records}
 use Rattle.definitions.specs.Basics.{test_bit, Outcome, given, refused, when_given}
 use Rattle.definitions.specs.declared.Delay.{Delay}
 use Rattle.definitions.specs.declared.Delay.TheVariants.{Open, Fixed}
 use Rattle.definitions.specs.declared.Operation.{Operation}
-use Rattle.definitions.specs.declared.Bound.{Bound}
-use Rattle.definitions.specs.declared.Bound.TheVariants.{Absent, Ticks}
 use Rattle.definitions.specs.declared.Link.{Link}
-use Rattle.definitions.specs.declared.Previous.{Previous}
-use Rattle.definitions.specs.declared.Previous.TheVariants.{Nothing, Pair}
 
 -- What a parser takes from the front of the bytes: a value and the bytes after it.
 pub record Taken (A : Type 0) : Type 0 where
@@ -52,9 +48,9 @@ unfoldable pub ticks_if : Bool → Parser ℕ
 ticks_if true = two_bytes
 ticks_if false = give 0
 
-unfoldable pub bound_from : Bool → ℕ → Bound
-bound_from true ticks = Ticks ticks
-bound_from false ticks = Absent
+unfoldable pub bound_from : Bool → ℕ → Option ℕ
+bound_from true ticks = Some ticks
+bound_from false ticks = None
 
 -- A step record: a bit map, then the fields whose bit stands. Bit 0: open; bit 1: a fixed duration; neither: duration 0; both are not allowed. The map of step 0 is 01. Bit 2, only with bit 0 and not on
 -- step 0: the least duration of an open step. So the other steps have 00, 01, 02 or 05; no other bit is known.
@@ -88,9 +84,12 @@ unfoldable pub endpoints : ℕ → ℕ → ℕ → Bool
 endpoints n i j = ltb i n && ltb j n && not (eqb i j)
 
 -- 6: pairs rise strictly, by i, then by j.
+abbrev pub Previous : Type 0
+Previous = Option (ℕ × ℕ)
+
 unfoldable pub rises : Previous → ℕ → ℕ → Bool
-rises Nothing i j = true
-rises (Pair i₀ j₀) i j = ltb i₀ i || eqb i₀ i && ltb j₀ j
+rises None i j = true
+rises (Some (i₀, j₀)) i j = ltb i₀ i || eqb i₀ i && ltb j₀ j
 
 -- The map is judged first, 4 and then 26; then 5, then 6, then the fields.
 unfoldable pub link : ℕ → Previous → Parser Link
@@ -120,10 +119,10 @@ unfoldable pub operations : ℕ → Parser (List Operation)
 operations n = records operation (λ o. false) n true
 
 unfoldable pub pair_of : Link → Previous
-pair_of l = Pair l.from l.to
+pair_of l = Some (l.from, l.to)
 
 unfoldable pub links : ℕ → ℕ → Parser (List Link)
-links n r = records (link n) pair_of r Nothing
+links n r = records (link n) pair_of r None
 
 -- 7: bytes follow the last record.
 unfoldable pub at_end : Parser (Unit {0})
@@ -152,4 +151,4 @@ read s = when_given (sheet s) (λ t. given t.value)
 
 -- What stands where no step does lasts 0 ticks.
 abbrev pub blank_operation : Operation
-blank_operation = record { delay = Fixed 0; least = Absent }
+blank_operation = record { delay = Fixed 0; least = None }

@@ -1,9 +1,8 @@
 -- Request L14, "The few records that clash": the part of an impossible sheet's link records that stays when from the last to the first each one is dropped that is not needed.
-use Rattle.std.specs.Prelude.{Bool, true, false, cond, not, ◌||◌, List, [], ◌∷◌, ◌++◌, map, ℕ, zero, suc, eqb, length, get_or}
+use Rattle.std.specs.Prelude.{Bool, true, false, cond, not, ◌||◌, List, [], ◌∷◌, ◌++◌, map, ℕ, zero, suc, eqb, length, get_or, None}
 use Rattle.definitions.specs.Basics.{tabulate, Outcome, given, refused, refuse_if}
 use Rattle.definitions.specs.Bytes.{Records, read}
 use Rattle.definitions.specs.Answers.{closes_circle, count_of, edges_of, judge_records, Written, written, too_short}
-use Rattle.definitions.specs.declared.Bound.TheVariants.{Absent}
 use Rattle.definitions.specs.declared.Link.{Link}
 
 -- "Refused as 10 or 11": impossible.
@@ -17,7 +16,7 @@ impossible q = is_impossible (judge_records q true)
 
 -- What stands where no record does.
 abbrev pub blank_link : Link
-blank_link = record { from = 0; to = 0; sequencing = false; minimum = Absent; maximum = Absent; gap = Absent; latest = Absent }
+blank_link = record { from = 0; to = 0; sequencing = false; minimum = None; maximum = None; gap = None; latest = None }
 
 -- The numbers below k, rising: the records before record k.
 abbrev pub numbers_below : ℕ → List ℕ

@@ -1,13 +1,11 @@
 -- "What links mean": links, the start times that keep them, the edges that they are, and walks.
-use Rattle.std.specs.Prelude.{◌≡◌, Bool, true, false, not, ◌&&◌, ◌≢◌, ℕ, zero, suc, ◌+◌, ◌≤◌, eqb, length, get_or}
+use Rattle.std.specs.Prelude.{◌≡◌, Bool, true, false, not, ◌&&◌, ◌≢◌, ℕ, zero, suc, ◌+◌, ◌≤◌, eqb, length, get_or, None, Option, Some}
 use mathlib.Core.List.{List, [], ◌∷◌, ◌++◌, Memᴰ, map, flat_map}
 use Rattle.definitions.specs.Basics.{any, without, select_below}
 use Rattle.definitions.specs.Bytes.{Records, blank_operation}
 use Rattle.definitions.specs.declared.Delay.{Delay}
 use Rattle.definitions.specs.declared.Delay.TheVariants.{Open, Fixed}
 use Rattle.definitions.specs.declared.Operation.{Operation}
-use Rattle.definitions.specs.declared.Bound.{Bound}
-use Rattle.definitions.specs.declared.Bound.TheVariants.{Absent, Ticks}
 use Rattle.definitions.specs.declared.Link.{Link}
 
 -- A link on a pair (i, j): after, with a gap g (request L1), at least m, at most u, and at most u from the finish (request L11).
@@ -22,22 +20,22 @@ unfoldable pub sequencing_of : ℕ → ℕ → Bool → ℕ → List Constraint
 sequencing_of i j true g = sequencing i j g ∷ []
 sequencing_of i j false g = []
 
-unfoldable pub minimum_of : ℕ → ℕ → Bound → List Constraint
-minimum_of i j (Ticks m) = minimum i j m ∷ []
-minimum_of i j Absent = []
+unfoldable pub minimum_of : ℕ → ℕ → Option ℕ → List Constraint
+minimum_of i j (Some m) = minimum i j m ∷ []
+minimum_of i j None = []
 
-unfoldable pub maximum_of : ℕ → ℕ → Bound → List Constraint
-maximum_of i j (Ticks u) = maximum i j u ∷ []
-maximum_of i j Absent = []
+unfoldable pub maximum_of : ℕ → ℕ → Option ℕ → List Constraint
+maximum_of i j (Some u) = maximum i j u ∷ []
+maximum_of i j None = []
 
-unfoldable pub finish_maximum_of : ℕ → ℕ → Bound → List Constraint
-finish_maximum_of i j (Ticks u) = finish_maximum i j u ∷ []
-finish_maximum_of i j Absent = []
+unfoldable pub finish_maximum_of : ℕ → ℕ → Option ℕ → List Constraint
+finish_maximum_of i j (Some u) = finish_maximum i j u ∷ []
+finish_maximum_of i j None = []
 
 -- The ticks of a field, the gap of an after link or a least duration: 0 where none is said.
-unfoldable pub ticks_said : Bound → ℕ
-ticks_said (Ticks g) = g
-ticks_said Absent = 0
+unfoldable pub ticks_said : Option ℕ → ℕ
+ticks_said (Some g) = g
+ticks_said None = 0
 
 -- The links of a record, and of all records of a sheet.
 unfoldable pub link_constraints : Link → List Constraint
@@ -88,7 +86,7 @@ unfoldable pub duration : List Operation → (ℕ → ℕ) → ℕ → ℕ
 duration os d i = duration_with d i (delay_at os i)
 
 -- The least duration of a step (request L6). Only an open step other than 0 has one.
-unfoldable pub least_with : ℕ → Delay → Bound → ℕ
+unfoldable pub least_with : ℕ → Delay → Option ℕ → ℕ
 least_with i (Fixed ticks) said = 0
 least_with zero Open said = 0
 least_with (suc i) Open said = ticks_said said

@@ -1,6 +1,6 @@
 -- "Marked and unmarked sheets": the sheets marked ★ in document 01, and sheets of ours for readings that those do not tell apart and for requests L11, L1, L3, L6 and L14. One table, proved against the definitions in one go; one more for the calls of L14.
 -- And one of parts for the writer of request L4, and one of prices for request L5.
-use Rattle.std.specs.Prelude.{◌≡◌, refl, Bool, true, false, ℕ, ◌+◌, length, replicate}
+use Rattle.std.specs.Prelude.{◌≡◌, refl, Bool, true, false, ℕ, ◌+◌, length, replicate, None, Option, Some}
 use mathlib.Core.List.{List, [], ◌∷◌, ◌++◌, map, flat_map}
 use Rattle.definitions.specs.Limits.{most_steps}
 use Rattle.definitions.specs.Basics.{any, all, without, any_below, all_below, tabulate, select_below, largest, sum_below, test_bit, bits_below, Outcome, given, refused, refuse_if, when_given}
@@ -9,17 +9,14 @@ use Rattle.definitions.specs.Links.{sequencing_of, minimum_of, maximum_of, finis
 use Rattle.definitions.specs.Rounds.{extend, raise, round, rounds, stable, source_row, seed, seeds, after_row, bares, reaches, after_reaches}
 use Rattle.definitions.specs.Anchors.{in_anchor_set}
 use Rattle.definitions.specs.Waits.{WaitPair, waits_for, waits_of, wait_list, wait_count, needs_waits, serialized, wait_pair}
-use Rattle.definitions.specs.Plan.{first_row, offset_row, offset, start_from, start_turns, start_times, overrides, decides, plan_entry, plan_row, plan_rows, plan_table, delay_limit, delay_wrong, delays_wrong}
+use Rattle.definitions.specs.Plan.{first_row, offset_row, offset, start_from, start_turns, start_times, overrides, decides, plan_entry, plan_row, plan_rows, plan_table, delay_limit, delay_wrong, delays_wrong, undecided}
 use Rattle.definitions.specs.Answers.{closes_circle, infeasible, inconsistent, unserializable, judge_edges, edges_of, serialized_of, judge_records, Written, written, too_short, starts_verdict, starts_read, starts_answer, plan_verdict, plan_read, planned, open_map, beginning, steps_read, steps_answer, bad_count}
 use Rattle.definitions.specs.Clashes.{is_impossible, impossible, part_of, drop_records, few, few_verdict, few_read, few_answer}
-use Rattle.definitions.specs.Plan.{undecided}
 use Rattle.definitions.specs.Writer.{two_bytes_of, field_of, bit_of, duration_of, open_bit, operation_map_of, operation_bytes, link_map_of, link_bytes, put_in, rising, sheet_bytes, steps_mapped, bad_maps, unsequenced, bad_ends, same_pair, comes_twice, parts_short, write_verdict, write_answer}
 use Rattle.definitions.specs.Price.{power_from, printed_entry, printed_table, entry_at, stands_at, largest_offset, registers_of, comparisons_of, too_large, price_of, plan_of, price_records, price_judged, price_verdict, Priced, price_when, price_read, price_answer, registers_text, comparisons_text, price_text, report_when, report_read, price_report}
 use Rattle.definitions.specs.Dispatcher.{entry, names, due, ready, starting, start_ticks, Progress, sweep, begun, not_running, kept_leasts, fresh, with_source, begin, ticked, tick, cannot_finish, too_early, ended, finish, state_after, called}
 use Rattle.definitions.specs.declared.Delay.TheVariants.{Open, Fixed}
 use Rattle.definitions.specs.declared.Operation.{Operation}
-use Rattle.definitions.specs.declared.Bound.{Bound}
-use Rattle.definitions.specs.declared.Bound.TheVariants.{Absent, Ticks}
 use Rattle.definitions.specs.declared.Link.{Link}
 use Rattle.definitions.specs.declared.Call.{Call}
 use Rattle.definitions.specs.declared.Call.TheVariants.{Begin, Tick, Finish}
@@ -537,37 +534,37 @@ abbrev parts_refused : List Operation → List Link → ℕ → ℕ → WorkedWr
 parts_refused steps links room k = counts_refused (length steps) (length links) steps links room k
 
 abbrev open_step : Operation
-open_step = record { delay = Open; least = Absent }
+open_step = record { delay = Open; least = None }
 
 abbrev slow_step : ℕ → Operation
-slow_step l = record { delay = Open; least = Ticks l }
+slow_step l = record { delay = Open; least = Some l }
 
 abbrev fixed_step : ℕ → Operation
-fixed_step x = record { delay = Fixed x; least = Absent }
+fixed_step x = record { delay = Fixed x; least = None }
 
 -- A record: whether it has an after link, at least, at most, the gap, at most from the finish.
-abbrev record_of : ℕ → ℕ → Bool → Bound → Bound → Bound → Bound → Link
+abbrev record_of : ℕ → ℕ → Bool → Option ℕ → Option ℕ → Option ℕ → Option ℕ → Link
 record_of i j after least most gap latest = record { from = i; to = j; sequencing = after; minimum = least; maximum = most; gap = gap; latest = latest }
 
 abbrev after : ℕ → ℕ → Link
-after i j = record_of i j true Absent Absent Absent Absent
+after i j = record_of i j true None None None None
 
 -- The stand sheet's parts, its records from the last to the first.
 abbrev stand_steps : List Operation
 stand_steps = open_step ∷ fixed_step 3 ∷ open_step ∷ fixed_step 2 ∷ fixed_step 1 ∷ []
 
 abbrev stand_links : List Link
-stand_links = record_of 3 4 true Absent (Ticks 2) Absent Absent ∷ after 2 3 ∷ after 1 4 ∷ after 0 2 ∷ after 0 1 ∷ []
+stand_links = record_of 3 4 true None (Some 2) None None ∷ after 2 3 ∷ after 1 4 ∷ after 0 2 ∷ after 0 1 ∷ []
 
 -- Three steps, to which the records with a fault belong.
 abbrev three : List Operation
 three = open_step ∷ open_step ∷ fixed_step 0 ∷ []
 
 abbrev empty : ℕ → ℕ → Link
-empty i j = record_of i j false Absent Absent Absent Absent
+empty i j = record_of i j false None None None None
 
 abbrev limit_alone : ℕ → ℕ → Link
-limit_alone i j = record_of i j false Absent Absent Absent (Ticks 5)
+limit_alone i j = record_of i j false None None None (Some 5)
 
 -- The stand sheet, with room for it just so and with two bytes more; the smallest sheet; zeros, of which only the fixed duration is left out; numbers with two bytes that differ, in records out of order; faults past the counts, which are
 -- not looked at; then each refusal, and parts with more than one fault. The ends of a record are judged against N, however many steps there are.
@@ -577,34 +574,34 @@ worked_parts =
     written_as stand_steps stand_links (stand 2) 2 ∷
     written_as (open_step ∷ []) [] smallest 0 ∷
     written_as (open_step ∷ fixed_step 0 ∷ slow_step 0 ∷ [])
-    (record_of 0 2 true Absent (Ticks 0) Absent (Ticks 0) ∷ record_of 0 1 true (Ticks 0) Absent (Ticks 0) Absent ∷ [])
+    (record_of 0 2 true None (Some 0) None (Some 0) ∷ record_of 0 1 true (Some 0) None (Some 0) None ∷ [])
     (0x03 ∷ 0x02 ∷ 0x00 ∷ 0x01 ∷ 0x00 ∷ 0x05 ∷ 0x00 ∷ 0x00 ∷ 0x0b ∷ 0x00 ∷ 0x01 ∷ 0x00 ∷ 0x00 ∷ 0x00 ∷ 0x00 ∷ 0x15 ∷ 0x00 ∷ 0x02 ∷ 0x00 ∷ 0x00 ∷ 0x00 ∷ 0x00 ∷ [])
     1 ∷
     written_as (open_step ∷ fixed_step 0x0102 ∷ slow_step 0x0304 ∷ [])
-    (record_of 2 0 false (Ticks 0x1112) Absent Absent Absent ∷ record_of 1 2 true (Ticks 0x2122) (Ticks 0x2324) (Ticks 0x2526) (Ticks 0x2728) ∷ record_of 1 0 false Absent (Ticks 0x3132) Absent Absent ∷ [])
+    (record_of 2 0 false (Some 0x1112) None None None ∷ record_of 1 2 true (Some 0x2122) (Some 0x2324) (Some 0x2526) (Some 0x2728) ∷ record_of 1 0 false None (Some 0x3132) None None ∷ [])
     (0x03 ∷ 0x03 ∷ 0x00 ∷ 0x01 ∷ 0x02 ∷ 0x02 ∷ 0x01 ∷ 0x05 ∷ 0x04 ∷ 0x03 ∷
     0x04 ∷ 0x01 ∷ 0x00 ∷ 0x32 ∷ 0x31 ∷
     0x1f ∷ 0x01 ∷ 0x02 ∷ 0x22 ∷ 0x21 ∷ 0x24 ∷ 0x23 ∷ 0x26 ∷ 0x25 ∷ 0x28 ∷ 0x27 ∷
     0x02 ∷ 0x02 ∷ 0x00 ∷ 0x12 ∷ 0x11 ∷ [])
     0 ∷
-    counts_written 2 1 (open_step ∷ fixed_step 0 ∷ record { delay = Fixed 1; least = Ticks 1 } ∷ []) (after 0 1 ∷ empty 0 0 ∷ limit_alone 5 1 ∷ after 0 1 ∷ []) (0x02 ∷ 0x01 ∷ 0x00 ∷ 0x01 ∷ 0x00 ∷ 0x01 ∷ 0x00 ∷ 0x01 ∷ []) 1 ∷
+    counts_written 2 1 (open_step ∷ fixed_step 0 ∷ record { delay = Fixed 1; least = Some 1 } ∷ []) (after 0 1 ∷ empty 0 0 ∷ limit_alone 5 1 ∷ after 0 1 ∷ []) (0x02 ∷ 0x01 ∷ 0x00 ∷ 0x01 ∷ 0x00 ∷ 0x01 ∷ 0x00 ∷ 0x01 ∷ []) 1 ∷
     parts_refused [] [] 4 2 ∷
     counts_refused 65 0 (open_step ∷ []) [] 4 2 ∷
     counts_refused 0 513 [] [] 4 2 ∷
     counts_refused 1 513 (fixed_step 1 ∷ []) [] 4 3 ∷
     parts_refused (fixed_step 0 ∷ []) [] 4 4 ∷
     parts_refused (slow_step 0 ∷ []) [] 6 4 ∷
-    parts_refused (open_step ∷ record { delay = Fixed 0; least = Ticks 0 } ∷ []) [] 9 4 ∷
-    parts_refused (open_step ∷ record { delay = Fixed 1; least = Ticks 1 } ∷ []) [] 9 4 ∷
+    parts_refused (open_step ∷ record { delay = Fixed 0; least = Some 0 } ∷ []) [] 9 4 ∷
+    parts_refused (open_step ∷ record { delay = Fixed 1; least = Some 1 } ∷ []) [] 9 4 ∷
     parts_refused three (after 0 1 ∷ empty 0 2 ∷ []) 99 4 ∷
-    parts_refused three (record_of 0 1 false (Ticks 1) Absent (Ticks 1) Absent ∷ []) 99 4 ∷
-    parts_refused three (record_of 0 1 false Absent Absent (Ticks 1) (Ticks 1) ∷ []) 99 4 ∷
+    parts_refused three (record_of 0 1 false (Some 1) None (Some 1) None ∷ []) 99 4 ∷
+    parts_refused three (record_of 0 1 false None None (Some 1) (Some 1) ∷ []) 99 4 ∷
     parts_refused three (limit_alone 0 1 ∷ []) 99 26 ∷
-    parts_refused three (after 0 1 ∷ record_of 1 2 false (Ticks 1) Absent Absent (Ticks 0) ∷ []) 99 26 ∷
+    parts_refused three (after 0 1 ∷ record_of 1 2 false (Some 1) None None (Some 0) ∷ []) 99 26 ∷
     parts_refused three (after 3 1 ∷ []) 99 5 ∷
     parts_refused three (after 1 3 ∷ []) 99 5 ∷
     parts_refused three (after 0 2 ∷ after 1 1 ∷ []) 99 5 ∷
-    parts_refused three (after 0 2 ∷ after 0 1 ∷ record_of 0 2 false (Ticks 1) Absent Absent Absent ∷ []) 99 6 ∷
+    parts_refused three (after 0 2 ∷ after 0 1 ∷ record_of 0 2 false (Some 1) None None None ∷ []) 99 6 ∷
     parts_refused stand_steps stand_links 30 14 ∷
     counts_refused 4 0 three [] 99 14 ∷
     counts_refused 3 2 three (after 0 1 ∷ []) 99 14 ∷

@@ -1,5 +1,5 @@
 -- Request L4, "A sheet writer": the bytes of a sheet from its steps and link records, which may come in any order. What is written is read by Bytes.antt; the faults of the parts are its tests.
-use Rattle.std.specs.Prelude.{Bool, true, false, cond, not, ◌&&◌, ◌||◌, ℕ, zero, suc, ◌+◌, ◌/◌, ◌%◌, eqb, leb, ltb, length, take}
+use Rattle.std.specs.Prelude.{Bool, true, false, cond, not, ◌&&◌, ◌||◌, ℕ, zero, suc, ◌+◌, ◌/◌, ◌%◌, eqb, leb, ltb, length, take, None, Option, Some}
 use mathlib.Core.List.{List, [], ◌∷◌, ◌++◌, flat_map}
 use Rattle.definitions.specs.Limits.{most_steps, most_records}
 use Rattle.definitions.specs.Basics.{any, Outcome, given, refuse_if}
@@ -8,8 +8,6 @@ use Rattle.definitions.specs.Answers.{Written, written, too_short}
 use Rattle.definitions.specs.declared.Delay.{Delay}
 use Rattle.definitions.specs.declared.Delay.TheVariants.{Open, Fixed}
 use Rattle.definitions.specs.declared.Operation.{Operation}
-use Rattle.definitions.specs.declared.Bound.{Bound}
-use Rattle.definitions.specs.declared.Bound.TheVariants.{Absent, Ticks}
 use Rattle.definitions.specs.declared.Link.{Link}
 
 -- "Numbers of two bytes have the low byte first."
@@ -17,19 +15,19 @@ unfoldable pub two_bytes_of : ℕ → List ℕ
 two_bytes_of x = x % 256 ∷ x / 256 ∷ []
 
 -- A field that is there is written, 0 or not, and its bit stands: "any other field is kept, 0 or not".
-unfoldable pub field_of : Bound → List ℕ
-field_of Absent = []
-field_of (Ticks x) = two_bytes_of x
+unfoldable pub field_of : Option ℕ → List ℕ
+field_of None = []
+field_of (Some x) = two_bytes_of x
 
-unfoldable pub bit_of : Bound → ℕ → ℕ
-bit_of Absent b = 0
-bit_of (Ticks x) b = b
+unfoldable pub bit_of : Option ℕ → ℕ → ℕ
+bit_of None b = 0
+bit_of (Some x) b = b
 
 -- "A fixed duration of 0 is always left out": the field of a fixed duration, and the bits of an open and of a fixed one.
-unfoldable pub duration_of : Delay → Bound
-duration_of Open = Absent
-duration_of (Fixed zero) = Absent
-duration_of (Fixed (suc x)) = Ticks (suc x)
+unfoldable pub duration_of : Delay → Option ℕ
+duration_of Open = None
+duration_of (Fixed zero) = None
+duration_of (Fixed (suc x)) = Some (suc x)
 
 unfoldable pub open_bit : Delay → ℕ
 open_bit Open = 1

@@ -18,91 +18,70 @@ pub const LAST_TICK: u32 = 4294967295;
 pub const UNDECIDED: u32 = 4294967295;
 
 // How long a step lasts: it is open, or lasts a fixed number of ticks.
-#[derive(Clone, Copy)]
+#[derive(Clone, Copy, PartialEq, Eq)]
 pub enum Delay {
     Open,
     Fixed(u16),
 }
 
-// A number of ticks that a record has or not: a field whose bit stands.
-#[derive(Clone, Copy)]
-pub enum Bound {
-    Absent,
-    Ticks(u16),
-}
-
 // A step, and its least duration where it has one (request L6).
-#[derive(Clone, Copy)]
+#[derive(Clone, Copy, PartialEq, Eq)]
 pub struct Operation {
     pub delay: Delay,
-    pub least: Bound,
+    pub least: Option<u16>,
 }
 
-// ---- What a link record says. The reader does not hold these two: it turns each record into edges as its fields are read (DECISIONS 15). The definitions are written with them (specs/Bytes.antt, specs/Links.antt),
-// and the sheet writer of request L4 takes its records as `Link`.
-
-// A link record for the pair (from, to): after, at least, at most, the gap of the after link, and at most from the finish.
-#[derive(Clone, Copy)]
+// A link record for the pair (from, to): after, at least, at most, the gap of the after link, and at most from the finish; each number of ticks where the record has it. The reader does not hold it: it turns each
+// record into edges as its fields are read (DECISIONS 15). The definitions are written with it (specs/Bytes.antt, specs/Links.antt), and the sheet writer of request L4 takes its records as such.
+#[derive(Clone, Copy, PartialEq, Eq)]
 pub struct Link {
     pub from: u8,
     pub to: u8,
     pub sequencing: bool,
-    pub minimum: Bound,
-    pub maximum: Bound,
-    pub gap: Bound,
-    pub latest: Bound,
-}
-
-// The pair of the link record before, which the next pair has to rise above: for the definition of reading alone (`rises`), the code compares one number.
-#[derive(Clone, Copy)]
-pub enum Previous {
-    Nothing,
-    Pair(u8, u8),
+    pub minimum: Option<u16>,
+    pub maximum: Option<u16>,
+    pub gap: Option<u16>,
+    pub latest: Option<u16>,
 }
 
 // ---- What the calls answer.
 
-// The refusals 1 to 18, in their order, but for 9, which is never given since request L3; then those of later requests, 19, 20, 26, 28 and 31.
-#[derive(Clone, Copy)]
+// The refusals by their numbers: 1 to 18, but for 9, which is never given since request L3; then those of later requests, 19, 20, 26, 28 and 31.
+#[derive(Clone, Copy, PartialEq, Eq)]
 pub enum Refusal {
-    Truncated,
-    OperationCount,
-    LinkCount,
-    BadMap,
-    BadEndpoint,
-    BadOrder,
-    Trailing,
-    ForwardCycle,
-    Infeasible,
-    Inconsistent,
-    WaitsNeeded,
-    BadDelays,
-    TooShort,
-    NotBegun,
-    AlreadyBegun,
-    CannotFinish,
-    ClockEnd,
-    LargeOffset,
-    TooEarly,
-    Unsequenced,
-    Unserializable,
-    NotImpossible,
+    Truncated = 1,
+    OperationCount = 2,
+    LinkCount = 3,
+    BadMap = 4,
+    BadEndpoint = 5,
+    BadOrder = 6,
+    Trailing = 7,
+    ForwardCycle = 8,
+    Infeasible = 10,
+    Inconsistent = 11,
+    WaitsNeeded = 12,
+    BadDelays = 13,
+    TooShort = 14,
+    NotBegun = 15,
+    AlreadyBegun = 16,
+    CannotFinish = 17,
+    ClockEnd = 18,
+    LargeOffset = 19,
+    TooEarly = 20,
+    Unsequenced = 26,
+    Unserializable = 28,
+    NotImpossible = 31,
+}
+
+// How a sheet is accepted, by the verdict's number: sound as it is, or with waits.
+#[derive(Clone, Copy, PartialEq, Eq)]
+pub enum Acceptance {
+    WellPosed = 0,
+    Serialized = 1,
 }
 
 // What judging a sheet answers.
-#[derive(Clone, Copy)]
-pub enum Verdict {
-    WellPosed,
-    Serialized,
-    Refused(Refusal),
-}
-
-// What reading answers: all was read, and stands beside it; or the first fault.
-#[derive(Clone, Copy)]
-pub enum Reading {
-    Whole,
-    Refused(Refusal),
-}
+pub type Verdict = Result<Acceptance, Refusal>;
 
 // The dispatcher's state (the runner's); last in it the least durations that the run was begun with (request L6).
 #[derive(Clone, Copy)]
@@ -115,20 +94,6 @@ pub struct State {
     pub start: [u32; 64],
     pub finish: [u32; 64],
     pub least: [u16; 64],
-}
-
-// Whether a call went through.
-#[derive(Clone, Copy)]
-pub enum Status {
-    Done,
-    Refused(Refusal),
-}
-
-// How many numbers or bytes a call wrote (requests L14, L4), or its refusal.
-#[derive(Clone, Copy)]
-pub enum Tally {
-    Count(usize),
-    Refused(Refusal),
 }
 
 // The verdict, and the waits, bit a of map i, with their count: none on a refusal other than 12.
@@ -148,10 +113,10 @@ pub enum Call {
     Finish(usize),
 }
 
-// What a call of the runner returns: the state after it and the map of the steps that it started.
+// What a call of the runner returns: whether it went through, the state after it and the map of the steps that it started.
 #[derive(Clone, Copy)]
 pub struct Dispatch {
-    pub status: Status,
+    pub status: Result<(), Refusal>,
     pub state: State,
     pub map: u64,
 }

@@ -10,8 +10,7 @@ use lib.Dec.{eqb}
 use borrow.Author.Tests.{eq-eqb, ne_eqb, not-true}
 use Rattle.definitions.specs.Basics.{any, refused, refuse_if}
 use Rattle.definitions.specs.Bytes.{Records}
-use Rattle.definitions.specs.Links.{Constraint, sequencing, minimum, maximum, finish_maximum, constraints, leads_into, follows_nothing, source_link, loose_steps, completed, links_of, delay_at, duration_with, duration, least_at}
-use Rattle.definitions.specs.Links.{Keeps, KeepsAll, Edge, step, sequencing_edge, finish_edge, edge_of, edges, members, forwards}
+use Rattle.definitions.specs.Links.{Constraint, sequencing, minimum, maximum, finish_maximum, constraints, leads_into, follows_nothing, source_link, loose_steps, completed, links_of, delay_at, duration_with, duration, least_at, Keeps, KeepsAll, Edge, step, sequencing_edge, finish_edge, edge_of, edges, members, forwards}
 use Rattle.definitions.specs.Rounds.{reaches}
 use Rattle.definitions.specs.Answers.{closes_circle, judge_edges, judged, count_of, edges_of, leasts_of}
 use Rattle.definitions.specs.declared.Delay.{Delay}

@@ -1,5 +1,6 @@
 -- The edges of a sheet: what holds of each, and that start times keep a link exactly if they keep its edge. The sheet may be a rival's, of any length.
 use mathlib.Core.Path.{◌≡◌, refl, sym, ap, subst, ◌∙◌}
+use Rattle.std.specs.Prelude.{None, Option, Some}
 use mathlib.Core.Bool.{Bool, true, false, not, false≢true}
 use mathlib.Core.Logic.{◌⊎◌, inl, inr, ◌≢◌, ◌↔◌}
 use mathlib.Core.List.Memᴰ
@@ -11,16 +12,12 @@ use borrow.Author.Tests.{eq-eqb, eqb-true, ne_eqb}
 use Rattle.definitions.specs.Limits.{most_ticks, most_gain, most_first_gain, most_loss}
 use Rattle.definitions.specs.Basics.{any, select_below}
 use Rattle.definitions.specs.Bytes.{Records}
-use Rattle.definitions.specs.Links.{Constraint, sequencing, minimum, maximum, finish_maximum, sequencing_of, minimum_of, maximum_of, finish_maximum_of, ticks_said, link_constraints, constraints, delay_at, least_at, Respects}
-use Rattle.definitions.specs.Links.{leads_into, follows_nothing, source_link, loose_steps, completed, links_of}
-use Rattle.definitions.specs.Links.{duration_with, duration, Keeps, KeepsAll, Edge, sequencing_edge, finish_edge, edge_of, edges, members, ◌⊑◌}
+use Rattle.definitions.specs.Links.{Constraint, sequencing, minimum, maximum, finish_maximum, sequencing_of, minimum_of, maximum_of, finish_maximum_of, ticks_said, link_constraints, constraints, delay_at, least_at, Respects, leads_into, follows_nothing, source_link, loose_steps, completed, links_of, duration_with, duration, Keeps, KeepsAll, Edge, sequencing_edge, finish_edge, edge_of, edges, members, ◌⊑◌}
 use Rattle.definitions.specs.Rival.{Further, Extension, Lasts}
 use Rattle.definitions.specs.Answers.{count_of, leasts_of, edges_of}
 use Rattle.definitions.specs.declared.Delay.{Delay}
 use Rattle.definitions.specs.declared.Delay.TheVariants.{Open, Fixed}
 use Rattle.definitions.specs.declared.Operation.{Operation}
-use Rattle.definitions.specs.declared.Bound.{Bound}
-use Rattle.definitions.specs.declared.Bound.TheVariants.{Absent, Ticks}
 use Rattle.definitions.specs.declared.Link.{Link}
 use Rattle.laws.proofs.Bools.{and_join, bool_cases, both_ways, same_or_not}
 use Rattle.laws.proofs.Tests.{any_has, flatMap_only, select_below_has, select_below_only}
@@ -235,26 +232,26 @@ pub record LinkIs (n g : ℕ) (c : Constraint) : Type 0 where
   pub ends : Ends n c
   pub within : TicksWithin g c
 
-sequencing_is : (n g i j : ℕ) (there : Bool) (gap : Bound) (c : Constraint) → i < n → j < n → ((x : ℕ) → gap ≡ Ticks x → x ≤ g) → Memᴰ c (sequencing_of i j there (ticks_said gap)) → LinkIs n g c
+sequencing_is : (n g i j : ℕ) (there : Bool) (gap : Option ℕ) (c : Constraint) → i < n → j < n → ((x : ℕ) → gap ≡ Some x → x ≤ g) → Memᴰ c (sequencing_of i j there (ticks_said gap)) → LinkIs n g c
 unfolding sequencing_of ticks_said
-sequencing_is n g i j true (Ticks x) c a b h m = subst (LinkIs n g) (sym (Memᴰ.eq_of_singleton m)) (record { ends = (a, b); within = h x refl })
-sequencing_is n g i j true Absent c a b h m = subst (LinkIs n g) (sym (Memᴰ.eq_of_singleton m)) (record { ends = (a, b); within = omega arith })
+sequencing_is n g i j true (Some x) c a b h m = subst (LinkIs n g) (sym (Memᴰ.eq_of_singleton m)) (record { ends = (a, b); within = h x refl })
+sequencing_is n g i j true None c a b h m = subst (LinkIs n g) (sym (Memᴰ.eq_of_singleton m)) (record { ends = (a, b); within = omega arith })
 sequencing_is n g i j false gap c a b h m = absurd (Memᴰ.not-nil m)
 
-minimum_is : (n g i j : ℕ) (x : Bound) (c : Constraint) → i < n → j < n → ((m : ℕ) → x ≡ Ticks m → m ≤ g) → Memᴰ c (minimum_of i j x) → LinkIs n g c
+minimum_is : (n g i j : ℕ) (x : Option ℕ) (c : Constraint) → i < n → j < n → ((m : ℕ) → x ≡ Some m → m ≤ g) → Memᴰ c (minimum_of i j x) → LinkIs n g c
 unfolding minimum_of
-minimum_is n g i j (Ticks x) c a b h m = subst (LinkIs n g) (sym (Memᴰ.eq_of_singleton m)) (record { ends = (a, b); within = h x refl })
-minimum_is n g i j Absent c a b h m = absurd (Memᴰ.not-nil m)
+minimum_is n g i j (Some x) c a b h m = subst (LinkIs n g) (sym (Memᴰ.eq_of_singleton m)) (record { ends = (a, b); within = h x refl })
+minimum_is n g i j None c a b h m = absurd (Memᴰ.not-nil m)
 
-maximum_is : (n g i j : ℕ) (x : Bound) (c : Constraint) → i < n → j < n → ((m : ℕ) → x ≡ Ticks m → m ≤ g) → Memᴰ c (maximum_of i j x) → LinkIs n g c
+maximum_is : (n g i j : ℕ) (x : Option ℕ) (c : Constraint) → i < n → j < n → ((m : ℕ) → x ≡ Some m → m ≤ g) → Memᴰ c (maximum_of i j x) → LinkIs n g c
 unfolding maximum_of
-maximum_is n g i j (Ticks x) c a b h m = subst (LinkIs n g) (sym (Memᴰ.eq_of_singleton m)) (record { ends = (a, b); within = h x refl })
-maximum_is n g i j Absent c a b h m = absurd (Memᴰ.not-nil m)
+maximum_is n g i j (Some x) c a b h m = subst (LinkIs n g) (sym (Memᴰ.eq_of_singleton m)) (record { ends = (a, b); within = h x refl })
+maximum_is n g i j None c a b h m = absurd (Memᴰ.not-nil m)
 
-finish_is : (n g i j : ℕ) (x : Bound) (c : Constraint) → i < n → j < n → ((m : ℕ) → x ≡ Ticks m → m ≤ g) → Memᴰ c (finish_maximum_of i j x) → LinkIs n g c
+finish_is : (n g i j : ℕ) (x : Option ℕ) (c : Constraint) → i < n → j < n → ((m : ℕ) → x ≡ Some m → m ≤ g) → Memᴰ c (finish_maximum_of i j x) → LinkIs n g c
 unfolding finish_maximum_of
-finish_is n g i j (Ticks x) c a b h m = subst (LinkIs n g) (sym (Memᴰ.eq_of_singleton m)) (record { ends = (a, b); within = h x refl })
-finish_is n g i j Absent c a b h m = absurd (Memᴰ.not-nil m)
+finish_is n g i j (Some x) c a b h m = subst (LinkIs n g) (sym (Memᴰ.eq_of_singleton m)) (record { ends = (a, b); within = h x refl })
+finish_is n g i j None c a b h m = absurd (Memᴰ.not-nil m)
 
 record_is : (n : ℕ) (l : Link) (c : Constraint) → LinkFits n l → Memᴰ c (link_constraints l) → LinkIs n most_ticks c
 unfolding link_constraints

@@ -1,6 +1,8 @@
 -- The first bytes decide what is read. A parser that looks at no more than k bytes gives the same from the bytes cut at k or later; only what it leaves is cut too.
 -- The bound of each parser is the sum of the bounds of the parsers that it is built from, as their text goes.
 use mathlib.Core.Path.{◌≡◌, refl, ap, ◌∙◌}
+use Rattle.std.specs.Prelude.{None}
+use Rattle.definitions.specs.Bytes.{Previous, Taken, Parser, ◌>>=◌, ◌>>◌, give, demand, byte, two_bytes, ticks_if, operation_map, delay_from, operation, bound_from, link_map, sequenced, endpoints, rises, link, records, operations, pair_of, links, at_end, Records, sheet, read}
 use mathlib.Core.Bool.{Bool, true, false, ◌&&◌}
 use mathlib.Core.List.{List, [], ◌∷◌}
 use mathlib.Core.Logic.{◌⊎◌, inl, inr}
@@ -12,12 +14,9 @@ use lib.ListN.{take}
 use borrow.Author.Tests.{leb-true, eqb-true}
 use Rattle.definitions.specs.Limits.{most_steps, most_records, longest_sheet, longest_step, longest_record}
 use Rattle.definitions.specs.Basics.{test_bit, Outcome, given, refused, when_given}
-use Rattle.definitions.specs.Bytes.{Taken, Parser, ◌>>=◌, ◌>>◌, give, demand, byte, two_bytes, ticks_if, operation_map, delay_from, operation, bound_from, link_map, sequenced, endpoints, rises, link, records, operations, pair_of, links, at_end, Records, sheet, read}
 use Rattle.definitions.specs.Output.{listed, list_records, listing_text, standplan}
 use Rattle.definitions.specs.Price.{price_report, printed_table, report_read}
 use Rattle.definitions.specs.declared.Operation.{Operation}
-use Rattle.definitions.specs.declared.Previous.{Previous}
-use Rattle.definitions.specs.declared.Previous.TheVariants.{Nothing}
 use Rattle.laws.proofs.Bools.{and_split, or_split}
 use Rattle.demands.specs.Demands.{FrontDecides}
 
@@ -146,7 +145,7 @@ looks_operations (suc n) low high =
 
 looks_links : (n r : ℕ) → r ≤ most_records → Looks (links n r) (most_records * longest_record)
 unfolding links
-looks_links n r high = looks_more (omega arith) (looks_records (link n) pair_of longest_record (looks_link n) r Nothing)
+looks_links n r high = looks_more (omega arith) (looks_records (link n) pair_of longest_record (looks_link n) r None)
 
 -- Three bytes in front, the records, and one for the end.
 looks_sheet : Looks sheet (longest_sheet + 1)

@@ -1,5 +1,7 @@
 -- Request L1 moves nothing on sheets without a gap: what the parser before it answers, but for 4, the parser of now answers, and the edges weigh the same.
 use mathlib.Core.Path.{◌≡◌, refl, sym, ap₂, subst, ◌∙◌}
+use Rattle.std.specs.Prelude.{None, Option, Some}
+use Rattle.definitions.specs.Bytes.{Previous, give, demand, byte, two_bytes, ticks_if, link_map, sequenced, endpoints, rises, bound_from, link, operations, pair_of, links, at_end, Records, sheet, read}
 use mathlib.Core.Bool.{Bool, true, false, cond, not, ◌&&◌, ◌||◌}
 use mathlib.Core.Logic.{◌⊎◌, inl, inr, ◌≢◌}
 use mathlib.Core.List.Memᴰ
@@ -11,19 +13,12 @@ use lib.Dec.{leb}
 use borrow.Author.Tests.{leb-true, not-true}
 use Rattle.definitions.specs.Limits.{most_steps, most_records, most_ticks}
 use Rattle.definitions.specs.Basics.{all_below, test_bit, Outcome, given, refused, when_given}
-use Rattle.definitions.specs.Bytes.{give, demand, byte, two_bytes, ticks_if, link_map, sequenced, endpoints, rises, bound_from, link, operations, pair_of, links, at_end, Records, sheet, read}
-use Rattle.definitions.specs.Links.{Constraint, sequencing, minimum, maximum, finish_maximum, sequencing_of, minimum_of, maximum_of, finish_maximum_of, ticks_said, link_constraints, constraints, delay_at, least_at}
-use Rattle.definitions.specs.Links.{source_link, loose_steps, completed, links_of}
-use Rattle.definitions.specs.Links.{Edge, sequencing_edge, finish_edge, edge_of, edges, members}
+use Rattle.definitions.specs.Links.{Constraint, sequencing, minimum, maximum, finish_maximum, sequencing_of, minimum_of, maximum_of, finish_maximum_of, ticks_said, link_constraints, constraints, delay_at, least_at, source_link, loose_steps, completed, links_of, Edge, sequencing_edge, finish_edge, edge_of, edges, members}
 use Rattle.definitions.specs.Answers.{count_of, edges_of}
 use Rattle.definitions.specs.declared.Delay.{Delay}
 use Rattle.definitions.specs.declared.Delay.TheVariants.{Open, Fixed}
 use Rattle.definitions.specs.declared.Operation.{Operation}
-use Rattle.definitions.specs.declared.Bound.{Bound}
-use Rattle.definitions.specs.declared.Bound.TheVariants.{Absent, Ticks}
 use Rattle.definitions.specs.declared.Link.{Link}
-use Rattle.definitions.specs.declared.Previous.{Previous}
-use Rattle.definitions.specs.declared.Previous.TheVariants.{Nothing}
 use Rattle.laws.proofs.Bools.{and_split, or_split, same_truth}
 use Rattle.laws.proofs.Outcomes.{given_not_refused, given_same, refused_same, when_given_has}
 use Rattle.laws.proofs.Tests.{all_below_each}
@@ -71,7 +66,7 @@ agrees_sheet =
     (λ u2. agrees_bind (agrees_self two_bytes)
     (λ r. agrees_bind (agrees_self (demand (leb r most_records) 3))
     (λ u3. agrees_bind (agrees_self (operations n))
-    (λ os. agrees_bind (agrees_records (gapless_link n) (link n) pair_of (agrees_link n) r Nothing)
+    (λ os. agrees_bind (agrees_records (gapless_link n) (link n) pair_of (agrees_link n) r None)
     (λ ls. agrees_bind (agrees_self at_end)
     (λ u7. agrees_self (give (record { steps = os; pairs = ls })))))))))
 
@@ -86,7 +81,7 @@ read_same s = agree_same (agrees_read s)
 
 -- What was read before says no gap.
 abbrev NoGap : Link → Type 0
-NoGap l = l.gap ≡ Absent
+NoGap l = l.gap ≡ None
 
 abbrev NoGaps : Records → Type 0
 NoGaps q = (l : Link) → Memᴰ l q.pairs → NoGap l
@@ -114,9 +109,9 @@ takes_gapless_sheet =
     (λ u2 hn. takes_bind takes_two_bytes
     (λ r br. takes_bind (takes_demand (leb r most_records) 3 (inl (omega arith)))
     (λ u3 hr. takes_bind (takes_operations n)
-    (λ os O. takes_bind (takes_records (λ previous. NoGap) pair_of (gapless_link n) (takes_gapless n) r Nothing)
+    (λ os O. takes_bind (takes_records (λ previous. NoGap) pair_of (gapless_link n) (takes_gapless n) r None)
     (λ ls L. takes_bind takes_end
-    (λ u7 e7. takes_give (record { steps = os; pairs = ls }) (λ l m. row_each (λ previous. NoGap) pair_of NoGap (λ state x h. h) Nothing ls L.1 l m))))))))
+    (λ u7 e7. takes_give (record { steps = os; pairs = ls }) (λ l m. row_each (λ previous. NoGap) pair_of NoGap (λ state x h. h) None ls L.1 l m))))))))
 
 no_gaps : (s : List ℕ) (q : Records) → Bytes s → gapless_read s ≡ given q → NoGaps q
 unfolding gapless_read
@@ -135,25 +130,25 @@ module _ (os : List Operation) where
   sequencing_same i j l Open = let same : l + 0 ≡ l = omega arith in rw same
   sequencing_same i j l (Fixed x) = let same : x + 0 ≡ x = omega arith in rw same
 
-  after_same : (i j : ℕ) (there : Bool) (gap : Bound) → gap ≡ Absent → Same (sequencing_of i j there (ticks_said gap))
+  after_same : (i j : ℕ) (there : Bool) (gap : Option ℕ) → gap ≡ None → Same (sequencing_of i j there (ticks_said gap))
   unfolding sequencing_of ticks_said edge_of gapless_edge
   after_same i j true gap e = record { same = rw (e, sequencing_same i j (least_at os i) (delay_at os i)) }
   after_same i j false gap e = record { same = refl }
 
-  least_same : (i j : ℕ) (x : Bound) → Same (minimum_of i j x)
+  least_same : (i j : ℕ) (x : Option ℕ) → Same (minimum_of i j x)
   unfolding minimum_of gapless_edge
-  least_same i j (Ticks m) = record { same = refl }
-  least_same i j Absent = record { same = refl }
+  least_same i j (Some m) = record { same = refl }
+  least_same i j None = record { same = refl }
 
-  most_same : (i j : ℕ) (x : Bound) → Same (maximum_of i j x)
+  most_same : (i j : ℕ) (x : Option ℕ) → Same (maximum_of i j x)
   unfolding maximum_of gapless_edge
-  most_same i j (Ticks u) = record { same = refl }
-  most_same i j Absent = record { same = refl }
+  most_same i j (Some u) = record { same = refl }
+  most_same i j None = record { same = refl }
 
-  latest_same : (i j : ℕ) (x : Bound) → Same (finish_maximum_of i j x)
+  latest_same : (i j : ℕ) (x : Option ℕ) → Same (finish_maximum_of i j x)
   unfolding finish_maximum_of gapless_edge
-  latest_same i j (Ticks u) = record { same = refl }
-  latest_same i j Absent = record { same = refl }
+  latest_same i j (Some u) = record { same = refl }
+  latest_same i j None = record { same = refl }
 
   both_same : {cs ds : List Constraint} → Same cs → Same ds → Same (cs ++ ds)
   both_same {cs} {ds} c d = record { same = map-append (edge_of os) cs ds ∙ ap₂ (λ (x y : List Edge). x ++ y) c.same d.same ∙ sym (map-append (gapless_edge os) cs ds) }

@@ -1,5 +1,6 @@
 -- Request L6 moves nothing on sheets without a least: what the parser before it answers, but for 4, the parser of now answers, and with all leasts 0 nothing is added, subtracted or refused for them.
 use mathlib.Core.Path.{◌≡◌, refl, ap, fun_ext, ◌∙◌}
+use Rattle.std.specs.Prelude.{None}
 use mathlib.Core.Bool.{Bool, true, false, cond, not, ◌&&◌, ◌||◌, or-false}
 use mathlib.Core.Logic.{inl, inr, ◌≢◌}
 use mathlib.Core.List.{List, Memᴰ, map}
@@ -19,7 +20,6 @@ use Rattle.definitions.specs.Answers.{count_of, leasts_of, edges_of, serialized_
 use Rattle.definitions.specs.declared.Delay.{Delay}
 use Rattle.definitions.specs.declared.Delay.TheVariants.{Open, Fixed}
 use Rattle.definitions.specs.declared.Operation.{Operation}
-use Rattle.definitions.specs.declared.Bound.TheVariants.{Absent}
 use Rattle.laws.proofs.Bools.{same_truth}
 use Rattle.laws.proofs.Lists.{mem_at}
 use Rattle.laws.proofs.Outcomes.{given_not_refused, given_same, refused_same, when_given_has}
@@ -89,7 +89,7 @@ read_same s = agree_same (agrees_read s)
 
 -- What was read before says no least.
 abbrev NoLeast : Operation → Type 0
-NoLeast o = o.least ≡ Absent
+NoLeast o = o.least ≡ None
 
 abbrev NoLeasts : Records → Type 0
 NoLeasts q = (o : Operation) → Memᴰ o q.steps → NoLeast o
@@ -122,7 +122,7 @@ no_least_said s q b e =
     rw same at (takes_leastless_sheet.each s b r.0 r.1).0
 
 -- So each is 0.
-absent_zero : (i : ℕ) (x : Delay) → least_with i x Absent ≡ 0
+absent_zero : (i : ℕ) (x : Delay) → least_with i x None ≡ 0
 unfolding least_with ticks_said
 absent_zero zero Open = refl
 absent_zero (suc i) Open = refl

@@ -2,6 +2,8 @@
 -- order of its records.
 -- A fact about each parser is carried through the parsers that are built from it, as their text goes.
 use mathlib.Core.Path.{◌≡◌, refl, sym, ap, subst, ◌∙◌}
+use Rattle.std.specs.Prelude.{None, Option, Some}
+use Rattle.definitions.specs.Bytes.{Previous, Taken, Parser, ◌>>=◌, give, demand, byte, two_bytes, ticks_if, operation_map, delay_from, operation, link_map, sequenced, endpoints, rises, bound_from, link, records, operations, pair_of, links, at_end, Records, sheet, read, blank_operation}
 use mathlib.Core.Bool.{Bool, true, false, not, ◌&&◌, ◌||◌, false≢true}
 use mathlib.Core.Logic.{◌⊎◌, inl, inr, ◌≢◌}
 use mathlib.Core.List.Memᴰ
@@ -14,17 +16,12 @@ use lib.ListN.{length, get_or, get_or-eq_default}
 use borrow.Author.Tests.{ltb-true, leb-true, eqb-true, eqb-false, not-true}
 use Rattle.definitions.specs.Limits.{most_steps, most_records, most_ticks}
 use Rattle.definitions.specs.Basics.{all_below, test_bit, Outcome, given, refused, when_given}
-use Rattle.definitions.specs.Bytes.{Taken, Parser, ◌>>=◌, give, demand, byte, two_bytes, ticks_if, operation_map, delay_from, operation, link_map, sequenced, endpoints, rises, bound_from, link, records, operations, pair_of, links, at_end, Records, sheet, read, blank_operation}
 use Rattle.definitions.specs.Links.{delay_at, least_at, least_with, ticks_said, sequencing_of, minimum_of, maximum_of, link_constraints}
 use Rattle.definitions.specs.Clashes.{blank_link}
 use Rattle.definitions.specs.declared.Delay.{Delay}
 use Rattle.definitions.specs.declared.Delay.TheVariants.{Open, Fixed}
 use Rattle.definitions.specs.declared.Operation.{Operation}
-use Rattle.definitions.specs.declared.Bound.{Bound}
-use Rattle.definitions.specs.declared.Bound.TheVariants.{Absent, Ticks}
 use Rattle.definitions.specs.declared.Link.{Link}
-use Rattle.definitions.specs.declared.Previous.{Previous}
-use Rattle.definitions.specs.declared.Previous.TheVariants.{Nothing}
 use Rattle.laws.proofs.Bools.{and_split, or_split}
 use Rattle.laws.proofs.Lists.{mem_at}
 use Rattle.laws.proofs.Outcomes.{given_same, given_not_refused, refused_same, when_given_has}
@@ -81,7 +78,7 @@ unfolding ticks_if
 takes_ticks true = takes_two_bytes
 takes_ticks false = takes_give 0 (omega arith)
 
-pub bound_fits : (b : Bool) (ticks x : ℕ) → ticks ≤ most_ticks → bound_from b ticks ≡ Ticks x → x ≤ most_ticks
+pub bound_fits : (b : Bool) (ticks x : ℕ) → ticks ≤ most_ticks → bound_from b ticks ≡ Some x → x ≤ most_ticks
 unfolding bound_from
 bound_fits true ticks x h e = let z : ticks ≡ x = cc in omega arith
 bound_fits false ticks x h e = let z : ◌≡◌ {A = ℕ} 0 1 = cc in absurd (omega arith)
@@ -90,7 +87,7 @@ bound_fits false ticks x h e = let z : ◌≡◌ {A = ℕ} 0 1 = cc in absurd (o
 pub record OperationFits (first : Bool) (o : Operation) : Type 0 where
   pub source : first ≡ true → o.delay ≡ Open
   pub ticks : (x : ℕ) → o.delay ≡ Fixed x → x ≤ most_ticks
-  pub least_few : (x : ℕ) → o.least ≡ Ticks x → x ≤ most_ticks
+  pub least_few : (x : ℕ) → o.least ≡ Some x → x ≤ most_ticks
 
 pub delay_fits : (b : Bool) (ticks x : ℕ) → ticks ≤ most_ticks → delay_from b ticks ≡ Fixed x → x ≤ most_ticks
 unfolding delay_from
@@ -119,10 +116,10 @@ pub record LinkFits (n : ℕ) (l : Link) : Type 0 where
   pub from_below : l.from < n
   pub to_below : l.to < n
   pub apart : l.from ≢ l.to
-  pub minimum_few : (m : ℕ) → l.minimum ≡ Ticks m → m ≤ most_ticks
-  pub maximum_few : (u : ℕ) → l.maximum ≡ Ticks u → u ≤ most_ticks
-  pub gap_few : (g : ℕ) → l.gap ≡ Ticks g → g ≤ most_ticks
-  pub latest_few : (u : ℕ) → l.latest ≡ Ticks u → u ≤ most_ticks
+  pub minimum_few : (m : ℕ) → l.minimum ≡ Some m → m ≤ most_ticks
+  pub maximum_few : (u : ℕ) → l.maximum ≡ Some u → u ≤ most_ticks
+  pub gap_few : (g : ℕ) → l.gap ≡ Some g → g ≤ most_ticks
+  pub latest_few : (u : ℕ) → l.latest ≡ Some u → u ≤ most_ticks
 
 pub endpoints_fit : (n i j : ℕ) → endpoints n i j ≡ true → (i < n) × (j < n) × (i ≢ j)
 unfolding endpoints
@@ -143,7 +140,7 @@ each_says = refl
 map_said : (m : ℕ) → m < 256 → link_map m ≡ true → sequenced m ≡ true → (test_bit m 0 || test_bit m 1 || test_bit m 2) ≡ true
 map_said m b h k = rw (h, k) at (all_below_each says_something 256 each_says m b)
 
-some_link : (after least most : Bool) (i j x y : ℕ) (gap latest : Bound) → (after || least || most) ≡ true → 1 ≤ length (link_constraints (record { from = i; to = j; sequencing = after; minimum = bound_from least x; maximum = bound_from most y; gap = gap; latest = latest }))
+some_link : (after least most : Bool) (i j x y : ℕ) (gap latest : Option ℕ) → (after || least || most) ≡ true → 1 ≤ length (link_constraints (record { from = i; to = j; sequencing = after; minimum = bound_from least x; maximum = bound_from most y; gap = gap; latest = latest }))
 unfolding link_constraints sequencing_of minimum_of maximum_of bound_from
 some_link true least most i j x y gap latest h = omega arith
 some_link false true most i j x y gap latest h = omega arith
@@ -228,11 +225,11 @@ each_few os r i x e = go (dec_lt i (length os))
         omega arith
 
 -- A least is 0 or what its field says.
-least_within : (i : ℕ) (x : Delay) (b : Bound) → ((t : ℕ) → b ≡ Ticks t → t ≤ most_ticks) → least_with i x b ≤ most_ticks
+least_within : (i : ℕ) (x : Delay) (b : Option ℕ) → ((t : ℕ) → b ≡ Some t → t ≤ most_ticks) → least_with i x b ≤ most_ticks
 unfolding least_with ticks_said
 least_within zero Open b h = omega arith
-least_within (suc i) Open Absent h = omega arith
-least_within (suc i) Open (Ticks t) h = h t refl
+least_within (suc i) Open None h = omega arith
+least_within (suc i) Open (Some t) h = h t refl
 least_within zero (Fixed x) b h = omega arith
 least_within (suc i) (Fixed x) b h = omega arith
 
@@ -240,7 +237,7 @@ each_least : (os : List Operation) → Row OperationFits (λ o. false) true os �
 each_least os r i = go (dec_lt i (length os))
   where
     go : Dec (i < length os) → least_at os i ≤ most_ticks
-    go (yes h) = unfold least_at in least_within i (delay_at os i) (get_or os i blank_operation).least (row_each OperationFits (λ o. false) (λ o. (x : ℕ) → o.least ≡ Ticks x → x ≤ most_ticks) (λ state o f. f.least_few) true os r (get_or os i blank_operation) (mem_at os i blank_operation h))
+    go (yes h) = unfold least_at in least_within i (delay_at os i) (get_or os i blank_operation).least (row_each OperationFits (λ o. false) (λ o. (x : ℕ) → o.least ≡ Some x → x ≤ most_ticks) (λ state o f. f.least_few) true os r (get_or os i blank_operation) (mem_at os i blank_operation h))
     go (no h) = omega (arith, least_past os i (omega arith))
 
 -- n step records, and r link records.
@@ -248,7 +245,7 @@ abbrev StepRow : ℕ → List Operation → Type 0
 StepRow n os = (length os ≡ n) × Row OperationFits (λ o. false) true os
 
 abbrev LinkRow : ℕ → ℕ → List Link → Type 0
-LinkRow n r ls = (length ls ≡ r) × Row (LinkRead n) pair_of Nothing ls
+LinkRow n r ls = (length ls ≡ r) × Row (LinkRead n) pair_of None ls
 
 pub takes_operations : (n : ℕ) → Takes (operations n) (StepRow n)
 unfolding operations
@@ -256,7 +253,7 @@ takes_operations n = takes_records OperationFits (λ o. false) operation takes_o
 
 pub takes_links : (n r : ℕ) → Takes (links n r) (LinkRow n r)
 unfolding links
-takes_links n r = takes_records (LinkRead n) pair_of (link n) (takes_link n) r Nothing
+takes_links n r = takes_records (LinkRead n) pair_of (link n) (takes_link n) r None
 
 pub takes_end : Takes at_end (λ u. Unit {0})
 unfolding at_end
@@ -275,7 +272,7 @@ fits_by n r os ls hn O L =
     let c = and_split (leb 1 n) (leb n most_steps) hn in
     let low = leb-true 1 n c.0 in
     let high = leb-true n most_steps c.1 in
-    let links_fit = row_each (LinkRead n) pair_of (LinkFits n) (λ state x h. h.fits) Nothing ls L.1 in
+    let links_fit = row_each (LinkRead n) pair_of (LinkFits n) (λ state x h. h.fits) None ls L.1 in
     record { some = omega (arith, O.0); few = omega (arith, O.0); source = first_open os (omega (arith, O.0)) O.1; ticks = each_few os O.1; leasts = each_least os O.1; links = λ l m. rw O.0 (links_fit l m) }
 
 -- Pairs that rise have rising ranks, since no step is 64 or more.
@@ -295,8 +292,8 @@ ranks_up n few previous (x ∷ y ∷ ls) r (suc k) h = ranks_up n few (pair_of x
 
 ordered_by : (n r : ℕ) (ls : List Link) → n ≤ most_steps → LinkRow n r ls → Ordered ls
 ordered_by n r ls few L = record {
-  rises = ranks_up n few Nothing ls L.1;
-  some = λ k h. row_each (LinkRead n) pair_of (λ l. 1 ≤ length (link_constraints l)) (λ state l R. R.some) Nothing ls L.1 (get_or ls k blank_link) (mem_at ls k blank_link h);
+  rises = ranks_up n few None ls L.1;
+  some = λ k h. row_each (LinkRead n) pair_of (λ l. 1 ≤ length (link_constraints l)) (λ state l R. R.some) None ls L.1 (get_or ls k blank_link) (mem_at ls k blank_link h);
 }
 
 -- What is read of a sheet: that what a part of its records keeps, and what only the whole has.

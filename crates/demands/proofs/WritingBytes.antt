@@ -1,5 +1,6 @@
 -- Request L4: what is written are bytes, and no more of them than the longest sheet has. Part by part, as the definition puts them together.
 use mathlib.Core.Path.{◌≡◌, refl}
+use Rattle.std.specs.Prelude.{None, Option, Some}
 use mathlib.Core.Bool.{Bool, true, false}
 use mathlib.Core.Logic.{◌⊎◌, inl, inr}
 use mathlib.Core.List.Memᴰ
@@ -16,8 +17,6 @@ use Rattle.definitions.specs.Writer.{two_bytes_of, field_of, duration_of, operat
 use Rattle.definitions.specs.declared.Delay.{Delay}
 use Rattle.definitions.specs.declared.Delay.TheVariants.{Open, Fixed}
 use Rattle.definitions.specs.declared.Operation.{Operation}
-use Rattle.definitions.specs.declared.Bound.{Bound}
-use Rattle.definitions.specs.declared.Bound.TheVariants.{Absent, Ticks}
 use Rattle.definitions.specs.declared.Link.{Link}
 use Rattle.laws.proofs.Bools.{and_split, or_split}
 use Rattle.laws.proofs.Tests.{flatMap_only}
@@ -53,10 +52,10 @@ two_of : (x : ℕ) → x ≤ most_ticks → Bytes (two_bytes_of x)
 unfolding two_bytes_of
 two_of x h = one_more (omega arith) (one_more (omega arith) no_bytes)
 
-field_bytes : (b : Bound) → FieldFits b → Bytes (field_of b)
+field_bytes : (b : Option ℕ) → FieldFits b → Bytes (field_of b)
 unfolding field_of
-field_bytes Absent h = no_bytes
-field_bytes (Ticks x) h = two_of x (h x refl)
+field_bytes None h = no_bytes
+field_bytes (Some x) h = two_of x (h x refl)
 
 -- A duration that is written is the duration.
 duration_fits : (x : Delay) → ((t : ℕ) → x ≡ Fixed t → t ≤ most_ticks) → FieldFits (duration_of x)
@@ -97,10 +96,10 @@ written_bytes q N P =
 
 -- ---- lengths
 
-field_length : (b : Bound) → length (field_of b) ≡ 2 * flag (there b)
+field_length : (b : Option ℕ) → length (field_of b) ≡ 2 * flag (there b)
 unfolding field_of there two_bytes_of
-field_length Absent = refl
-field_length (Ticks x) = refl
+field_length None = refl
+field_length (Some x) = refl
 
 -- A step record has a field at most, and that of step 0 none.
 operation_length : (o : Operation) → length (operation_bytes o) ≡ 1 + 2 * flag (there (duration_of o.delay)) + 2 * flag (there o.least)
@@ -120,7 +119,7 @@ unfolding operation_map
 source_short o h = omega (arith, eqb-true (operation_map_of o) 1 h, operation_length o, (step_digits o).sum)
 
 -- A link record has four fields at most.
-field_short : (b : Bound) → length (field_of b) ≤ 2
+field_short : (b : Option ℕ) → length (field_of b) ≤ 2
 field_short b = omega (arith, field_length b, flag_small (there b))
 
 record_short : (l : Link) → length (link_bytes l) ≤ longest_record

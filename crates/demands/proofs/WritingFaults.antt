@@ -1,5 +1,6 @@
 -- Request L4: the tests for the parts' faults say what the faults are in words.
 use mathlib.Core.Path.{◌≡◌, refl, sym, ap, ◌∙◌}
+use Rattle.std.specs.Prelude.{None, Option, Some}
 use mathlib.Core.Bool.{Bool, true, false, not, ◌&&◌, ◌||◌, and-true, true≢false, false≢true}
 use mathlib.Core.Logic.{◌⊎◌, inl, inr, ◌≢◌, ◌↔◌}
 use mathlib.Core.List.Memᴰ
@@ -16,8 +17,6 @@ use Rattle.definitions.specs.Writer.{bit_of, duration_of, open_bit, operation_ma
 use Rattle.definitions.specs.declared.Delay.{Delay}
 use Rattle.definitions.specs.declared.Delay.TheVariants.{Open, Fixed}
 use Rattle.definitions.specs.declared.Operation.{Operation}
-use Rattle.definitions.specs.declared.Bound.{Bound}
-use Rattle.definitions.specs.declared.Bound.TheVariants.{Absent, Ticks}
 use Rattle.definitions.specs.declared.Link.{Link}
 use Rattle.laws.proofs.Bools.{bool_cases, same_or_not, both_ways, and_split, and_join, and_fails, or_split, or_left, or_right, or_neither, not_passing}
 use Rattle.laws.proofs.Negations.{fails_unless}
@@ -53,45 +52,45 @@ many_iff r = (ltb-true most_records r, lt-ltb most_records r)
 
 -- ---- 4: step maps
 
-abbrev made : Delay → Bound → Operation
+abbrev made : Delay → Option ℕ → Operation
 made x b = record { delay = x; least = b }
 
 abbrev IsFixed : Delay → Type 0
 IsFixed x = (t : ℕ) × (x ≡ Fixed t)
 
-abbrev HasField : Bound → Type 0
-HasField b = (t : ℕ) × (b ≡ Ticks t)
+abbrev HasField : Option ℕ → Type 0
+HasField b = (t : ℕ) × (b ≡ Some t)
 
 -- The map of step 0 is allowed unless it is fixed or has a least; that of another unless it is fixed and has one. By the cases of both.
-source_wrong : (x : Delay) (b : Bound) → operation_map true (operation_map_of (made x b)) ≡ false → IsFixed x ⊎ HasField b
+source_wrong : (x : Delay) (b : Option ℕ) → operation_map true (operation_map_of (made x b)) ≡ false → IsFixed x ⊎ HasField b
 unfolding operation_map operation_map_of open_bit bit_of duration_of
-source_wrong Open Absent h = absurd (both_ways refl h)
-source_wrong Open (Ticks t) h = inr (t, refl)
+source_wrong Open None h = absurd (both_ways refl h)
+source_wrong Open (Some t) h = inr (t, refl)
 source_wrong (Fixed t) b h = inl (t, refl)
 
-source_right : (x : Delay) (b : Bound) → operation_map true (operation_map_of (made x b)) ≡ true → (¬ IsFixed x) × (¬ HasField b)
+source_right : (x : Delay) (b : Option ℕ) → operation_map true (operation_map_of (made x b)) ≡ true → (¬ IsFixed x) × (¬ HasField b)
 unfolding operation_map operation_map_of open_bit bit_of duration_of
-source_right Open Absent h = ((λ r. let z : ◌≡◌ {A = ℕ} 0 1 = cc r.1 in omega arith), λ r. let z : ◌≡◌ {A = ℕ} 0 1 = cc r.1 in omega arith)
-source_right Open (Ticks t) h = absurd (both_ways h refl)
-source_right (Fixed zero) Absent h = absurd (both_ways h refl)
-source_right (Fixed zero) (Ticks t) h = absurd (both_ways h refl)
-source_right (Fixed (suc x)) Absent h = absurd (both_ways h refl)
-source_right (Fixed (suc x)) (Ticks t) h = absurd (both_ways h refl)
+source_right Open None h = ((λ r. let z : ◌≡◌ {A = ℕ} 0 1 = cc r.1 in omega arith), λ r. let z : ◌≡◌ {A = ℕ} 0 1 = cc r.1 in omega arith)
+source_right Open (Some t) h = absurd (both_ways h refl)
+source_right (Fixed zero) None h = absurd (both_ways h refl)
+source_right (Fixed zero) (Some t) h = absurd (both_ways h refl)
+source_right (Fixed (suc x)) None h = absurd (both_ways h refl)
+source_right (Fixed (suc x)) (Some t) h = absurd (both_ways h refl)
 
-later_wrong : (x : Delay) (b : Bound) → operation_map false (operation_map_of (made x b)) ≡ false → IsFixed x × HasField b
+later_wrong : (x : Delay) (b : Option ℕ) → operation_map false (operation_map_of (made x b)) ≡ false → IsFixed x × HasField b
 unfolding operation_map operation_map_of open_bit bit_of duration_of
-later_wrong Open Absent h = absurd (both_ways refl h)
-later_wrong Open (Ticks t) h = absurd (both_ways refl h)
-later_wrong (Fixed zero) Absent h = absurd (both_ways refl h)
-later_wrong (Fixed (suc x)) Absent h = absurd (both_ways refl h)
-later_wrong (Fixed x) (Ticks t) h = ((x, refl), (t, refl))
+later_wrong Open None h = absurd (both_ways refl h)
+later_wrong Open (Some t) h = absurd (both_ways refl h)
+later_wrong (Fixed zero) None h = absurd (both_ways refl h)
+later_wrong (Fixed (suc x)) None h = absurd (both_ways refl h)
+later_wrong (Fixed x) (Some t) h = ((x, refl), (t, refl))
 
-later_right : (x : Delay) (b : Bound) → operation_map false (operation_map_of (made x b)) ≡ true → IsFixed x → HasField b → ⊥
+later_right : (x : Delay) (b : Option ℕ) → operation_map false (operation_map_of (made x b)) ≡ true → IsFixed x → HasField b → ⊥
 unfolding operation_map operation_map_of open_bit bit_of duration_of
 later_right Open b h r s = let z : ◌≡◌ {A = ℕ} 0 1 = cc r.1 in omega arith
-later_right (Fixed x) Absent h r s = let z : ◌≡◌ {A = ℕ} 0 1 = cc s.1 in omega arith
-later_right (Fixed zero) (Ticks t) h r s = both_ways h refl
-later_right (Fixed (suc x)) (Ticks t) h r s = both_ways h refl
+later_right (Fixed x) None h r s = let z : ◌≡◌ {A = ℕ} 0 1 = cc s.1 in omega arith
+later_right (Fixed zero) (Some t) h r s = both_ways h refl
+later_right (Fixed (suc x)) (Some t) h r s = both_ways h refl
 
 -- A fixed step with a least, at any place: it is found where the maps of later steps do not pass, and it is not there where all pass. Induction on the list.
 pub record FixedLeast (os : List Operation) : Type 0 where
@@ -160,7 +159,7 @@ unfolding sequenced
 paired_is l = let D = link_digits l in rw (bit_0 D, bit_4 D)
 
 -- A field is there exactly if its flag is 1.
-there_field : {b : Bound} → HasField b → there b ≡ true
+there_field : {b : (Option ℕ)} → HasField b → there b ≡ true
 unfolding there
 there_field h = rw h.1
 
@@ -168,15 +167,15 @@ no_flag : (b : Bool) → flag b ≡ 0 → b ≡ false
 no_flag true e = absurd (omega arith)
 no_flag false e = refl
 
-no_field : (b : Bound) → flag (there b) ≡ 0 → b ≡ Absent
+no_field : (b : Option ℕ) → flag (there b) ≡ 0 → b ≡ None
 unfolding there
-no_field Absent e = refl
-no_field (Ticks x) e = absurd (omega arith)
+no_field None e = refl
+no_field (Some x) e = absurd (omega arith)
 
-field_there : (b : Bound) → there b ≡ true → HasField b
+field_there : (b : Option ℕ) → there b ≡ true → HasField b
 unfolding there
-field_there Absent e = absurd (false≢true e)
-field_there (Ticks x) e = (x, refl)
+field_there None e = absurd (false≢true e)
+field_there (Some x) e = (x, refl)
 
 module _ (l : Link) where
   abbrev after_or_gapless : Bool
@@ -200,7 +199,7 @@ module _ (l : Link) where
   allowed h = let r = and_split (leb 1 (link_map_of l)) after_or_gapless (sym (map_is l) ∙ h) in (leb-true 1 (link_map_of l) r.0, r.1)
 
   -- A record with no link at all has the map 0.
-  no_map : l.sequencing ≡ false → l.minimum ≡ Absent → l.maximum ≡ Absent → l.gap ≡ Absent → l.latest ≡ Absent → link_map_of l ≡ 0
+  no_map : l.sequencing ≡ false → l.minimum ≡ None → l.maximum ≡ None → l.gap ≡ None → l.latest ≡ None → link_map_of l ≡ 0
   unfolding link_map_of bit_of
   no_map a b c d e = rw (a, b, c, d, e)
 

@@ -1,6 +1,8 @@
 -- Request L4: what is found in the bytes of a sheet that has been read: what is written of its parts, but for fixed durations of 0 that were sent with their field; and its parts pass the writer's tests.
 -- What each parser takes is told by the bytes that it takes, and carried through the parsers that are built from it, as their text goes.
 use mathlib.Core.Path.{◌≡◌, refl, sym, ap, ap₂, subst, ◌∙◌}
+use Rattle.std.specs.Prelude.{None, Some}
+use Rattle.definitions.specs.Bytes.{Previous, Taken, Parser, ◌>>=◌, ◌>>◌, give, demand, byte, two_bytes, ticks_if, operation_map, delay_from, operation, bound_from, link_map, sequenced, endpoints, rises, link, records, operations, pair_of, links, at_end, Records, sheet, read, blank_operation}
 use mathlib.Core.Bool.{Bool, true, false, cond, not, ◌&&◌, ◌||◌, true≢false}
 use mathlib.Core.Logic.{◌⊎◌, inl, inr, ◌≢◌}
 use mathlib.Core.List.Memᴰ
@@ -12,13 +14,9 @@ use lib.ListN.{length}
 use borrow.Author.Tests.{leb-true, eqb-true}
 use Rattle.definitions.specs.Limits.{most_steps, most_records, most_ticks}
 use Rattle.definitions.specs.Basics.{all_below, test_bit, Outcome, given, refused, when_given}
-use Rattle.definitions.specs.Bytes.{Taken, Parser, ◌>>=◌, ◌>>◌, give, demand, byte, two_bytes, ticks_if, operation_map, delay_from, operation, bound_from, link_map, sequenced, endpoints, rises, link, records, operations, pair_of, links, at_end, Records, sheet, read, blank_operation}
 use Rattle.definitions.specs.Writer.{two_bytes_of, field_of, bit_of, duration_of, open_bit, operation_map_of, operation_bytes, link_map_of, link_bytes, steps_mapped}
 use Rattle.definitions.specs.declared.Operation.{Operation}
-use Rattle.definitions.specs.declared.Bound.TheVariants.{Absent}
 use Rattle.definitions.specs.declared.Link.{Link}
-use Rattle.definitions.specs.declared.Previous.{Previous}
-use Rattle.definitions.specs.declared.Previous.TheVariants.{Nothing, Pair}
 use Rattle.laws.proofs.Bools.{same_or_not, and_split, and_join, or_split}
 use Rattle.laws.proofs.Outcomes.{given_same, given_not_refused, when_given_has}
 use Rattle.laws.proofs.Tests.{all_below_each}
@@ -283,11 +281,11 @@ record LinksFound (n : ℕ) (previous : Previous) (ls : List Link) (w : List ℕ
 -- What comes after a pair that comes after the previous one comes after that too.
 still_up : (previous : Previous) (x l : Link) → rises previous x.from x.to ≡ true → PairBefore x l → rises previous l.from l.to ≡ true
 unfolding rises pair_of
-still_up Nothing x l h b = refl
-still_up (Pair i j) x l h b = (before_iff y l).1 (before_trans y x l ((before_iff y x).0 h) b)
+still_up None x l h b = refl
+still_up (Some (i, j)) x l h b = (before_iff y l).1 (before_trans y x l ((before_iff y x).0 h) b)
   where
     y : Link
-    y = record { from = i; to = j; sequencing = false; minimum = Absent; maximum = Absent; gap = Absent; latest = Absent }
+    y = record { from = i; to = j; sequencing = false; minimum = None; maximum = None; gap = None; latest = None }
 
 -- Induction on the rows: the first pair is before the next, and that one before all later.
 links_found : {n : ℕ} {previous : Previous} {ls : List Link} {w : List ℕ} → Rows (LinkFound n) pair_of previous ls w → LinksFound n previous ls w
@@ -341,7 +339,7 @@ spells_end = record { each = go }
 
 -- The steps' bytes behind N and R, and then the records'.
 sheet_found_by :
-    (n r : ℕ) (os : List Operation) (ls : List Link) (u w v : List ℕ) → (leb 1 n && leb n most_steps) ≡ true → leb r most_records ≡ true → (length os ≡ n) × Rows StepFound (λ o. false) true os u → (length ls ≡ r) × Rows (LinkFound n) pair_of Nothing ls w → v ≡ []
+    (n r : ℕ) (os : List Operation) (ls : List Link) (u w v : List ℕ) → (leb 1 n && leb n most_steps) ≡ true → leb r most_records ≡ true → (length os ≡ n) × Rows StepFound (λ o. false) true os u → (length ls ≡ r) × Rows (LinkFound n) pair_of None ls w → v ≡ []
     → SheetFound (record { steps = os; pairs = ls }) (n ∷ (two_bytes_of r ++ (u ++ (w ++ (v ++ [])))))
 sheet_found_by n r os ls u w v hn hr O L e =
     let S = steps_found O.1 in
@@ -365,7 +363,7 @@ spells_sheet =
     (λ hn. then_two_bytes _
     (λ r few. then_demand _ (leb r most_records) 3
     (λ hr. spells_bind _ (spells_records StepFound operation (λ o. false) spells_operation n true)
-    (λ os u O. spells_bind _ (spells_records (LinkFound n) (link n) pair_of (spells_link n) r Nothing)
+    (λ os u O. spells_bind _ (spells_records (LinkFound n) (link n) pair_of (spells_link n) r None)
     (λ ls w L. spells_bind _ spells_end
     (λ e v z. spells_give _ (record { steps = os; pairs = ls }) (sheet_found_by n r os ls u w v hn hr O L z))))))))
 

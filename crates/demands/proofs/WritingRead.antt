@@ -1,5 +1,7 @@
 -- Request L4: what is written is read back. Each parser, lent the bytes that are written of a part with anything behind them, gives that part and leaves what is behind.
 use mathlib.Core.Path.{◌≡◌, refl}
+use Rattle.std.specs.Prelude.{None, Option, Some}
+use Rattle.definitions.specs.Bytes.{Previous, Taken, Parser, demand, byte, two_bytes, ticks_if, operation_map, delay_from, operation, bound_from, link_map, sequenced, endpoints, rises, link, records, operations, pair_of, links, at_end, Records, sheet, read}
 use mathlib.Core.Bool.{Bool, true, false, cond, ◌&&◌}
 use mathlib.Core.List.{List, [], ◌∷◌, ◌++◌, append_assoc, append-nil, flat_map, Memᴰ}
 use Prim.Native.Nat.{ℕ, zero, suc, ◌+◌, ◌*◌, ◌/◌, ◌%◌, ◌^◌, ◌≤◌}
@@ -8,17 +10,12 @@ use lib.Dec.{leb}
 use lib.ListN.{length}
 use Rattle.definitions.specs.Limits.{most_steps, most_records}
 use Rattle.definitions.specs.Basics.{test_bit, Outcome, given, when_given}
-use Rattle.definitions.specs.Bytes.{Taken, Parser, demand, byte, two_bytes, ticks_if, operation_map, delay_from, operation, bound_from, link_map, sequenced, endpoints, rises, link, records, operations, pair_of, links, at_end, Records, sheet, read}
 use Rattle.definitions.specs.Links.{ticks_said, is_open}
 use Rattle.definitions.specs.Writer.{two_bytes_of, field_of, bit_of, duration_of, open_bit, operation_map_of, operation_bytes, link_map_of, link_bytes, rising, sheet_bytes, steps_mapped, comes_twice}
 use Rattle.definitions.specs.declared.Delay.{Delay}
 use Rattle.definitions.specs.declared.Delay.TheVariants.{Open, Fixed}
 use Rattle.definitions.specs.declared.Operation.{Operation}
-use Rattle.definitions.specs.declared.Bound.{Bound}
-use Rattle.definitions.specs.declared.Bound.TheVariants.{Absent, Ticks}
 use Rattle.definitions.specs.declared.Link.{Link}
-use Rattle.definitions.specs.declared.Previous.{Previous}
-use Rattle.definitions.specs.declared.Previous.TheVariants.{Nothing}
 use Rattle.laws.proofs.Bools.{and_split}
 use Rattle.laws.proofs.Outcomes.{when_given_by}
 use Rattle.demands.specs.Demands.{Rising}
@@ -33,9 +30,9 @@ taken a rest = given (record { value = a; rest = rest })
 -- ---- a field
 
 -- Whether a field is there; and a digit of a map.
-unfoldable pub there : Bound → Bool
-there Absent = false
-there (Ticks x) = true
+unfoldable pub there : Option ℕ → Bool
+there None = false
+there (Some x) = true
 
 abbrev pub flag : Bool → ℕ
 flag b = cond b 1 0
@@ -49,15 +46,15 @@ unfolding two_bytes two_bytes_of byte when_given
 reads_two_bytes x rest = let e : x % 256 + 256 * (x / 256) ≡ x = omega arith in rw e
 
 -- A field that is there is read, one that is not takes no byte; and what is read is the field.
-reads_field : (b : Bound) (rest : List ℕ) → ticks_if (there b) (field_of b ++ rest) ≡ taken (ticks_said b) rest
+reads_field : (b : Option ℕ) (rest : List ℕ) → ticks_if (there b) (field_of b ++ rest) ≡ taken (ticks_said b) rest
 unfolding there ticks_if field_of ticks_said
-reads_field Absent rest = refl
-reads_field (Ticks x) rest = reads_two_bytes x rest
+reads_field None rest = refl
+reads_field (Some x) rest = reads_two_bytes x rest
 
-pub bound_back : (b : Bound) → bound_from (there b) (ticks_said b) ≡ b
+pub bound_back : (b : Option ℕ) → bound_from (there b) (ticks_said b) ≡ b
 unfolding there bound_from ticks_said
-bound_back Absent = refl
-bound_back (Ticks x) = refl
+bound_back None = refl
+bound_back (Some x) = refl
 
 -- ---- maps: each bit says whether its field is there
 
@@ -86,10 +83,10 @@ module _ {m : ℕ} {a b c d e : Bool} (digits : Digits m a b c d e) where
   pub bit_4 : test_bit m 4 ≡ e
   bit_4 = digit_bit m 4 e (omega (arith, digits.sum, flag_small a, flag_small b, flag_small c, flag_small d, flag_small e))
 
-bit_flag : (b : Bound) (k : ℕ) → bit_of b k ≡ k * flag (there b)
+bit_flag : (b : Option ℕ) (k : ℕ) → bit_of b k ≡ k * flag (there b)
 unfolding bit_of there
-bit_flag Absent k = omega arith
-bit_flag (Ticks x) k = omega arith
+bit_flag None k = omega arith
+bit_flag (Some x) k = omega arith
 
 open_flag : (x : Delay) → open_bit x ≡ flag (is_open x)
 unfolding open_bit is_open
@@ -191,8 +188,8 @@ reads_sheet q P =
     let r = length q.pairs in
     let ls = rising q.pairs in
     let steps = flat_map operation_bytes q.steps in
-    let row = links_row n Nothing ls (λ l m. P.links l (rising_mem q.pairs m)) (λ l m. refl) (rising_up q.pairs P.once) in
-    let read_links : records (link n) pair_of r Nothing (flat_map link_bytes ls) ≡ taken ls [] = rw (← (append-nil (flat_map link_bytes ls)), ← (rising_length q.pairs)) (reads_records (link n) pair_of link_bytes (LinkNext n) (reads_link n) Nothing ls row []) in
+    let row = links_row n None ls (λ l m. P.links l (rising_mem q.pairs m)) (λ l m. refl) (rising_up q.pairs P.once) in
+    let read_links : records (link n) pair_of r None (flat_map link_bytes ls) ≡ taken ls [] = rw (← (append-nil (flat_map link_bytes ls)), ← (rising_length q.pairs)) (reads_records (link n) pair_of link_bytes (LinkNext n) (reads_link n) None ls row []) in
     rw (P.count, append_assoc (two_bytes_of r) steps (flat_map link_bytes ls), reads_two_bytes r, P.few, reads_records operation (λ o. false) operation_bytes StepAllowed reads_operation true q.steps (steps_row true q.steps P.steps) (flat_map link_bytes ls), read_links)
 
 pub reads_written : (q : Records) → Passing (length q.steps) (length q.pairs) q → read (sheet_bytes q) ≡ given (in_rising_order q)

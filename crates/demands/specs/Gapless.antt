@@ -1,16 +1,13 @@
 -- The planner without request L1: how a link record is read, and what an after link weighs. All else is worked out from the steps and the edges, by definitions that request L1 left alone.
-use Rattle.std.specs.Prelude.{Bool, false, not, ◌&&◌, ◌||◌, List, map, ℕ, eqb, leb}
+use Rattle.std.specs.Prelude.{Bool, false, not, ◌&&◌, ◌||◌, List, map, ℕ, eqb, leb, None}
+use Rattle.definitions.specs.Bytes.{Previous, Parser, ◌>>=◌, ◌>>◌, give, demand, byte, two_bytes, ticks_if, sequenced, endpoints, rises, bound_from, records, operations, pair_of, at_end, Records}
 use Rattle.definitions.specs.Limits.{most_steps, most_records}
 use Rattle.definitions.specs.Basics.{test_bit, Outcome, given, when_given}
-use Rattle.definitions.specs.Bytes.{Parser, ◌>>=◌, ◌>>◌, give, demand, byte, two_bytes, ticks_if, sequenced, endpoints, rises, bound_from, records, operations, pair_of, at_end, Records}
 use Rattle.definitions.specs.Links.{Constraint, sequencing, minimum, maximum, finish_maximum, links_of, delay_at, least_at, Edge, edge_of}
 use Rattle.definitions.specs.declared.Delay.{Delay}
 use Rattle.definitions.specs.declared.Delay.TheVariants.{Open, Fixed}
 use Rattle.definitions.specs.declared.Operation.{Operation}
-use Rattle.definitions.specs.declared.Bound.TheVariants.{Absent}
 use Rattle.definitions.specs.declared.Link.{Link}
-use Rattle.definitions.specs.declared.Previous.{Previous}
-use Rattle.definitions.specs.declared.Previous.TheVariants.{Nothing}
 
 -- A link record: bit 3 was unknown, as are bits 5 to 7.
 unfoldable pub gapless_map : ℕ → Bool
@@ -28,11 +25,11 @@ gapless_link n previous = do
   least ← ticks_if (test_bit m 1)
   most ← ticks_if (test_bit m 2)
   latest ← ticks_if (test_bit m 4)
-  give (record { from = i; to = j; sequencing = test_bit m 0; minimum = bound_from (test_bit m 1) least; maximum = bound_from (test_bit m 2) most; gap = Absent; latest = bound_from (test_bit m 4) latest })
+  give (record { from = i; to = j; sequencing = test_bit m 0; minimum = bound_from (test_bit m 1) least; maximum = bound_from (test_bit m 2) most; gap = None; latest = bound_from (test_bit m 4) latest })
 
 -- A sheet of such records.
 unfoldable pub gapless_links : ℕ → ℕ → Parser (List Link)
-gapless_links n r = records (gapless_link n) pair_of r Nothing
+gapless_links n r = records (gapless_link n) pair_of r None
 
 unfoldable pub gapless_sheet : Parser Records
 gapless_sheet = do

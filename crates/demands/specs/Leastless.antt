@@ -1,5 +1,5 @@
 -- The planner without request L6: how a step record is read, and what is weighed, compared and judged without leasts. All else is worked out from these, by definitions that request L6 left alone.
-use Rattle.std.specs.Prelude.{Bool, true, false, not, ◌&&◌, List, ◌++◌, map, ℕ, ◌+◌, ◌-◌, eqb, leb, ltb, get_or}
+use Rattle.std.specs.Prelude.{Bool, true, false, not, ◌&&◌, List, ◌++◌, map, ℕ, ◌+◌, ◌-◌, eqb, leb, ltb, get_or, None}
 use Rattle.definitions.specs.Limits.{most_steps, most_records}
 use Rattle.definitions.specs.Basics.{test_bit, Outcome, given, when_given}
 use Rattle.definitions.specs.Bytes.{Parser, ◌>>=◌, ◌>>◌, give, demand, byte, two_bytes, ticks_if, delay_from, records, links, at_end, Records}
@@ -11,7 +11,6 @@ use Rattle.definitions.specs.Plan.{offset_row, delay_limit}
 use Rattle.definitions.specs.declared.Delay.{Delay}
 use Rattle.definitions.specs.declared.Delay.TheVariants.{Open, Fixed}
 use Rattle.definitions.specs.declared.Operation.{Operation}
-use Rattle.definitions.specs.declared.Bound.TheVariants.{Absent}
 
 -- A step record: bit 2 was unknown, as are bits 3 to 7.
 unfoldable pub leastless_map : Bool → ℕ → Bool
@@ -23,7 +22,7 @@ leastless_operation first = do
   m ← byte
   demand (leastless_map first m) 4
   ticks ← ticks_if (test_bit m 1)
-  give (record { delay = delay_from (test_bit m 0) ticks; least = Absent })
+  give (record { delay = delay_from (test_bit m 0) ticks; least = None })
 
 -- A sheet of such records.
 unfoldable pub leastless_operations : ℕ → Parser (List Operation)

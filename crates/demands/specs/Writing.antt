@@ -1,6 +1,6 @@
 -- Request L4, "A sheet writer": "Given steps and link records, write the sheet." What is promised of it, as statements about the definitions of the crate definitions (Writer.antt). Definitions alone: each
 -- statement is proved in proofs/Demands.antt, by the theorem that its comment names. Quoted sentences are document 02's.
-use Rattle.std.specs.Prelude.{◌≡◌, Bool, false, ◌⊎◌, ◌↔◌, ℕ, suc, ◌+◌, ◌*◌, ◌≤◌, ◌<◌, length, get_or, take, drop}
+use Rattle.std.specs.Prelude.{◌≡◌, Bool, false, ◌⊎◌, ◌↔◌, ℕ, suc, ◌+◌, ◌*◌, ◌≤◌, ◌<◌, length, get_or, take, drop, None, Option, Some}
 use mathlib.Core.List.{List, [], ◌∷◌, ◌++◌, flat_map, Memᴰ, Permᴰ}
 use Rattle.definitions.specs.Limits.{most_steps, most_records, most_ticks, longest_sheet}
 use Rattle.definitions.specs.Basics.{Outcome, given, refused}
@@ -12,16 +12,14 @@ use Rattle.definitions.specs.Output.{standplan}
 use Rattle.definitions.specs.Price.{price_answer, price_report}
 use Rattle.definitions.specs.declared.Delay.TheVariants.{Fixed}
 use Rattle.definitions.specs.declared.Operation.{Operation}
-use Rattle.definitions.specs.declared.Bound.{Bound}
-use Rattle.definitions.specs.declared.Bound.TheVariants.{Absent, Ticks}
 use Rattle.definitions.specs.declared.Link.{Link}
 use Rattle.demands.specs.Demands.{IsSheet, Rising}
 
 -- ## The words
 
 -- Durations and fields of two bytes, as the types of the code have them: no other number can be written.
-abbrev pub FieldFits : Bound → Type 0
-FieldFits b = (x : ℕ) → b ≡ Ticks x → x ≤ most_ticks
+abbrev pub FieldFits : Option ℕ → Type 0
+FieldFits b = (x : ℕ) → b ≡ Some x → x ≤ most_ticks
 
 pub record StepNumbers (o : Operation) : Type 0 where
   pub duration : (x : ℕ) → o.delay ≡ Fixed x → x ≤ most_ticks
@@ -47,10 +45,10 @@ TooMany r = most_records < r
 -- 4: step 0 is fixed, or has a least; a fixed step has a least; a record has no link at all; a record has a gap without after.
 pub data BadMaps (q : Records) : Type 0 where
   source_fixed : (o : Operation) (os : List Operation) (x : ℕ) → q.steps ≡ o ∷ os → o.delay ≡ Fixed x → BadMaps q
-  source_least : (o : Operation) (os : List Operation) (x : ℕ) → q.steps ≡ o ∷ os → o.least ≡ Ticks x → BadMaps q
-  fixed_least : (o : Operation) (x y : ℕ) → Memᴰ o q.steps → o.delay ≡ Fixed x → o.least ≡ Ticks y → BadMaps q
-  no_link : (l : Link) → Memᴰ l q.pairs → l.sequencing ≡ false → l.minimum ≡ Absent → l.maximum ≡ Absent → l.gap ≡ Absent → l.latest ≡ Absent → BadMaps q
-  gap_alone : (l : Link) (x : ℕ) → Memᴰ l q.pairs → l.sequencing ≡ false → l.gap ≡ Ticks x → BadMaps q
+  source_least : (o : Operation) (os : List Operation) (x : ℕ) → q.steps ≡ o ∷ os → o.least ≡ Some x → BadMaps q
+  fixed_least : (o : Operation) (x y : ℕ) → Memᴰ o q.steps → o.delay ≡ Fixed x → o.least ≡ Some y → BadMaps q
+  no_link : (l : Link) → Memᴰ l q.pairs → l.sequencing ≡ false → l.minimum ≡ None → l.maximum ≡ None → l.gap ≡ None → l.latest ≡ None → BadMaps q
+  gap_alone : (l : Link) (x : ℕ) → Memᴰ l q.pairs → l.sequencing ≡ false → l.gap ≡ Some x → BadMaps q
 
 -- 26: a record has an at most from the finish without after.
 pub record LimitAlone (links : List Link) : Type 0 where
@@ -58,7 +56,7 @@ pub record LimitAlone (links : List Link) : Type 0 where
   pub member : Memᴰ link links
   pub not_after : link.sequencing ≡ false
   pub ticks : ℕ
-  pub limit : link.latest ≡ Ticks ticks
+  pub limit : link.latest ≡ Some ticks
 
 -- 5: i or j of a record is N or more, or they are one.
 pub record BadEnds (n : ℕ) (links : List Link) : Type 0 where

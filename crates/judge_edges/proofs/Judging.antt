@@ -1,5 +1,6 @@
 -- Judging in two parts, as the code goes: each answer from the tests behind it, and the whole from the parts.
 use mathlib.Core.Path.{◌≡◌, refl, sym, ap, ◌∙◌}
+use Rattle.definitions.specs.Numbers.{Verdict, verdict_of}
 use mathlib.Core.Bool.{Bool, true, false, cond, not, ◌&&◌}
 use mathlib.Core.List.{List}
 use mathlib.Core.Logic.{◌≢◌}
@@ -12,9 +13,7 @@ use Rattle.definitions.specs.Answers.{closes_circle, infeasible, inconsistent, u
 use Rattle.definitions.specs.Basics.{Outcome, given, refused, refuse_if, when_given}
 use Rattle.definitions.specs.Links.{Edge, members}
 use Rattle.definitions.specs.Rounds.{rounds, stable, source_row}
-use Rattle.definitions.specs.Numbers.{verdict_of}
 use Rattle.definitions.specs.Waits.{needs_waits, wait_count, wait_maps}
-use Rattle.definitions.specs.declared.Verdict.{Verdict}
 use Rattle.demands.proofs.Sheets.{acyclic_rooted, not_8, not_10_11, unneeded_serializable}
 use Rattle.order_forward.specs.Sorting.{Sorting}
 use Rattle.laws.proofs.Bools.{and_split, both_ways}

@@ -1,11 +1,10 @@
 -- What the analysis of a sheet's edges finds: the verdict, what reaches what, and the waits.
 use Rattle.std.specs.Prelude.{◌≡◌, Bool, true, false, cond, not, ◌&&◌, ◌↔◌, List, ℕ, ◌≤◌, length, replicate}
+use Rattle.definitions.specs.Numbers.{Verdict, verdict_of}
 use Rattle.definitions.specs.Answers.{closes_circle, infeasible, inconsistent, unserializable, judge_edges}
 use Rattle.definitions.specs.Basics.{Outcome, given, refused, refuse_if}
 use Rattle.definitions.specs.Limits.{most_edges, most_steps}
 use Rattle.definitions.specs.Links.{Edge, members}
-use Rattle.definitions.specs.Numbers.{verdict_of}
-use Rattle.definitions.specs.declared.Verdict.{Verdict}
 use Rattle.definitions.specs.Waits.{wait_maps, wait_count, needs_waits}
 use Rattle.data_relations.specs.Sets.{AnchorSets}
 use Rattle.theory.specs.Graphs.{SheetGraph}

@@ -1,5 +1,7 @@
 -- Refusals 8, 10 and 11 alone, by the tests behind them; and that a sheet is impossible by these alone: what comes after them is neither 10 nor 11.
 use mathlib.Core.Path.{◌≡◌, refl, sym, ap, ◌∙◌}
+use Rattle.std.specs.Prelude.{Err, Ok}
+use Rattle.definitions.specs.Numbers.{Status, status_of}
 use mathlib.Core.Bool.{Bool, true, false, cond, not, ◌&&◌}
 use mathlib.Core.List.{List}
 use Prim.Native.Nat.{ℕ}
@@ -7,10 +9,7 @@ use Rattle.definitions.specs.Answers.{closes_circle, infeasible, inconsistent, u
 use Rattle.definitions.specs.Basics.{Outcome, given, refused, refuse_if, when_given}
 use Rattle.definitions.specs.Clashes.{is_impossible}
 use Rattle.definitions.specs.Links.{Edge}
-use Rattle.definitions.specs.Numbers.{status_of}
 use Rattle.definitions.specs.Waits.{needs_waits}
-use Rattle.definitions.specs.declared.Status.{Status}
-use Rattle.definitions.specs.declared.Status.TheVariants.{Done, Refused}
 use Rattle.laws.proofs.Parsers.{when_given_twice}
 use Rattle.judge_edges.specs.Analysis.{judge_first, judge_rest, judge_serial, judge_waits}
 use Rattle.judge_edges.proofs.Judging.{judge_split, split}
@@ -76,5 +75,5 @@ module _ (n : ℕ) (g : List Edge) where
     impossible_by st e = go st ∙ sym (ap is_impossible (edges_by_possible true ∙ ap (λ (o : Outcome (Unit {0})). when_given o (λ u. judge_serial n least g true)) (sym e)))
       where
         go : (st : Status) → is_impossible (status_of st 0) ≡ is_impossible (when_given (status_of {A = Unit {0}} st tt) (λ u. judge_serial n least g true))
-        go Done = sym rest_possible
-        go (Refused k) = refl
+        go (Ok tt) = sym rest_possible
+        go (Err k) = refl

@@ -20,6 +20,10 @@ use Rattle.data_relations.specs.Rows.{row_bit}
 use Rattle.theory.specs.Graphs.{Shape}
 use Rattle.theory.proofs.WaitLists.{listed_wait, wait_listed, wait_maps_iff, wait_target_below}
 
+-- Row w holds what comes directly before w, and what it waits for.
+abbrev pub both_bits : List ℕ → List ℕ → ℕ → ℕ → Bool
+both_bits before maps w k = row_bit before w k || row_bit maps w k
+
 module _ (least : ℕ → ℕ) {n : ℕ} {g : List Edge} (few : n ≤ 64) (shape : Shape n (members g)) where
   -- A wait for u of v, as a forward edge: bit u of map v.
   waits_precede : (v u : ℕ) → any (precedes v u) (map (wait_edge least) (wait_list n g)) ≡ row_bit (wait_maps n g) v u

@@ -25,10 +25,9 @@ pub fn waits(s: &[u8]) -> WaitMaps
     let mut out = [0u32; 0];
     let mut maps = [0u64; 64];
     let found = answer(s, true, Question::Judgement, &list, &mut out, &mut maps);
-    let verdict = found.verdict;
     WaitMaps {
-        verdict: verdict,
-        maps: maps,
+        verdict: found.verdict,
+        maps,
         count: found.count,
     }
 }

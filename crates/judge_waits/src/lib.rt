@@ -7,10 +7,12 @@ ghost use Rattle.definitions.specs.Answers.{inconsistent};
 ghost use Rattle.definitions.specs.Basics.{any_below, select_below, tabulate, test_bit};
 ghost use Rattle.definitions.specs.Links.{Edge};
 ghost use Rattle.definitions.specs.Waits.{wait_count, wait_maps};
-ghost use Rattle.data_edges.specs.Words.{unpack, graph};
-ghost use Rattle.data_lists.specs.Lists.{Lists};
+ghost use Rattle.data_edges.specs.Words.{unpack};
+ghost use Rattle.data_lists.specs.Graphs.{edges_in};
 ghost use Rattle.data_relations.specs.Rows.{row_bit, Gathered};
 ghost use Rattle.judge_waits.specs.Reaching.{Held, Reaches, Known, holds_up};
+
+use data_lists::Edges;
 
 // Refusal 11: a step waits for its own end.
 pub fn is_inconsistent(reach: &[u64; 64], n: usize) -> bool
@@ -23,35 +25,24 @@ pub fn is_inconsistent(reach: &[u64; 64], n: usize) -> bool
 
 // A return: what reaches its start, may use it and is not in its end's set comes into the map of its end.
 fn hold_up(maps: &mut [u64; 64], w: u64, reach: &[u64; 64], sets: &[u64; 64])
-    requires { (length maps.old ≡ 64) × ((unpack w).back ≡ true) }
+    requires { (unpack w).back ≡ true }
     ensures { Held (holds_up reach.now sets.now) (unpack w) maps.old maps.new }
 {
     let j = data_edges::edge_from(w);
     let i = data_edges::edge_to(w);
     let users = data_edges::usable_by(reach[j], w);
     let held = data_sets::minus(users, sets[i]);
-    let map = data_sets::union(maps[i], held);
-    maps[i] = map;
+    maps[i] = data_sets::union(maps[i], held);
 }
 
 // The waits of a sheet of n steps, into maps that are blank, bit a of map i: each backward edge from j to i makes i wait for what reaches j, but a late one not for i itself.
-pub fn wait_maps(
-    es: &[u64],
-    lists: &[u16],
-    reach: &[u64; 64],
-    sets: &[u64; 64],
-    maps: &mut [u64; 64],
-)
-    requires { Lists es.now lists.now × (maps.old ≡ replicate 64 0) }
-    ensures bits { Gathered (holds_up reach.now sets.now) (graph es.now) maps.new }
-    ensures definition { (n : ℕ) → Known n (graph es.now) reach.now sets.now → maps.new ≡ wait_maps n (graph es.now) }
+pub fn wait_maps(es: Edges, reach: &[u64; 64], sets: &[u64; 64], maps: &mut [u64; 64])
+    requires { maps.old ≡ replicate 64 0 }
+    ensures bits { Gathered (holds_up reach.now sets.now) (edges_in es.entry) maps.new }
+    ensures definition { (n : ℕ) → Known n (edges_in es.entry) reach.now sets.now → maps.new ≡ wait_maps n (edges_in es.entry) }
 {
-    let mut at = 64 + es.len();
-    let mut k = data_indices::index(lists[at]);
-    while k != 0 {
-        hold_up(maps, es[k - 1], reach, sets);
-        at += 1;
-        k = data_indices::index(lists[at]);
+    for k in es.returns() {
+        hold_up(maps, es.words[k], reach, sets);
     }
 }
 
@@ -62,10 +53,8 @@ pub fn count_waits(maps: &[u64; 64], n: usize) -> u32
     ensures waits { (g : List Edge) → maps.now ≡ wait_maps n g → result ≡ wait_count n g }
 {
     let mut total = 0;
-    let mut i = 0;
-    while i < n {
+    for i in 0..n {
         total += data_sets::count(maps[i]);
-        i += 1;
     }
     total
 }

@@ -14,11 +14,8 @@ fn gather(rows: &[u64; 64], own: u64, steps: u64) -> u64
     ensures { (a : ℕ) → test_bit result a ≡ (test_bit own a || any_below (λ u. test_bit steps u && row_bit rows.now u a) 64) }
 {
     let mut all = own;
-    let mut left = steps;
-    while left != 0 {
-        let u = data_bits::lowest(left);
+    for u in data_bits::members(steps) {
         all = data_sets::union(all, rows[u]);
-        left = data_bits::without_lowest(left);
     }
     all
 }
@@ -28,13 +25,10 @@ fn draw(before: &[u64; 64], order: &[u8; 64], n: usize, rows: &mut [u64; 64])
     requires { Drawable n before.now order.now rows.old }
     ensures { Drawn n before.now rows.old rows.new }
 {
-    let mut k = 0;
-    while k < n {
+    for k in 0..n {
         let u = data_indices::place(order[k]);
         let own = rows[u];
-        let row = gather(rows, own, before[u]);
-        rows[u] = row;
-        k += 1;
+        rows[u] = gather(rows, own, before[u]);
     }
 }
 
@@ -48,8 +42,7 @@ pub fn sort(es: &[u64], n: usize, sets: &mut [u64; 64], order: &mut [u8; 64]) ->
     if !order_steps::arrange(&before, n, order) {
         return false;
     }
-    let own = data_bits::insert(sets[0], 0);
-    sets[0] = own;
+    sets[0] = data_bits::insert(sets[0], 0);
     draw(&before, order, n, sets);
     true
 }

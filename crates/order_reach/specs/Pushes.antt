@@ -1,9 +1,7 @@
 -- Anchors handed on along the edges, as maps of bits: bit a of row v comes to stand where a walk from the end of a reaches v. Such a walk takes no late return into a.
 -- Bit v of a map of marks stands where step v may have something that it has not handed on.
-use Rattle.std.specs.Prelude.{◌≡◌, Bool, true, false, not, ◌&&◌, ◌||◌, List, ◌⊎◌, ◌≢◌, ℕ, ◌≤◌, eqb, ltb, get_or, length, replicate}
-use Rattle.data_lists.specs.Lists.{Lists}
+use Rattle.std.specs.Prelude.{◌≡◌, Bool, true, false, not, ◌&&◌, ◌||◌, List, ◌⊎◌, ◌≢◌, ℕ, eqb, ltb, get_or, length}
 use Rattle.definitions.specs.Basics.{test_bit}
-use Rattle.definitions.specs.Limits.{most_steps}
 use Rattle.definitions.specs.Links.{Edge, Forward, Graph, LateInto, UsableFrom, members, usable}
 use Rattle.definitions.specs.Rounds.{after_reaches}
 use Rattle.theory.specs.Graphs.{Shape}
@@ -64,17 +62,6 @@ pub record Carried (a : ℕ) (E : Graph) (On : ℕ → Type 0) (r s f g : ℕ �
 pub record CarriedAll (E : ℕ → Graph) (On : ℕ → Type 0) (rows rows' : List ℕ) (k k' : ℕ) : Type 0 where
   pub long : length rows' ≡ 64
   pub each : (a : ℕ) → Carried a (E a) On (column rows a) (column rows' a) (test_bit k) (test_bit k')
-
--- What a pass over steps is given: the edges with their adjacency lists, and a row for each step.
-pub record WithRows (es lists rows : List ℕ) : Type 0 where
-  pub listed : Lists es lists
-  pub long : length rows ≡ 64
-
--- What `reach` is given: a sheet's step count, its edges with their adjacency lists, and blank rows.
-pub record WithBlankRows (n : ℕ) (es lists rows : List ℕ) : Type 0 where
-  pub few : n ≤ most_steps
-  pub listed : Lists es lists
-  pub blank : rows ≡ replicate 64 0
 
 -- The rows are the anchor sets of n steps without step 0: its delay counts as 0, so it is no anchor here.
 pub record Stripped (sets : List ℕ) (n : ℕ) (rows : List ℕ) : Type 0 where

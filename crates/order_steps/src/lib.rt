@@ -10,18 +10,13 @@ pub fn predecessors(es: &[u64], before: &mut [u64; 64], counted: &mut [u64; 64])
     requires { (before.old ≡ replicate 64 0) × (counted.old ≡ replicate 64 0) }
     ensures { Predecessors (graph es.now) before.new × Counted (graph es.now) counted.new }
 {
-    let mut i = 0;
-    while i < es.len() {
-        let w = es[i];
+    for &w in es {
         let v = data_edges::edge_to(w);
         let u = data_edges::edge_from(w);
         let forward = !data_edges::is_back(w);
-        let row = data_bits::insert_if(before[v], u, forward);
-        before[v] = row;
+        before[v] = data_bits::insert_if(before[v], u, forward);
         let counts = data_edges::is_counted(w);
-        let anchors = data_bits::insert_if(counted[v], u, counts);
-        counted[v] = anchors;
-        i += 1;
+        counted[v] = data_bits::insert_if(counted[v], u, counts);
     }
 }
 
@@ -45,7 +40,7 @@ fn place(order: &mut [u8; 64], front: Front, u: usize, before: u64) -> Front
     order[at] = u as u8;
     let left = data_bits::remove(front.left, u);
     Front {
-        left: left,
+        left,
         placed: at + 1,
     }
 }
@@ -56,11 +51,8 @@ fn pass(rows: &[u64; 64], n: usize, order: &mut [u8; 64], front: Front) -> Front
     ensures { PassedOver n rows.now order.new front.left result.left front.placed result.placed }
 {
     let mut after = front;
-    let mut rest = front.left;
-    while rest != 0 {
-        let u = data_bits::lowest(rest);
+    for u in data_bits::members(front.left) {
         after = place(order, after, u, rows[u]);
-        rest = data_bits::without_lowest(rest);
     }
     after
 }
@@ -70,9 +62,8 @@ pub fn arrange(rows: &[u64; 64], n: usize, order: &mut [u8; 64]) -> bool
     requires { (n ≤ 64) × (length order.old ≡ 64) }
     ensures { Arranged n rows.now order.new result }
 {
-    let all = data_sets::below(n);
     let mut front = Front {
-        left: all,
+        left: data_sets::below(n),
         placed: 0,
     };
     while front.placed < n {

@@ -1,9 +1,8 @@
 -- What the planner's calls over bytes return. The contracts of judge_sheet, plan_sheet and plan_times cite these very names, and the promises (crate promises) are made of them, so what is weakened here breaks the promises.
 -- s are the bytes of the sheet, r what is returned.
 use Rattle.std.specs.Prelude.{◌≡◌, Bool, List, ℕ}
+use Rattle.definitions.specs.Numbers.{Verdict, verdict_of}
 use Rattle.definitions.specs.Answers.{judged, planned, starts_answer, waits_answer}
-use Rattle.definitions.specs.Numbers.{verdict_of}
-use Rattle.definitions.specs.declared.Verdict.{Verdict}
 use Rattle.definitions.specs.declared.WaitMaps.{WaitMaps}
 
 -- Judging.

@@ -2,13 +2,6 @@
 use Rattle.std.specs.Prelude.{ℕ, ◌+◌, ◌*◌}
 use Rattle.definitions.specs.Limits.{most_edges, most_steps}
 
--- Few steps, and some: a table with a row for each of them is much cheaper to clear than one for the most.
-abbrev pub few_steps : ℕ
-few_steps = 8
-
-abbrev pub some_steps : ℕ
-some_steps = 16
-
 -- Few edges: their adjacency lists are much cheaper to clear than those of the most.
 abbrev pub few_edges : ℕ
 few_edges = 256

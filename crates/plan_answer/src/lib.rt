@@ -3,22 +3,26 @@
 #![tactic(auto)]
 
 ghost use Rattle.std.specs.Prelude.{◌≡◌, true, false, List, ◌++◌, ◌≤◌, length, drop};
-ghost use Rattle.definitions.specs.Bytes.{read};
-ghost use Rattle.definitions.specs.Limits.{most_steps};
+ghost use Rattle.definitions.specs.Bytes as Bytes;
+ghost use Rattle.definitions.specs.Limits.{most_edges, most_steps};
 ghost use Rattle.definitions.specs.Links.{Edge, members};
 ghost use Rattle.definitions.specs.Numbers.{verdict_of};
 ghost use Rattle.definitions.specs.declared.Operation.{Operation};
 ghost use Rattle.data_edges.specs.Serial.{leasts_in};
 ghost use Rattle.data_edges.specs.Words.{graph};
+ghost use Rattle.data_lists.specs.Graphs.{edges_in};
+ghost use Rattle.read_fields.specs.Counts.{edge_room};
 ghost use Rattle.theory.specs.Graphs.{SheetLeasts};
 ghost use Rattle.data_numbers.specs.Codes.{is_given};
 ghost use Rattle.read_sheet.specs.Answers.{Reports};
 ghost use Rattle.plan_walks.specs.Tables.{Blank, SheetEdges, Tabulable, Tabulated};
 ghost use Rattle.plan_answer.specs.Questions.{Answers, Checked, Fitting, Listable, Responds, StepsHeld, Writable, list_wrong, numbers_of, short};
 
+use data_lists::Edges;
 use data_numbers::accepted;
-use definitions::{MOST_ADDED, MOST_EDGES, Reading, Refusal, Verdict};
+use definitions::{MOST_ADDED, MOST_EDGES, Refusal, Verdict};
 use judge_edges::Found;
+use plan_deciding::Tables;
 use plan_walks::tabulate;
 use read_sheet::Report;
 
@@ -28,6 +32,22 @@ pub enum Question {
     Judgement,
     Plan,
     Starts,
+}
+
+// A question about a sheet, with waits allowed or not, and the list of durations that start times are asked for.
+#[derive(Clone, Copy)]
+struct Asked<'a> {
+    allow: bool,
+    question: Question,
+    list: &'a [u32],
+}
+
+// The steps of a sheet: how many there are, the map of the open ones other than 0, and their leasts.
+#[derive(Clone, Copy)]
+struct Steps<'a> {
+    n: usize,
+    unbounded: u64,
+    leasts: &'a [u16; 64],
 }
 
 // ---- the sizes
@@ -50,6 +70,8 @@ const FEW_STEPS: usize = 8;
 
 const SOME_STEPS: usize = 16;
 
+const MOST_STEPS: usize = 64;
+
 // Adjacency lists: a number for each step that there may be, and one for each edge; behind them the returns, of which there may be as many as edges, and a 0.
 const FEW_EDGES: usize = 256;
 
@@ -60,20 +82,15 @@ const MOST_LISTED: usize = 64 + 2 * MOST_EDGES + 1;
 // ---- from the verdict, the working table and the anchor sets
 
 // Whether 13 applies: an entry of the list of durations is above its limit or below its least.
-fn wrong_list(
-    question: Question,
-    list: &[u32],
-    unbounded: u64,
-    leasts: &[u16; 64],
-    n: usize,
-) -> bool
-    requires { n ≤ most_steps }
-    ensures { (os : List Operation) → StepsHeld n unbounded leasts.now os → result ≡ list_wrong question os list.now }
+fn wrong_list(asked: Asked, steps: Steps) -> bool
+    requires { steps.n ≤ most_steps }
+    ensures { (os : List Operation) → StepsHeld steps.entry.n steps.entry.unbounded steps.entry.leasts.now os → result ≡ list_wrong asked.entry.question os asked.entry.list.now }
 {
-    match question {
-        Question::Judgement => false,
-        Question::Plan => false,
-        Question::Starts => plan_durations::delays_bad(list, unbounded, leasts, n),
+    match asked.question {
+        Question::Judgement | Question::Plan => false,
+        Question::Starts => {
+            plan_durations::delays_bad(asked.list, steps.unbounded, steps.leasts, steps.n)
+        }
     }
 }
 
@@ -95,51 +112,34 @@ fn too_short(question: Question, n: usize, list: usize, room: usize) -> bool
 }
 
 // 13 and 14 after a verdict, as far as the question has them.
-fn checked(
-    verdict: Verdict,
-    question: Question,
-    list: &[u32],
-    unbounded: u64,
-    leasts: &[u16; 64],
-    n: usize,
-    room: usize,
-) -> Verdict
-    requires { n ≤ most_steps }
-    ensures { Checked (verdict_of verdict) question n unbounded leasts.now list.now room (verdict_of result) }
+fn checked(verdict: Verdict, asked: Asked, steps: Steps, room: usize) -> Verdict
+    requires { steps.n ≤ most_steps }
+    ensures { Checked (verdict_of verdict) asked.entry.question steps.entry.n steps.entry.unbounded steps.entry.leasts.now asked.entry.list.now room (verdict_of result) }
 {
     if !accepted(verdict) {
         return verdict;
     }
-    if wrong_list(question, list, unbounded, leasts, n) {
-        return Verdict::Refused(Refusal::BadDelays);
+    if wrong_list(asked, steps) {
+        return Err(Refusal::BadDelays);
     }
-    if too_short(question, n, list.len(), room) {
-        return Verdict::Refused(Refusal::TooShort);
+    if too_short(asked.question, steps.n, asked.list.len(), room) {
+        return Err(Refusal::TooShort);
     }
     verdict
 }
 
 // The numbers that are asked for, to the front of those that are lent.
-fn write(
-    d: &[[i32; 64]],
-    number: &[u8; 64],
-    leasts: &[u16; 64],
-    sets: &[u64; 64],
-    n: usize,
-    question: Question,
-    list: &[u32],
-    out: &mut [u32],
-)
-    requires { Writable question n d.now sets.now list.now out.old }
-    ensures { (g : List Edge) → SheetLeasts (leasts_in leasts.now) (members g) → Tabulated n (leasts_in leasts.now) g number.now d.now sets.now → Fitting question n (leasts_in leasts.now) g list.now → out.new ≡ numbers_of question n (leasts_in leasts.now) g list.now ++ drop (length (numbers_of question n (leasts_in leasts.now) g list.now)) out.old }
+fn write(tables: Tables, n: usize, asked: Asked, out: &mut [u32])
+    requires { Writable asked.question n tables.cells.now tables.sets.now asked.list.now out.old }
+    ensures { (g : List Edge) → SheetLeasts (leasts_in tables.entry.leasts.now) (members g) → Tabulated n (leasts_in tables.entry.leasts.now) g tables.entry.number.now tables.entry.cells.now tables.entry.sets.now → Fitting asked.entry.question n (leasts_in tables.entry.leasts.now) g asked.entry.list.now → out.new ≡ numbers_of asked.entry.question n (leasts_in tables.entry.leasts.now) g asked.entry.list.now ++ drop (length (numbers_of asked.entry.question n (leasts_in tables.entry.leasts.now) g asked.entry.list.now)) out.old }
 {
-    match question {
+    match asked.question {
         Question::Judgement => {}
         Question::Plan => {
-            plan_table::fill_plan(d, number, leasts, sets, n, out);
+            plan_table::fill_plan(tables, n, out);
         }
         Question::Starts => {
-            plan_starts::fill_starts(d, number, leasts, sets, n, list, out);
+            plan_starts::fill_starts(tables, n, asked.list, out);
         }
     }
 }
@@ -149,100 +149,104 @@ fn write(
 // The answer, by a table without walks that has a row for each step.
 fn answer_on(
     d: &mut [[i32; 64]],
-    es: &[u64],
-    lists: &[u16],
-    leasts: &[u16; 64],
-    n: usize,
-    allow: bool,
-    unbounded: u64,
-    question: Question,
-    list: &[u32],
+    es: Edges,
+    steps: Steps,
+    asked: Asked,
     out: &mut [u32],
     maps: &mut [u64; 64],
 ) -> Found
-    requires { Tabulable n (leasts_in leasts.now) es.now lists.now d.old × Blank maps.old }
-    ensures { (os : List Operation) → StepsHeld n unbounded leasts.now os → Responds question n (leasts_in leasts.now) (graph es.now) allow os list.now out.old result out.new maps.new }
+    requires { Tabulable steps.n (leasts_in steps.leasts.now) es.words.now d.old × Blank maps.old }
+    ensures { (os : List Operation) → StepsHeld steps.entry.n steps.entry.unbounded steps.entry.leasts.now os → Responds asked.entry.question steps.entry.n (leasts_in steps.entry.leasts.now) (edges_in es.entry) asked.entry.allow os asked.entry.list.now out.old result out.new maps.new }
 {
     let mut number = [64u8; 64];
     let mut sets = [0u64; 64];
-    let found = tabulate(d, &mut number, es, lists, leasts, n, allow, &mut sets, maps);
-    let judged = found.verdict;
-    let verdict = checked(judged, question, list, unbounded, leasts, n, out.len());
+    let found = tabulate(
+        d,
+        &mut number,
+        es,
+        steps.leasts,
+        steps.n,
+        asked.allow,
+        &mut sets,
+        maps,
+    );
+    let verdict = checked(found.verdict, asked, steps, out.len());
     let answer = Found {
         sorted: found.sorted,
-        verdict: verdict,
+        verdict,
         count: found.count,
     };
     if !accepted(verdict) {
         return answer;
     }
-    write(d, &number, leasts, &sets, n, question, list, out);
+    let tables = Tables {
+        cells: d,
+        number: &number,
+        leasts: steps.leasts,
+        sets: &sets,
+    };
+    write(tables, steps.n, asked, out);
     answer
+}
+
+// The answer, with a table of so many rows, which are enough for the steps.
+fn answer_rows<const ROWS: usize>(
+    es: Edges,
+    steps: Steps,
+    asked: Asked,
+    out: &mut [u32],
+    maps: &mut [u64; 64],
+) -> Found
+    requires { SheetEdges steps.n (leasts_in steps.leasts.now) es.words.now × (steps.n ≤ ROWS) × (ROWS ≤ most_steps) × Blank maps.old }
+    ensures { (os : List Operation) → StepsHeld steps.entry.n steps.entry.unbounded steps.entry.leasts.now os → Responds asked.entry.question steps.entry.n (leasts_in steps.entry.leasts.now) (edges_in es.entry) asked.entry.allow os asked.entry.list.now out.old result out.new maps.new }
+{
+    let mut d = [[walk_cells::NONE; 64]; ROWS];
+    answer_on(&mut d, es, steps, asked, out, maps)
 }
 
 // The answer, with numbers lent for the adjacency lists. A judgement needs no table; few rows of it are cleared where few are needed.
 fn answer_listed(
     es: &[u64],
     lists: &mut [u16],
-    leasts: &[u16; 64],
-    n: usize,
-    allow: bool,
-    unbounded: u64,
-    question: Question,
-    list: &[u32],
+    steps: Steps,
+    asked: Asked,
     out: &mut [u32],
     maps: &mut [u64; 64],
 ) -> Found
-    requires { Listable n (leasts_in leasts.now) es.now lists.old × Blank maps.old }
-    ensures { (os : List Operation) → StepsHeld n unbounded leasts.now os → Responds question n (leasts_in leasts.now) (graph es.now) allow os list.now out.old result out.new maps.new }
+    requires { Listable steps.n (leasts_in steps.leasts.now) es.now lists.old × Blank maps.old }
+    ensures { (os : List Operation) → StepsHeld steps.entry.n steps.entry.unbounded steps.entry.leasts.now os → Responds asked.entry.question steps.entry.n (leasts_in steps.entry.leasts.now) (graph es.now) asked.entry.allow os asked.entry.list.now out.old result out.new maps.new }
 {
     data_lists::list(es, lists);
-    if let Question::Judgement = question {
-        return judge_edges::judge_edges(es, lists, leasts, n, allow, maps);
+    let es = Edges { words: es, lists };
+    if let Question::Judgement = asked.question {
+        return judge_edges::judge_edges(es, steps.leasts, steps.n, asked.allow, maps);
     }
-    if n <= FEW_STEPS {
-        let mut d = [[walk_cells::NONE; 64]; FEW_STEPS];
-        return answer_on(
-            &mut d, es, lists, leasts, n, allow, unbounded, question, list, out, maps,
-        );
+    if steps.n <= FEW_STEPS {
+        return answer_rows::<FEW_STEPS>(es, steps, asked, out, maps);
     }
-    if n <= SOME_STEPS {
-        let mut d = [[walk_cells::NONE; 64]; SOME_STEPS];
-        return answer_on(
-            &mut d, es, lists, leasts, n, allow, unbounded, question, list, out, maps,
-        );
+    if steps.n <= SOME_STEPS {
+        return answer_rows::<SOME_STEPS>(es, steps, asked, out, maps);
     }
-    let mut d = [[walk_cells::NONE; 64]; 64];
-    answer_on(
-        &mut d, es, lists, leasts, n, allow, unbounded, question, list, out, maps,
-    )
+    answer_rows::<MOST_STEPS>(es, steps, asked, out, maps)
 }
 
-// The answer from the edges of a sheet of n steps, their leasts and the map of the open ones.
+// The answer from the edges of a sheet and its steps.
 fn answer_edges(
     es: &[u64],
-    leasts: &[u16; 64],
-    n: usize,
-    allow: bool,
-    unbounded: u64,
-    question: Question,
-    list: &[u32],
+    steps: Steps,
+    asked: Asked,
     out: &mut [u32],
     maps: &mut [u64; 64],
 ) -> Found
-    requires { SheetEdges n (leasts_in leasts.now) es.now × Blank maps.old }
-    ensures { (os : List Operation) → StepsHeld n unbounded leasts.now os → Responds question n (leasts_in leasts.now) (graph es.now) allow os list.now out.old result out.new maps.new }
+    requires { SheetEdges steps.n (leasts_in steps.leasts.now) es.now × Blank maps.old }
+    ensures { (os : List Operation) → StepsHeld steps.entry.n steps.entry.unbounded steps.entry.leasts.now os → Responds asked.entry.question steps.entry.n (leasts_in steps.entry.leasts.now) (graph es.now) asked.entry.allow os asked.entry.list.now out.old result out.new maps.new }
 {
     if es.len() <= FEW_EDGES {
         let mut lists = [0u16; FEW_LISTED];
-        return answer_listed(
-            es, &mut lists, leasts, n, allow, unbounded, question, list, out, maps,
-        );
+        return answer_listed(es, &mut lists, steps, asked, out, maps);
     }
     let mut lists = [0u16; MOST_LISTED];
-    answer_listed(
-        es, &mut lists, leasts, n, allow, unbounded, question, list, out, maps,
-    )
+    answer_listed(es, &mut lists, steps, asked, out, maps)
 }
 
 // ---- over bytes
@@ -250,39 +254,48 @@ fn answer_edges(
 // The answer, from what was read of a sheet, the words that hold its edges and the leasts of its steps.
 fn answer_read(
     s: &[u8],
-    report: Report,
+    read: Result<Report, Refusal>,
     words: &[u64],
     leasts: &[u16; 64],
-    allow: bool,
-    question: Question,
-    list: &[u32],
+    asked: Asked,
     out: &mut [u32],
     maps: &mut [u64; 64],
 ) -> Found
-    requires { Reports (read s.now) words.now leasts.now report × Blank maps.old }
-    ensures { Answers question s.now allow list.now out.old result out.new maps.new }
+    requires { Reports (Bytes.read s.now) words.now leasts.now read × Blank maps.old }
+    ensures { Answers asked.entry.question s.now asked.entry.allow asked.entry.list.now out.old result out.new maps.new }
 {
-    let reading = report.reading;
-    if let Reading::Refused(k) = reading {
-        return Found {
-            sorted: false,
-            verdict: Verdict::Refused(k),
-            count: 0,
-        };
-    }
-    let count = report.count;
-    let unbounded = report.unbounded;
-    answer_edges(
-        &words[..count],
+    let report = match read {
+        Ok(report) => report,
+        Err(k) => {
+            return Found {
+                sorted: false,
+                verdict: Err(k),
+                count: 0,
+            };
+        }
+    };
+    let steps = Steps {
+        n: report.n,
+        unbounded: report.unbounded,
         leasts,
-        report.n,
-        allow,
-        unbounded,
-        question,
-        list,
-        out,
-        maps,
-    )
+    };
+    answer_edges(&words[..report.count], steps, asked, out, maps)
+}
+
+// The answer, with so many words for the edges, which is room enough for those of the sheet.
+fn answer_within<const WORDS: usize>(
+    s: &[u8],
+    asked: Asked,
+    out: &mut [u32],
+    maps: &mut [u64; 64],
+) -> Found
+    requires { (edge_room s.now ≤ WORDS) × (WORDS ≤ most_edges) × Blank maps.old }
+    ensures { Answers asked.entry.question s.now asked.entry.allow asked.entry.list.now out.old result out.new maps.new }
+{
+    let mut words = [0u64; WORDS];
+    let mut leasts = [0u16; 64];
+    let read = read_sheet::read(s, &mut words, &mut leasts);
+    answer_read(s, read, &words, &leasts, asked, out, maps)
 }
 
 // Answers a question about a sheet, whatever its bytes: the verdict, and on acceptance the numbers that are asked for at the front of `out`; all other numbers stay as lent.
@@ -298,23 +311,19 @@ pub fn answer(
     requires { Blank maps.old }
     ensures { Answers question s.now allow list.now out.old result out.new maps.new }
 {
-    let mut leasts = [0u16; 64];
+    let asked = Asked {
+        allow,
+        question,
+        list,
+    };
     if read_fields::is_brief(s, FEW_RECORDS) {
-        let mut words = [0u64; FEW_WORDS];
-        let report = read_sheet::read(s, &mut words, &mut leasts);
-        return answer_read(s, report, &words, &leasts, allow, question, list, out, maps);
+        return answer_within::<FEW_WORDS>(s, asked, out, maps);
     }
     if read_fields::is_brief(s, SOME_RECORDS) {
-        let mut words = [0u64; SOME_WORDS];
-        let report = read_sheet::read(s, &mut words, &mut leasts);
-        return answer_read(s, report, &words, &leasts, allow, question, list, out, maps);
+        return answer_within::<SOME_WORDS>(s, asked, out, maps);
     }
     if read_fields::is_brief(s, MANY_RECORDS) {
-        let mut words = [0u64; MANY_WORDS];
-        let report = read_sheet::read(s, &mut words, &mut leasts);
-        return answer_read(s, report, &words, &leasts, allow, question, list, out, maps);
+        return answer_within::<MANY_WORDS>(s, asked, out, maps);
     }
-    let mut words = [0u64; MOST_EDGES];
-    let report = read_sheet::read(s, &mut words, &mut leasts);
-    answer_read(s, report, &words, &leasts, allow, question, list, out, maps)
+    answer_within::<MOST_EDGES>(s, asked, out, maps)
 }

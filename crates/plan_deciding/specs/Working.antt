@@ -6,7 +6,12 @@ use Rattle.definitions.specs.Links.{Edge}
 use Rattle.definitions.specs.Plan.{offset_row}
 use Rattle.definitions.specs.Rounds.{cell, entry}
 use Rattle.data_edges.specs.Serial.{leasts_in}
-use Rattle.walk_cells.specs.Tables.{Square}
+use Rattle.plan_deciding.specs.declared.Tables.{Tables}
+use Rattle.walk_cells.specs.Tables.{Square, read_by}
+
+-- What the cells of the working tables say.
+abbrev pub cells_in : Tables → List (List ℕ)
+cells_in t = read_by t.number.now t.cells.now
 
 -- d and sets hold the heaviest walks and the anchor sets of the edges es: bit a of map v says whether a is in the anchor set of v, and where it is, cell a of row v of d is that of v in the row of a.
 pub record Holds (n : ℕ) (es : List Edge) (d : List (List ℕ)) (sets : List ℕ) : Type 0 where

@@ -2,7 +2,7 @@
 use mathlib.Core.Path.{◌≡◌, refl, sym, ap, ap₂, ◌∙◌}
 use mathlib.Core.Bool.{Bool, true, false, cond, not, ◌&&◌, ◌||◌, and-false, or-false}
 use mathlib.Core.List.{List}
-use Prim.Native.Nat.{ℕ, zero, suc, ◌<◌, ◌≤◌}
+use Prim.Native.Nat.{ℕ, zero, suc, min, ◌<◌, ◌≤◌}
 use native.Mathlib.Omega.{arith}
 use native.Mathlib.Decide.{dec_lt}
 use lib.Dec.{eqb, ltb}
@@ -55,13 +55,13 @@ module _ (unbounded : ℕ) (leasts list : List ℕ) where
   unfolding entry_outside
   outside_past i h = rw (le-ltb i (length list) h) refl
 
-  -- None of the first i entries, and the list ends there.
-  pub none_outside : (i n : ℕ) → length list ≤ i → any_below (entry_outside unbounded leasts list) i ≡ false → any_below (entry_outside unbounded leasts list) n ≡ false
-  none_outside i n h e = none_any_below (entry_outside unbounded leasts list) n (λ k b. go k (dec_lt k i))
+  -- None of the first i entries, which are those of the first n that are there.
+  pub none_outside : (i n : ℕ) → min n (length list) ≤ i → any_below (entry_outside unbounded leasts list) i ≡ false → any_below (entry_outside unbounded leasts list) n ≡ false
+  none_outside i n h e = none_any_below (entry_outside unbounded leasts list) n (λ k b. go k b (dec_lt k i))
     where
-      go : (k : ℕ) → Dec (k < i) → entry_outside unbounded leasts list k ≡ false
-      go k (yes l) = any_below_none (entry_outside unbounded leasts list) i e k l
-      go k (no l) = outside_past k (omega arith)
+      go : (k : ℕ) → k < n → Dec (k < i) → entry_outside unbounded leasts list k ≡ false
+      go k b (yes l) = any_below_none (entry_outside unbounded leasts list) i e k l
+      go k b (no l) = outside_past k (omega arith)
 
   pub outside_there : (i : ℕ) (t : Bool) → i < length list → outside unbounded (leasts_in leasts i) i (get_or list i 0) ≡ t → entry_outside unbounded leasts list i ≡ t
   unfolding entry_outside

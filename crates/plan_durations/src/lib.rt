@@ -12,7 +12,7 @@ fn delay_bad(x: u32, unbounded: u64, least: u16, i: usize) -> bool
     requires { i < most_steps }
     ensures { result ≡ outside unbounded least i x }
 {
-    if x < (least as u32) {
+    if x < u32::from(least) {
         return true;
     }
     if data_bits::has(unbounded, i) {
@@ -26,15 +26,10 @@ pub fn delays_bad(list: &[u32], unbounded: u64, leasts: &[u16; 64], n: usize) ->
     requires { n ≤ most_steps }
     ensures { Judged list.now unbounded leasts.now n result }
 {
-    let mut i = 0;
-    while i < n {
-        if list.len() <= i {
-            return false;
-        }
+    for i in 0..n.min(list.len()) {
         if delay_bad(list[i], unbounded, leasts[i], i) {
             return true;
         }
-        i += 1;
     }
     false
 }

@@ -1,7 +1,7 @@
 -- A row asked for: the answer in each of the cases that the code tells apart, and where the row stands in the table.
-use mathlib.Core.Path.{◌≡◌, sym, ap, ◌∙◌}
+use mathlib.Core.Path.{◌≡◌}
 use mathlib.Core.Bool.{false, ◌&&◌}
-use mathlib.Core.List.{List, []}
+use mathlib.Core.List.{List}
 use Prim.Native.Nat.{ℕ, ◌+◌, ◌-◌, ◌*◌, ◌≤◌, ◌<◌}
 use native.Mathlib.Omega.{arith}
 use native.Mathlib.Nat.{add-sub_cancel_left}
@@ -10,13 +10,10 @@ use lib.ListN.{length, take, drop}
 use borrow.Author.Tests.{le-leb, lt-leb, le-ltb, lt-ltb, leb-true, leb-false, ltb-false, not-false}
 use Rattle.definitions.specs.Answers.{bad_count, too_short, row_answer}
 use Rattle.definitions.specs.Basics.{Outcome, given, refused, refuse_if}
-use Rattle.definitions.specs.Limits.{most_steps}
-use Rattle.definitions.specs.Numbers.{status_of}
+use Rattle.definitions.specs.Limits.{most_steps, longest_table}
 use Rattle.definitions.specs.Plan.{row_part}
-use Rattle.definitions.specs.declared.Refusal.{Refusal}
-use Rattle.definitions.specs.declared.Status.{Status}
-use Rattle.definitions.specs.declared.Status.TheVariants as Statuses
 use Rattle.laws.proofs.Bools.{and_split}
+use Rattle.laws.proofs.Counts.{row_end, square_small}
 use Rattle.laws.proofs.Outcomes.{refuse_given}
 use Rattle.plan_rows.specs.Answers.{part_of}
 
@@ -45,6 +42,9 @@ module _ (table : List ℕ) (n v : ℕ) where
   unfolding row_answer refuse_if too_short
   row_there h k l m = rw (counted h k, lt-leb n v l, le-ltb (length table) (n * n) m)
 
+-- The cases, and that n × n fits.
+pub ruleset row_cases = (row_none, row_many, row_outside, row_short, row_there, square_small)
+
 -- What an answer that is a part says of its arguments.
 pub record Asked (table : List ℕ) (n v : ℕ) : Type 0 where
   pub few : n ≤ most_steps
@@ -66,13 +66,8 @@ row_asked table n v {part} h =
     let long = ltb-false (length table) (n * n) r14.0 in
     record { few = few; inside = inside; long = long; part = row_there table n v some few inside long }
 
--- What the companion call's status says: the row stands in the table, or none is handed back.
-module _ (table : List ℕ) (n v : ℕ) (r : Status) (same : status_of r (part_of (row_answer table n v)) ≡ row_answer table n v) where
-  pub row_done : r ≡ Statuses.Done → Asked table n v
-  row_done e = row_asked table n v (sym same ∙ ap (λ (x : Status). status_of x (part_of (row_answer table n v))) e)
-
-  pub row_refused : {k : Refusal} → r ≡ Statuses.Refused k → part_of (row_answer table n v) ≡ []
-  row_refused e = ap part_of (sym same ∙ ap (λ (x : Status). status_of x (part_of (row_answer table n v))) e)
+pub asked_small : {table : List ℕ} {n v : ℕ} → Asked table n v → v * n + n ≤ longest_table
+asked_small {n = n} {v} a = omega (arith, row_end n v a.inside, square_small n a.few)
 
 pub asked_part : {table : List ℕ} {n v : ℕ} → Asked table n v → take (v * n + n - v * n) (drop (v * n) table) ≡ part_of (row_answer table n v)
 unfolding row_part

@@ -6,26 +6,23 @@ ghost use Rattle.definitions.specs.Answers.{row_answer};
 ghost use Rattle.definitions.specs.Numbers.{status_of};
 ghost use Rattle.plan_rows.specs.Answers.{part_of};
 
-use definitions::{Refusal, Status};
+use definitions::Refusal;
 
 // Whether row v of a plan for n steps can be handed back, or the refusal: 2, 5, 14.
-pub fn row_status(table: &[u32], n: usize, v: usize) -> Status
+#[tactic(auto, using(crate::proofs::Parts::row_cases))]
+pub fn row_status(table: &[u32], n: usize, v: usize) -> Result<(), Refusal>
     ensures { status_of result (part_of (row_answer table.now n v)) ≡ row_answer table.now n v }
 {
-    if n == 0 {
-        return Status::Refused(Refusal::OperationCount);
-    }
-    if 64 < n {
-        return Status::Refused(Refusal::OperationCount);
+    if n < 1 || 64 < n {
+        return Err(Refusal::OperationCount);
     }
     if n <= v {
-        return Status::Refused(Refusal::BadEndpoint);
+        return Err(Refusal::BadEndpoint);
     }
-    let size = n * n;
-    if table.len() < size {
-        return Status::Refused(Refusal::TooShort);
+    if table.len() < n * n {
+        return Err(Refusal::TooShort);
     }
-    Status::Done
+    Ok(())
 }
 
 // Row v of a plan for n steps: that part of the caller's table, or the empty part where it is refused.
@@ -33,11 +30,11 @@ pub fn row<'a>(table: &'a [u32], n: usize, v: usize) -> &'a [u32]
     ensures { result.now ≡ part_of (row_answer table.now n v) }
 {
     match row_status(table, n, v) {
-        Status::Done => {
+        Ok(()) => {
             let start = v * n;
             let end = start + n;
             &table[start..end]
         }
-        Status::Refused(_) => &table[0..0],
+        Err(_) => &table[0..0],
     }
 }

@@ -3,21 +3,21 @@ use mathlib.Core.Path.{◌≡◌, refl, sym, ap, ap₂, ◌∙◌}
 use mathlib.Core.Bool.{Bool, true, false, not, ◌&&◌}
 use mathlib.Core.Logic.{◌⊎◌, inl, inr}
 use mathlib.Core.List.{List, ◌++◌}
-use Prim.Native.Nat.{ℕ, zero, suc, ◌+◌, ◌-◌, ◌<◌, min, max}
+use Prim.Native.Nat.{ℕ, zero, suc, ◌+◌, ◌-◌, ◌<◌, ◌≤◌, min, max}
 use native.Mathlib.Omega.{arith}
 use native.Mathlib.Numerals.{add-one}
 use lib.Dec.{eqb}
-use lib.ListN.{get_or, drop, replicate}
-use borrow.Author.Tests.{eqb-true}
+use lib.ListN.{length, get_or, take, drop, replicate, length-take}
+use lib.Seq.{get_or-take}
 use Rattle.definitions.specs.Anchors.{in_anchor_set}
-use Rattle.definitions.specs.Basics.{all_below, largest, tabulate, test_bit}
+use Rattle.definitions.specs.Basics.{largest, tabulate, test_bit}
 use Rattle.definitions.specs.Links.{Edge}
 use Rattle.definitions.specs.Plan.{offset, delays, start_from, start_turns, start_times}
 use Rattle.definitions.specs.Rounds.{cell}
-use Rattle.laws.proofs.Bools.{bool_cases, both_ways, not_passing, cond_true, cond_false}
+use Rattle.laws.proofs.Bools.{bool_cases, cond_true, cond_false}
 use Rattle.laws.proofs.Fronts.{laid_at, tabulate_list}
 use Rattle.laws.proofs.Members.{largest_member_less, largest_member_none}
-use Rattle.laws.proofs.Tests.{all_below_each, largest_same, largest_same_test, tabulate_at, tabulate_same}
+use Rattle.laws.proofs.Tests.{largest_same, largest_same_test, tabulate_at, tabulate_same}
 use Rattle.theory.proofs.FirstRows.{zeros_at}
 use Rattle.theory.proofs.StartTimes.{start_times_length}
 use Rattle.plan_deciding.specs.Working.{Holds, HoldsLeasts, member}
@@ -52,11 +52,13 @@ module _ (d : List (List ℕ)) (leasts sets : List ℕ) (n : ℕ) (list row : Li
   start_at_later zero most h e = absurd (h refl)
   start_at_later (suc v) most h e = ap (λ (x : ℕ). min x cut) (sym e)
 
--- ---- rows that are the same
+-- ---- the first numbers of rows
 
-module _ (test : ℕ → Bool) where
-  pub all_below_fails : (n i : ℕ) → i < n → test i ≡ false → all_below test n ≡ false
-  all_below_fails n i b h = not_passing (all_below test n) (λ t. both_ways (all_below_each test n t i b) h)
+pub front_cells : (n : ℕ) (row : List ℕ) → n ≤ length row → take n row ≡ tabulate (cell row) n
+front_cells n row h = sym (tabulate_list (take n row) (cell row) n 0 (simp length-take (omega arith)) (λ i b. sym (get_or-take n row i 0 b)))
+
+cells_same : (n : ℕ) (row other : List ℕ) → take n row ≡ take n other → (a : ℕ) → a < n → cell row a ≡ cell other a
+cells_same n row other e a b = sym (get_or-take n row a 0 b) ∙ ap (λ (l : List ℕ). cell l a) e ∙ get_or-take n other a 0 b
 
 -- ---- turns that change nothing
 
@@ -84,10 +86,10 @@ module _ (d : List (List ℕ)) (leasts sets : List ℕ) (n : ℕ) (list : List �
 
   -- A turn gives the row that it was given: so do all that follow.
   pub row_after_stop : (k : ℕ) (row next : List ℕ) → k < n → row ≡ row_after d leasts sets n list k → next ≡ next_row d leasts sets n list row
-      → all_below (λ v. eqb (cell row v) (cell next v)) n ≡ true → next ≡ row_after d leasts sets n list n
+      → take n row ≡ take n next → next ≡ row_after d leasts sets n list n
   unfolding row_after
   row_after_stop k row next b e f t =
-      to_next ∙ sym (settled k (λ a c. ap (λ (l : List ℕ). cell l a) (sym e) ∙ eqb-true (cell row a) (cell next a) (all_below_each (λ v. eqb (cell row v) (cell next v)) n t a c) ∙ ap (λ (l : List ℕ). cell l a) to_next) (n - suc k))
+      to_next ∙ sym (settled k (λ a c. ap (λ (l : List ℕ). cell l a) (sym e) ∙ cells_same n row next t a c ∙ ap (λ (l : List ℕ). cell l a) to_next) (n - suc k))
       ∙ ap (row_after d leasts sets n list) (let g : suc k + (n - suc k) ≡ n = omega arith in g)
     where
       to_next : next ≡ row_after d leasts sets n list (suc k)

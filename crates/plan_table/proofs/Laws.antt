@@ -9,16 +9,17 @@ use native.Mathlib.Nat.{suc-mul, zero-mul}
 use native.Mathlib.Numerals.{add-one}
 use native.Mathlib.Decide.{dec_lt}
 use lib.Dec.{eqb, ltb}
-use lib.ListN.{length, get_or, set, take, drop, length-append, length-drop, length-set}
+use lib.ListN.{length, get_or, set, take, drop, replicate, length-append, length-drop, length-set}
+use Rattle.std.proofs.lemmas.List.{length-replicate, get_or-replicate}
 use lib.Seq.{drop_at, drop-drop, ext_get_or, get_or-drop, get_or-set_same, get_or-set_other, get_or-take}
 use borrow.Author.Tests.{eq-eqb, lt-ltb, ltb-true, ne_eqb}
 use borrow.Rule.Slice.PartMut.{put_mid}
-use Rattle.laws.proofs.Counts.{row_end}
 use Rattle.definitions.specs.Basics.{tabulate, test_bit}
+use Rattle.definitions.specs.Limits.{longest_table}
 use Rattle.definitions.specs.Links.{Edge, members}
 use Rattle.definitions.specs.Plan.{decides, offset, undecided, plan_entry, plan_row, plan_rows, plan_table}
-use Rattle.laws.proofs.Counts.{row_end}
-use Rattle.laws.proofs.Fronts.{laid, laid_at, laid_past, put_rest}
+use Rattle.laws.proofs.Counts.{row_end, square_small}
+use Rattle.laws.proofs.Fronts.{laid, laid_at, laid_past, put_rest, tabulate_list}
 use Rattle.laws.proofs.Bools.{and_split, bool_cases, cond_true, cond_false, same_or_not}
 use Rattle.laws.proofs.Maps.{test_zero}
 use Rattle.laws.proofs.Tests.{tabulate_length, tabulate_same}
@@ -70,6 +71,10 @@ module _ {n : ℕ} {value : ℕ → ℕ} {map left : ℕ} {row₀ row : List ℕ
   -- No member is left.
   pub all_put : left ≡ 0 → Putting n value map left row₀ row → Put n (test_bit map) value row₀ row
   all_put none P = record { long = P.long; front = λ a b. sym (cond_false _ _ (ap (λ (x : ℕ). test_bit x a) none ∙ test_zero a)) ∙ P.front a b; rest = P.rest }
+
+-- A row of equal numbers is cleared.
+pub filled_cleared : (k : ℕ) → replicate k undecided ≡ tabulate cleared k
+filled_cleared k = sym (tabulate_list (replicate k undecided) cleared k 0 (length-replicate k undecided) (λ i b. sym (get_or-replicate k i undecided 0 b)))
 
 -- A cleared row with the offsets of the deciding set is the row of the plan.
 pub row_filled : (d : List (List ℕ)) (leasts sets : List ℕ) (n v map : ℕ) (row row' : List ℕ) → ((j : ℕ) → test_bit map j ≡ deciding d sets v j) → n ≤ length row → ((a : ℕ) → a < n → get_or row a 0 ≡ undecided) → Put n (test_bit map) (offset_in d leasts v) row row' → row' ≡ laid (entry_at d leasts sets v) n row
@@ -152,6 +157,15 @@ module _ (leasts : List ℕ) {n : ℕ} {least : ℕ → ℕ} {es : List Edge} {d
   table_plan : first_rows d leasts sets n n ≡ plan_table n least es
   unfolding plan_table
   table_plan = rows_plan n (omega arith)
+
+-- Row v is in the plan's table, and that in the lent numbers.
+pub record InTable (n v : ℕ) (table : List ℕ) : Type 0 where
+  pub row : v * n + n ≤ n * n
+  pub small : n * n ≤ longest_table
+  pub room : n * n ≤ length table
+
+pub in_table : {n v : ℕ} (lent table : List ℕ) → v < n → n ≤ 64 → n * n ≤ length lent → length table ≡ length lent → InTable n v table
+in_table {n} {v} lent table below few room same = record { row = row_end n v below; small = square_small n few; room = omega arith }
 
 -- So what is read off the tables is the definition's.
 pub planned : {n : ℕ} {d : List (List ℕ)} {leasts sets lent after : List ℕ} (c : List ℕ) → n ≤ 64 → c ≡ laid cleared (n * n) lent → (((v : ℕ) → v < n → Orderly d sets v) → after ≡ first_rows d leasts sets n n ++ drop (n * n) c) → Planned n d leasts sets lent after

@@ -1,5 +1,6 @@
 -- What is found of a sheet's edges, from an analysis with 10 left out and from what is found out about 10.
 use mathlib.Core.Path.{◌≡◌, refl, sym, ap, ◌∙◌}
+use Rattle.definitions.specs.Numbers.{Verdict, verdict_of}
 use mathlib.Core.Bool.{Bool, true, false, cond, not, ◌&&◌, false≢true}
 use mathlib.Core.List.{List}
 use Prim.Native.Nat.{ℕ, ◌≤◌}
@@ -9,9 +10,7 @@ use Rattle.definitions.specs.Answers.{infeasible, judge_edges}
 use Rattle.definitions.specs.Basics.{Outcome, given, refused}
 use Rattle.definitions.specs.Limits.{most_steps}
 use Rattle.definitions.specs.Links.{Edge, members}
-use Rattle.definitions.specs.Numbers.{verdict_of}
 use Rattle.definitions.specs.Waits.{needs_waits}
-use Rattle.definitions.specs.declared.Verdict.{Verdict}
 use Rattle.demands.proofs.Judging.{judge_given}
 use Rattle.demands.proofs.Sheets.{passes_well, serializable_iff}
 use Rattle.laws.proofs.Bools.{both_ways}

@@ -1,6 +1,5 @@
 -- What the working table and the anchor sets of a sheet's edges are made from, and what they hold.
 use Rattle.std.specs.Prelude.{◌≡◌, Bool, true, List, ℕ, ◌≤◌, ℤ, length, replicate}
-use Rattle.data_lists.specs.Lists.{Lists}
 use Rattle.judge_edges.specs.Analysis.{Listed}
 use Rattle.judge_edges.specs.declared.Found.{Found}
 use Rattle.definitions.specs.Answers.{judge_edges}
@@ -25,9 +24,8 @@ pub record SheetEdges (n : ℕ) (least : ℕ → ℕ) (es : List ℕ) : Type 0 w
   pub formed : SheetGraph n least (members (graph es))
 
 -- The edges of a sheet with their adjacency lists, and a working table without walks that has a row for each step.
-pub record Tabulable (n : ℕ) (least : ℕ → ℕ) (es lists : List ℕ) (d : List (List ℤ)) : Type 0 where
+pub record Tabulable (n : ℕ) (least : ℕ → ℕ) (es : List ℕ) (d : List (List ℤ)) : Type 0 where
   pub sheet : SheetEdges n least es
-  pub adjacent : Lists es lists
   pub rows : n ≤ length d
   pub empty : Empty d
 

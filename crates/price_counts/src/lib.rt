@@ -1,7 +1,7 @@
 // Registers and comparisons of a plan (request L5), counted over its own entries. A plan of n steps has n × n numbers: at v × n + a the offset of v for a, or UNDECIDED where a does not decide v.
 #![tactic(auto)]
 
-ghost use Rattle.std.specs.Prelude.{◌≡◌, cond, not, ◌<◌, max, eqb, get_or};
+ghost use Rattle.std.specs.Prelude.{◌≡◌, cond, not, ◌<◌, eqb, get_or};
 ghost use Rattle.definitions.specs.Basics.{test_bit};
 ghost use Rattle.definitions.specs.Plan.{undecided};
 ghost use Rattle.definitions.specs.Price.{comparisons_of, entry_at, largest_offset, registers_of, too_large};
@@ -24,26 +24,14 @@ fn entry(plan: &[u32], n: usize, v: usize, a: usize) -> u32
 fn offset_of(x: u32) -> u32
     ensures { result ≡ cond (not (eqb x undecided)) x 0 }
 {
-    if x == UNDECIDED {
-        return 0;
-    }
-    x
+    if x == UNDECIDED { 0 } else { x }
 }
 
 // What an entry adds to the comparisons: 1 where it is an offset.
 fn one_for(x: u32) -> u32
     ensures { result ≡ cond (not (eqb x undecided)) 1 0 }
 {
-    if x == UNDECIDED {
-        return 0;
-    }
-    1
-}
-
-fn larger(x: u32, y: u32) -> u32
-    ensures { result ≡ max x y }
-{
-    if x < y { y } else { x }
+    u32::from(x != UNDECIDED)
 }
 
 // ---- registers
@@ -54,20 +42,11 @@ fn largest_offset(plan: &[u32], n: usize, a: usize) -> u32
     ensures { result ≡ largest_offset n plan.now a }
 {
     let mut most = 0;
-    let mut v = 0;
-    while v < n {
+    for v in 0..n {
         let x = entry(plan, n, v, a);
-        most = larger(most, offset_of(x));
-        v += 1;
+        most = most.max(offset_of(x));
     }
     most
-}
-
-// A number of 32 bits as an index.
-fn index(x: u32) -> usize
-    ensures { result ≡ x }
-{
-    x as usize
 }
 
 // Whether a is open and its largest offset is one that the table has no entry for.
@@ -78,7 +57,7 @@ fn large(plan: &[u32], n: usize, unbounded: u64, a: usize) -> bool
     if !data_bits::has(unbounded, a) {
         return false;
     }
-    REGISTER_ENTRIES <= index(largest_offset(plan, n, a))
+    REGISTER_ENTRIES <= largest_offset(plan, n, a) as usize
 }
 
 // Whether 19 applies: the largest offset of step 0 or of an open step is 1,024 or more. `unbounded` is the map of these steps.
@@ -86,12 +65,10 @@ pub fn too_large(plan: &[u32], n: usize, unbounded: u64) -> bool
     requires { Planned n plan.now }
     ensures { result ≡ too_large (test_bit unbounded) n plan.now }
 {
-    let mut a = 0;
-    while a < n {
+    for a in 0..n {
         if large(plan, n, unbounded, a) {
             return true;
         }
-        a += 1;
     }
     false
 }
@@ -100,10 +77,10 @@ pub fn too_large(plan: &[u32], n: usize, unbounded: u64) -> bool
 fn look_up(entries: &[u16], at: usize) -> u32
     ensures { Counted (get_or entries.now at 0) result }
 {
-    if entries.len() <= at {
-        return 0;
+    match entries.get(at) {
+        Some(&entry) => u32::from(entry),
+        None => 0,
     }
-    entries[at] as u32
 }
 
 // The registers of a: the table's entry at its largest offset, and 0 where a is fixed.
@@ -115,7 +92,7 @@ fn registers(entries: &[u16], plan: &[u32], n: usize, unbounded: u64, a: usize) 
         return 0;
     }
     let most = largest_offset(plan, n, a);
-    look_up(entries, index(most))
+    look_up(entries, most as usize)
 }
 
 // The registers of each step, at the front of the lent numbers. Returns their sum.
@@ -130,12 +107,10 @@ pub fn fill_registers(
     ensures { Filled (registers_of (test_bit unbounded) entries.now n plan.now) n list.old result list.new }
 {
     let mut total = 0;
-    let mut a = 0;
-    while a < n {
+    for a in 0..n {
         let count = registers(entries, plan, n, unbounded, a);
         list[a] = count;
         total += count;
-        a += 1;
     }
     total
 }
@@ -148,11 +123,9 @@ fn comparisons(plan: &[u32], n: usize, v: usize) -> u32
     ensures { Counted (comparisons_of n plan.now v) result }
 {
     let mut count = 0;
-    let mut a = 0;
-    while a < n {
+    for a in 0..n {
         let x = entry(plan, n, v, a);
         count += one_for(x);
-        a += 1;
     }
     count
 }
@@ -163,12 +136,10 @@ pub fn fill_comparisons(plan: &[u32], n: usize, list: &mut [u32]) -> u32
     ensures { Filled (comparisons_of n plan.now) n list.old result list.new }
 {
     let mut total = 0;
-    let mut v = 0;
-    while v < n {
+    for v in 0..n {
         let count = comparisons(plan, n, v);
         list[v] = count;
         total += count;
-        v += 1;
     }
     total
 }

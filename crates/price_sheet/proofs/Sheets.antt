@@ -1,5 +1,7 @@
 -- From what planning answers, and what a run is begun with, to the price of a sheet. Assumes nothing.
 use mathlib.Core.Path.{◌≡◌, refl, sym, ap, ap₂, subst, ◌∙◌}
+use Rattle.std.specs.Prelude.{Result, Err, Ok}
+use Rattle.definitions.specs.Numbers.{Status, number, verdict_of}
 use mathlib.Core.Bool.{Bool, true, false, ◌&&◌, true≢false, false≢true}
 use mathlib.Core.List.{List}
 use Prim.Native.Nat.{ℕ, ◌*◌, ◌≤◌, ◌<◌}
@@ -14,11 +16,11 @@ use Rattle.definitions.specs.Basics.{Outcome, given, refused, refuse_if, sum_bel
 use Rattle.definitions.specs.Bytes.{Records, read}
 use Rattle.definitions.specs.Limits.{longest_table, most_steps, register_entries}
 use Rattle.definitions.specs.Links.{delay_at, is_open}
-use Rattle.definitions.specs.Numbers.{verdict_of}
+use Rattle.definitions.specs.declared.Acceptance.{Acceptance}
+use Rattle.definitions.specs.declared.Acceptance.TheVariants.{Serialized, WellPosed}
+use Rattle.definitions.specs.declared.Refusal.{Refusal}
 use Rattle.definitions.specs.Plan.{plan_table}
 use Rattle.definitions.specs.Price.{Priced, comparisons_of, largest_offset, open_at, plan_of, price_answer, price_judged, price_of, price_read, price_records, price_verdict, price_when, registers_of, too_large}
-use Rattle.definitions.specs.declared.Status.{Status}
-use Rattle.definitions.specs.declared.Verdict.{Verdict}
 use Rattle.data_numbers.specs.Codes.{is_given}
 use Rattle.demands.specs.Demands.{Bytes}
 use Rattle.demands.proofs.Reading.{read_fits}
@@ -30,7 +32,7 @@ use Rattle.laws.proofs.Tests.{tabulate_same}
 use Rattle.run_sheet.specs.Steps.{StepsReturned, left_in}
 use Rattle.theory.proofs.PlanTables.{plan_table_length}
 use Rattle.price_sheet.specs.declared.Quotation.{Quotation}
-use Rattle.price_sheet.specs.Returned.{Quotes, open_read, plan_verdict, refusing}
+use Rattle.price_sheet.specs.Returned.{Quotes, open_read, plan_verdict}
 use Rattle.price_sheet.specs.Returned as Returned
 
 -- A price depends on which of its n steps are open.
@@ -81,6 +83,11 @@ unfolding when_given too_short refuse_if
 plan_judges table size room (given v) h = absurd (given_not_refused ((sym (ap (λ (b : Bool). refuse_if b 14 (given v)) (le-ltb (length table) size room))) ∙ h))
 plan_judges table size room (refused j) h = h
 
+-- An acceptance accepts.
+pub accepts : (a : Acceptance) → is_given (verdict_of (Ok a)) ≡ true
+accepts WellPosed = refl
+accepts Serialized = refl
+
 -- A table that holds the plan of an accepted sheet at its front.
 pub record Held (s : List ℕ) (allow : Bool) (o : Outcome ℕ) (table : List ℕ) : Type 0 where
   pub sheet : Records
@@ -109,12 +116,9 @@ module _ (s : List ℕ) (bytes : Bytes s) (allow : Bool) (table : List ℕ) (lon
       go (refused j) e h = rw (refused_same h)
       go (given q) e h = rw (plan_judges table (count_of q * count_of q) (room e) (judge_records q allow) h)
 
-  pub quotes_unread : (entries registers comparisons : List ℕ) (n unbounded : ℕ) (verdict : Verdict) {r : Quotation} → verdict_of verdict ≡ (planned s allow table).verdict → is_given (verdict_of verdict) ≡ false → r ≡ refusing verdict → Quotes (price_answer entries s allow registers comparisons) n unbounded r registers comparisons
-  quotes_unread entries registers comparisons n unbounded verdict {r} e g q = go (verdict_of verdict) refl g
-    where
-      go : (o : Outcome ℕ) → verdict_of verdict ≡ o → is_given o ≡ false → Quotes (price_answer entries s allow registers comparisons) n unbounded r registers comparisons
-      go (given v) d g = absurd (true≢false g)
-      go (refused k) d g = rw (priced_refused entries registers comparisons (sym e ∙ d), q) (record { verdict = d; steps = refl; open_steps = refl; register_list = refl; comparison_list = refl; register_total = refl; comparison_total = refl })
+  pub quotes_unread : (entries registers comparisons : List ℕ) (n unbounded : ℕ) (k : Refusal) → refused (number k) ≡ (planned s allow table).verdict → Quotes (price_answer entries s allow registers comparisons) n unbounded (Err k) registers comparisons
+  quotes_unread entries registers comparisons n unbounded k e =
+      rw (priced_refused entries registers comparisons (sym e)) (record { returned = refl; register_list = refl; comparison_list = refl })
 
   -- On acceptance the table holds the plan.
   pub holds : (o : Outcome ℕ) {after : List ℕ} → o ≡ (planned s allow table).verdict → is_given o ≡ true → after ≡ (planned s allow table).numbers → Held s allow o after
@@ -161,7 +165,7 @@ module _ {s : List ℕ} {allow : Bool} {o : Outcome ℕ} {table : List ℕ} (hel
     map_is = returned.unbounded ∙ ap (λ (b : Outcome Beginning). (left_in lent b).unbounded) (begins lent.leasts long)
 
   -- The price of the plan that is held is the price of the sheet.
-  pub quotes_sheet : (entries registers comparisons : List ℕ) {n map : ℕ} {plan : List ℕ} {r : Quotation} {registers' comparisons' : List ℕ} → n ≡ count_of q → map ≡ open_map q.steps → plan ≡ take (n * n) table
+  pub quotes_sheet : (entries registers comparisons : List ℕ) {n map : ℕ} {plan : List ℕ} {r : Result Quotation Refusal} {registers' comparisons' : List ℕ} → n ≡ count_of q → map ≡ open_map q.steps → plan ≡ take (n * n) table
       → Quotes (plan_priced entries s allow registers comparisons map n plan held.value) n map r registers' comparisons'
       → Quotes (price_answer entries s allow registers comparisons) (Returned.steps_read (read s)) (open_read (read s)) r registers' comparisons'
   quotes_sheet entries registers comparisons {n} {map} {plan} {r} {registers'} {comparisons'} en em ep h =

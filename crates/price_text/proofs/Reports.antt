@@ -1,5 +1,8 @@
 -- What pricing answers says of the text that the price program prints.
 use mathlib.Core.Path.{◌≡◌, refl, sym, ap, ap₂, subst, ◌∙◌}
+use Rattle.std.specs.Prelude.{Result, Err, Ok}
+use Rattle.definitions.specs.declared.Acceptance.{Acceptance}
+use Rattle.definitions.specs.declared.Acceptance.TheVariants.{Serialized, WellPosed}
 use mathlib.Core.Bool.{Bool, true, false, cond, ◌&&◌, ◌||◌}
 use mathlib.Core.List.{List, [], ◌++◌, flat_map}
 use Prim.Native.Nat.{ℕ, ◌≤◌, ◌<◌}
@@ -13,10 +16,8 @@ use Rattle.definitions.specs.Bytes.{Records, read}
 use Rattle.definitions.specs.Limits.{most_steps}
 use Rattle.definitions.specs.Links.{delay_at, is_open}
 use Rattle.definitions.specs.Output.{field, newline, word_refused}
-use Rattle.definitions.specs.Numbers.{verdict_of}
+use Rattle.definitions.specs.Numbers.{number, verdict_of}
 use Rattle.definitions.specs.declared.Refusal.{Refusal}
-use Rattle.definitions.specs.declared.Verdict.{Verdict}
-use Rattle.definitions.specs.declared.Verdict.TheVariants as Verdicts
 use Rattle.definitions.specs.Price.{Price, comparisons_of, comparisons_text, open_at, plan_of, price_answer, price_judged, price_of, price_read, price_records, price_report, price_text, price_verdict, price_when, printed_table, registers_of, registers_text, report_read, report_when, word_comparisons, word_registers, word_total}
 use Rattle.laws.proofs.Maps.{test_bits_below}
 use Rattle.laws.proofs.Outcomes.{given_not_refused, passes_by, refused_same}
@@ -24,7 +25,7 @@ use Rattle.laws.proofs.Tests.{tabulate_length}
 use Rattle.demands.specs.Demands.{Bytes, IsSheet}
 use Rattle.demands.proofs.Reading.{fits_of, read_fits}
 use Rattle.data_buffers.proofs.Listing.{texts_all, texts_same, texts_select}
-use Rattle.price_sheet.specs.Returned.{QuoteReturned, open_read, steps_read, when_priced}
+use Rattle.price_sheet.specs.Returned.{QuoteReturned, open_read, steps_read}
 use Rattle.price_sheet.specs.declared.Quotation.{Quotation}
 use Rattle.print_line.specs.Texts.{heading, refusal_text}
 use Rattle.print_price.specs.Texts.{price}
@@ -155,37 +156,37 @@ module _ {s registers comparisons : List ℕ} {x y : ℕ} (prices : Prices s reg
       prices.comparison_sum
       ∙ sym reported
 
--- A verdict that is no refusal accepts.
-pub accepting : (w : Verdict) → ((k : Refusal) → w ≡ Verdicts.Refused k → ⊥) → (v : ℕ) × (verdict_of w ≡ given v)
-accepting Verdicts.WellPosed h = (0, refl)
-accepting Verdicts.Serialized h = (1, refl)
-accepting (Verdicts.Refused k) h = absurd (h k refl)
+-- An acceptance is an answer.
+accepting : (a : Acceptance) → (v : ℕ) × (verdict_of (Ok a) ≡ given v)
+accepting WellPosed = (0, refl)
+accepting Serialized = (1, refl)
 
 -- What a quotation by the printed table says, lent numbers for the most steps: N, the open steps and the price of a sheet, or the refusal that is printed.
-module _ (s : List ℕ) (bytes : Bytes s) (registers comparisons : List ℕ) (long : most_steps ≤ length registers) (wide : most_steps ≤ length comparisons) {entries : List ℕ} (is-printed : entries ≡ printed_table) {r : Quotation} {registers' comparisons' : List ℕ} (returned : QuoteReturned entries s true registers comparisons r registers' comparisons') where
-  quoted : QuoteReturned printed_table s true registers comparisons r registers' comparisons'
-  quoted = subst (λ (t : List ℕ). QuoteReturned t s true registers comparisons r registers' comparisons') is-printed returned
+module _ (s : List ℕ) (bytes : Bytes s) (registers comparisons : List ℕ) (long : most_steps ≤ length registers) (wide : most_steps ≤ length comparisons) {entries : List ℕ} (is-printed : entries ≡ printed_table) {registers' comparisons' : List ℕ} where
+  quoted : {r : Result Quotation Refusal} → QuoteReturned entries s true registers comparisons r registers' comparisons' → QuoteReturned printed_table s true registers comparisons r registers' comparisons'
+  quoted {r} returned = subst (λ (t : List ℕ). QuoteReturned t s true registers comparisons r registers' comparisons') is-printed returned
 
-  pub quoted_refusal : {k : ℕ} → verdict_of r.verdict ≡ refused k → refusal_text k ≡ price_report s
+  pub quoted_refusal : {k : Refusal} → QuoteReturned entries s true registers comparisons (Err k) registers' comparisons' → refusal_text (number k) ≡ price_report s
   unfolding price_answer price_report
-  quoted_refusal h = refuses s bytes registers comparisons long wide (read s) refl (sym quoted.verdict ∙ h)
+  quoted_refusal h = refuses s bytes registers comparisons long wide (read s) refl (sym (quoted h).returned)
 
-  module _ {v : ℕ} (h : verdict_of r.verdict ≡ given v) where
-    prices : Prices s registers' comparisons' r.registers r.comparisons
+  module _ {q : Quotation} (returned : QuoteReturned entries s true registers comparisons (Ok q) registers' comparisons') where
+    prices : Prices s registers' comparisons' q.registers q.comparisons
     unfolding price_answer
     prices =
-        rw (quoted.register_list, quoted.comparison_list, quoted.register_total, quoted.comparison_total)
-        (accepts s bytes registers comparisons long wide (read s) refl (sym quoted.verdict ∙ h))
+        let p = quoted returned in
+        rw (p.register_list, p.comparison_list, p.returned.register_total, p.returned.comparison_total)
+        (accepts s bytes registers comparisons long wide (read s) refl (sym p.returned.verdict ∙ (accepting q.acceptance).1))
 
-    -- N and the open steps of the sheet stand beside a verdict that accepts.
-    steps_are : r.n ≡ count_of prices.sheet
-    steps_are = quoted.steps ∙ ap (λ (o : Outcome ℕ). when_priced o (steps_read (read s))) (sym quoted.verdict ∙ h) ∙ ap steps_read prices.is.reads
+    -- N and the open steps of the sheet stand beside its price.
+    steps_are : q.n ≡ count_of prices.sheet
+    steps_are = returned.returned.steps ∙ ap steps_read prices.is.reads
 
-    opens_are : r.unbounded ≡ open_map prices.sheet.steps
-    opens_are = quoted.open_steps ∙ ap (λ (o : Outcome ℕ). when_priced o (open_read (read s))) (sym quoted.verdict ∙ h) ∙ ap open_read prices.is.reads
+    opens_are : q.unbounded ≡ open_map prices.sheet.steps
+    opens_are = returned.returned.open_steps ∙ ap open_read prices.is.reads
 
-    pub quoted_few : r.n ≤ most_steps
+    pub quoted_few : q.n ≤ most_steps
     quoted_few = omega (arith, steps_are, (fits_of prices.is).few)
 
-    pub quoted_text : price_text (test_bit r.unbounded) r.n (price registers' comparisons' r.registers r.comparisons) ≡ price_report s
-    quoted_text = ap₂ (λ (m k : ℕ). price_text (test_bit m) k (price registers' comparisons' r.registers r.comparisons)) opens_are steps_are ∙ prices_text prices
+    pub quoted_text : price_text (test_bit q.unbounded) q.n (price registers' comparisons' q.registers q.comparisons) ≡ price_report s
+    quoted_text = ap₂ (λ (m k : ℕ). price_text (test_bit m) k (price registers' comparisons' q.registers q.comparisons)) opens_are steps_are ∙ prices_text prices

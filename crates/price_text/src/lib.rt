@@ -6,8 +6,6 @@ ghost use Rattle.definitions.specs.Price.{price_report};
 ghost use Rattle.print_line.specs.Texts.{Printed};
 ghost use Rattle.print_price.specs.Texts.{price_room};
 
-use definitions::Verdict;
-
 // What the price program prints of a sheet, whatever its bytes. Returns how many bytes the text has. The lists have room for the most steps.
 pub fn standprice(s: &[u8], out: &mut [u8]) -> usize
     requires { price_room ≤ length out.old }
@@ -16,19 +14,19 @@ pub fn standprice(s: &[u8], out: &mut [u8]) -> usize
     let entries = price_entries::printed();
     let mut registers = [0u32; 64];
     let mut comparisons = [0u32; 64];
-    let quoted = price_sheet::quote(s, true, &entries, &mut registers, &mut comparisons);
-    let verdict = quoted.verdict;
-    if let Verdict::Refused(k) = verdict {
-        let number = data_numbers::refusal_number(k);
-        return print_line::print_refusal(number, out);
+    match price_sheet::quote(s, true, &entries, &mut registers, &mut comparisons) {
+        Ok(quoted) => print_price::print_price(
+            quoted.unbounded,
+            quoted.n,
+            &registers,
+            &comparisons,
+            quoted.registers,
+            quoted.comparisons,
+            out,
+        ),
+        Err(k) => {
+            let number = data_numbers::refusal_number(k);
+            print_line::print_refusal(number, out)
+        }
     }
-    print_price::print_price(
-        quoted.unbounded,
-        quoted.n,
-        &registers,
-        &comparisons,
-        quoted.registers,
-        quoted.comparisons,
-        out,
-    )
 }

@@ -14,10 +14,8 @@ fn put_word(word: &[u8], out: &mut [u8], at: usize) -> usize
     ensures { Put word.now at result out.old out.new }
 {
     let mut p = at;
-    let mut i = 0;
-    while i < word.len() {
-        p = put_byte(word[i], out, p);
-        i += 1;
+    for &b in word {
+        p = put_byte(b, out, p);
     }
     p
 }
@@ -65,10 +63,8 @@ fn put_fields(numbers: &[u32], out: &mut [u8], at: usize) -> usize
     ensures { Put (fields numbers.now) at result out.old out.new }
 {
     let mut p = at;
-    let mut i = 0;
-    while i < numbers.len() {
-        p = put_field(numbers[i], out, p);
-        i += 1;
+    for &x in numbers {
+        p = put_field(x, out, p);
     }
     p
 }

@@ -27,10 +27,8 @@ fn put_waits_of(maps: &[u64; 64], n: usize, a: usize, out: &mut [u8], at: usize)
     ensures { Put (maps_row n maps.now a) at result out.old out.new }
 {
     let mut p = at;
-    let mut i = 0;
-    while i < n {
+    for i in 0..n {
         p = put_wait_at(maps, a, i, out, p);
-        i += 1;
     }
     p
 }
@@ -41,10 +39,8 @@ fn put_waits(maps: &[u64; 64], n: usize, out: &mut [u8], at: usize) -> usize
     ensures { Put (maps_text n maps.now) at result out.old out.new }
 {
     let mut p = at;
-    let mut a = 0;
-    while a < n {
+    for a in 0..n {
         p = put_waits_of(maps, n, a, out, p);
-        a += 1;
     }
     p
 }
@@ -68,10 +64,8 @@ fn put_starts_of(table: &[u32], n: usize, v: usize, out: &mut [u8], at: usize) -
     ensures { Put (table_row n table.now v) at result out.old out.new }
 {
     let mut p = at;
-    let mut a = 0;
-    while a < n {
+    for a in 0..n {
         p = put_start_at(table, n, v, a, out, p);
-        a += 1;
     }
     p
 }
@@ -82,10 +76,8 @@ fn put_starts(table: &[u32], n: usize, out: &mut [u8], at: usize) -> usize
     ensures { Put (table_text n table.now) at result out.old out.new }
 {
     let mut p = at;
-    let mut v = 0;
-    while v < n {
+    for v in 0..n {
         p = put_starts_of(table, n, v, out, p);
-        v += 1;
     }
     p
 }

@@ -39,10 +39,8 @@ fn put_registers(
     ensures { Put (registers_part unbounded n registers.now) at result out.old out.new }
 {
     let mut p = at;
-    let mut a = 0;
-    while a < n {
+    for a in 0..n {
         p = put_registers_at(unbounded, registers, a, out, p);
-        a += 1;
     }
     p
 }
@@ -62,10 +60,8 @@ fn put_comparisons(n: usize, comparisons: &[u32; 64], out: &mut [u8], at: usize)
     ensures { Put (comparisons_part n comparisons.now) at result out.old out.new }
 {
     let mut p = at;
-    let mut v = 0;
-    while v < n {
+    for v in 0..n {
         p = put_comparisons_at(comparisons, v, out, p);
-        v += 1;
     }
     p
 }

@@ -9,8 +9,7 @@ use lib.ListN.{length, get_or, take, drop, length-append}
 use borrow.Author.Tests.{le-ltb}
 use Rattle.definitions.specs.Answers.{Waits, count_of, leasts_of, edges_of, judge_records, judged, plan_read, plan_verdict, planned, serialized_of, too_short, waits_answer, waits_read, waits_when, written}
 use Rattle.definitions.specs.Basics.{Outcome, given, refused, refuse_if, when_given}
-use Rattle.definitions.specs.Bytes.{Parser, Records, Taken, at_end, byte, demand, operation, operations, read, records, sheet, two_bytes}
-use Rattle.definitions.specs.Bytes.{links as links_of}
+use Rattle.definitions.specs.Bytes.{Parser, Records, Taken, at_end, byte, demand, operation, operations, read, records, sheet, two_bytes, links as links_of}
 use Rattle.definitions.specs.Limits.{most_records, most_steps}
 use Rattle.definitions.specs.Links.{Edge}
 use Rattle.definitions.specs.Output.{standplan}

@@ -1,14 +1,15 @@
 // The text that `standplan` prints of a sheet, formatted into a lent buffer: the plan where the sheet is accepted with waits allowed, else its refusal.
 #![tactic(auto)]
 
-ghost use Rattle.std.specs.Prelude.{◌≡◌, ◌≤◌, length, get_or};
+ghost use Rattle.std.specs.Prelude.{◌≡◌, ◌≤◌, length, get_or, Ok};
+ghost use Rattle.definitions.specs.Basics.{given};
+ghost use Rattle.definitions.specs.Numbers.{verdict_of};
 ghost use Rattle.definitions.specs.Output.{standplan};
 ghost use Rattle.print_line.specs.Texts.{Printed};
 ghost use Rattle.print_plan.specs.Texts.{plan_room};
 ghost use Rattle.print_sheet.specs.Plans.{Plans};
 
-use data_indices::byte_index;
-use definitions::Verdict;
+use definitions::Acceptance;
 use plan_answer::{Question, answer};
 
 // The plan of the most steps.
@@ -18,10 +19,17 @@ const LARGEST_PLAN: usize = 64 * 64;
 fn first_byte(s: &[u8]) -> usize
     ensures { result ≡ get_or s.now 0 0 }
 {
-    if s.len() == 0 {
-        return 0;
+    match s.first() {
+        Some(&n) => usize::from(n),
+        None => 0,
     }
-    byte_index(s[0])
+}
+
+// The number of an acceptance: 0 as it is, 1 with waits.
+fn acceptance_number(acceptance: Acceptance) -> u32
+    ensures { verdict_of (Ok acceptance) ≡ given result }
+{
+    acceptance as u32
 }
 
 // The text of an accepted sheet, from its waits and its plan.
@@ -49,12 +57,12 @@ pub fn standplan(s: &[u8], out: &mut [u8]) -> usize
     let mut table = [0u32; LARGEST_PLAN];
     let mut maps = [0u64; 64];
     let found = answer(s, true, Question::Plan, &list, &mut table, &mut maps);
-    let verdict = found.verdict;
-    let count = found.count;
-    match verdict {
-        Verdict::WellPosed => print_accepted(s, 0, count, &maps, &table, out),
-        Verdict::Serialized => print_accepted(s, 1, count, &maps, &table, out),
-        Verdict::Refused(k) => {
+    match found.verdict {
+        Ok(acceptance) => {
+            let verdict = acceptance_number(acceptance);
+            print_accepted(s, verdict, found.count, &maps, &table, out)
+        }
+        Err(k) => {
             let number = data_numbers::refusal_number(k);
             print_line::print_refusal(number, out)
         }

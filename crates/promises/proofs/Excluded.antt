@@ -1,13 +1,12 @@
 -- Wrong answers that the contracts exclude, shown on a worked sheet where no edit of the code has that answer and keeps its shape.
 use mathlib.Core.Path.{◌≡◌, refl, sym, ◌∙◌}
+use Rattle.definitions.specs.Numbers.{Verdict, verdict_of}
 use mathlib.Core.Bool.{Bool, true, false}
 use Prim.Native.Nat.{ℕ}
 use Rattle.definitions.specs.Answers.{edges_of, judged}
 use Rattle.definitions.specs.Basics.{any, given, refused, when_given}
 use Rattle.definitions.specs.Bytes.{read}
-use Rattle.definitions.specs.Numbers.{verdict_of}
 use Rattle.definitions.specs.Worked.{every_definition, stand}
-use Rattle.definitions.specs.declared.Verdict.{Verdict}
 use Rattle.laws.proofs.Outcomes.{given_not_refused}
 use Rattle.plan_answer.specs.Returned.{JudgeReturned}
 

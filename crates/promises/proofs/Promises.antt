@@ -1,5 +1,6 @@
 -- The demands 2 and 3 hold of what the library's functions return: the contracts are equations with the definitions of which the crate demands proves them.
 use mathlib.Core.Path.{◌≡◌, refl, sym, ap, ◌∙◌}
+use Rattle.definitions.specs.Numbers.{Verdict, verdict_of}
 use mathlib.Core.Bool.{Bool, true}
 use mathlib.Core.Logic.{◌⊎◌, inl, inr, ◌≢◌, ◌↔◌}
 use mathlib.Core.List.{List}
@@ -13,7 +14,6 @@ use Rattle.definitions.specs.Answers.{count_of, judged, leasts_of, serialized_of
 use Rattle.definitions.specs.Basics.{Outcome, given, refused}
 use Rattle.definitions.specs.Bytes.{Records}
 use Rattle.definitions.specs.Links.{Constraint, Keeps, Respects, delay_at, finish_maximum, maximum, minimum, sequencing}
-use Rattle.definitions.specs.Numbers.{verdict_of}
 use Rattle.definitions.specs.Plan.{delays}
 use Rattle.definitions.specs.Plan as Plan
 use Rattle.definitions.specs.Rival.{DelayAssignment, Lasts}
@@ -21,7 +21,6 @@ use Rattle.definitions.specs.Rounds.{cell}
 use Rattle.definitions.specs.declared.Delay.{Delay}
 use Rattle.definitions.specs.declared.Delay.TheVariants.{Fixed, Open}
 use Rattle.definitions.specs.declared.Operation.{Operation}
-use Rattle.definitions.specs.declared.Verdict.{Verdict}
 use Rattle.demands.specs.Demands.{Accepted, Durations, WellFormed, WithinLimits, our_start, wait_link}
 use Rattle.demands.proofs.Demands.{calls_exactly, deciding_sets, each_call_refuses, impossible_exactly, nobody_earlier, nobody_earlier_with_waits, nobody_earlier_without_foresight, offsets_right, refused_28_exactly, starts_kept, starts_returned, waits_listed}
 use Rattle.demands.proofs.Demands as Demands

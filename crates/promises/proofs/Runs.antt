@@ -1,5 +1,7 @@
 -- What is promised of runs holds of what the runner's functions return: the contracts are equations with the definitions of which the crate certificates proves it.
 use mathlib.Core.Path.{◌≡◌, refl, sym, ap, subst, ◌∙◌}
+use Rattle.std.specs.Prelude.{Err, Ok}
+use Rattle.definitions.specs.Numbers.{Status, status_of}
 use mathlib.Core.Bool.{Bool, false, true, ◌||◌}
 use mathlib.Core.Logic.{◌↔◌}
 use mathlib.Core.List.{List}
@@ -13,14 +15,11 @@ use Rattle.definitions.specs.Basics.{Outcome, given, refuse_if, refused, test_bi
 use Rattle.definitions.specs.Bytes.{Records}
 use Rattle.definitions.specs.Dispatcher.{Progress, Returns, begin, begun, called, cannot_finish, ended, finish, fresh, map_after, not_running, state_after, sweep, tick, ticked, too_early, with_source}
 use Rattle.definitions.specs.Limits.{last_tick, most_steps}
-use Rattle.definitions.specs.Numbers.{status_of}
 use Rattle.definitions.specs.Plan as Plan
 use Rattle.definitions.specs.declared.Call.{Call}
 use Rattle.definitions.specs.declared.Call.TheVariants.{Begin, Finish, Tick}
 use Rattle.definitions.specs.declared.Dispatch.{Dispatch}
 use Rattle.definitions.specs.declared.State.{State}
-use Rattle.definitions.specs.declared.Status.{Status}
-use Rattle.definitions.specs.declared.Status.TheVariants.{Done, Refused}
 use Rattle.demands.specs.Demands.{Accepted}
 use Rattle.run_calls.specs.Calls.{BeginReturned, FinishReturned, TickReturned}
 use Rattle.run_calls.proofs.CallLaws.{count_fits}
@@ -52,15 +51,15 @@ module _ {st : State} {o : Outcome Progress} (r : Dispatch) (R : Returns st o r)
   given_through g e = go r.status refl
     where
       go : (x : Status) → r.status ≡ x → WentThrough r
-      go Done h = h
-      go (Refused why) h = absurd (given_not_refused (sym e ∙ sym R.answer ∙ ap (λ (x : Status). status_of x progress) h))
+      go (Ok tt) h = h
+      go (Err why) h = absurd (given_not_refused (sym e ∙ sym R.answer ∙ ap (λ (x : Status). status_of x progress) h))
 
   refused_by : (k : ℕ) → o ≡ refused k → RefusedBy r k
   refused_by k e = go r.status refl
     where
       go : (x : Status) → r.status ≡ x → RefusedBy r k
-      go Done h = absurd (given_not_refused (sym (ap (λ (x : Status). status_of x progress) h) ∙ R.answer ∙ e))
-      go (Refused why) h = (why, h, refused_same (sym (ap (λ (x : Status). status_of x progress) h) ∙ R.answer ∙ e))
+      go (Ok tt) h = absurd (given_not_refused (sym (ap (λ (x : Status). status_of x progress) h) ∙ R.answer ∙ e))
+      go (Err why) h = (why, h, refused_same (sym (ap (λ (x : Status). status_of x progress) h) ∙ R.answer ∙ e))
 
   by_refused : (k : ℕ) → RefusedBy r k → o ≡ refused k
   by_refused k h = sym R.answer ∙ ap (λ (x : Status). status_of x progress) h.1 ∙ ap refused h.2

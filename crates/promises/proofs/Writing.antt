@@ -1,5 +1,6 @@
 -- What is promised of the sheet writer holds of what the call returns: its contract is an equation with the definition of which the crate demands proves it, and says that the numbers of the parts fit.
 use mathlib.Core.Path.{◌≡◌, sym, ap, subst, ◌∙◌}
+use Rattle.definitions.specs.Numbers.{Tally, tally_of}
 use mathlib.Core.List.{List, ◌++◌}
 use Prim.Native.Nat.{ℕ}
 use native.Mathlib.Omega.{arith}
@@ -8,11 +9,9 @@ use lib.Seq.{take_at, take-length}
 use Rattle.definitions.specs.Answers.{Written, count_of}
 use Rattle.definitions.specs.Basics.{given}
 use Rattle.definitions.specs.Bytes.{Records}
-use Rattle.definitions.specs.Numbers.{tally_of}
 use Rattle.definitions.specs.Writer.{parts, sheet_bytes, write_answer}
 use Rattle.definitions.specs.declared.Link.{Link}
 use Rattle.definitions.specs.declared.Operation.{Operation}
-use Rattle.definitions.specs.declared.Tally.{Tally}
 use Rattle.demands.specs.Demands.{IsSheet}
 use Rattle.demands.specs.Writing.{SameAnswers, WriteFor, WrittenAgain, WrittenCall}
 use Rattle.demands.proofs.Demands.{any_order, read_written, write_exactly, written_read}

@@ -1,11 +1,10 @@
 -- Request L14, "The few records that clash", stated of what `clashes` of the crate clash_sheet returns. Definitions alone: the theorem of the same name in small letters, in proofs/Clashes.antt, proves it.
 -- What the function returned is said by what its contract cites, `FewReturned`: r is its answer, `after` the list that was lent. Quoted sentences are document 02's.
 use Rattle.std.specs.Prelude.{◌≡◌, ◌↔◌, List, ℕ, ◌≤◌, ◌<◌, drop, length, take}
+use Rattle.definitions.specs.Numbers.{Tally, tally_of}
 use Rattle.definitions.specs.Basics.{given, refused}
 use Rattle.definitions.specs.Bytes.{Records}
 use Rattle.definitions.specs.Clashes.{few}
-use Rattle.definitions.specs.Numbers.{tally_of}
-use Rattle.definitions.specs.declared.Tally.{Tally}
 use Rattle.demands.specs.Clashes.{FewFor}
 use Rattle.demands.specs.Demands.{Circle, IsSheet, SomeListLeavesNone, WellFormed}
 use Rattle.clash_sheet.specs.Reports.{FewReturned}

@@ -1,17 +1,16 @@
 -- The demands 2 and 3 on the planner, stated of what the library's functions return. Definitions alone: the theorem of the same name in small letters, in proofs/Promises.antt, proves it.
 -- s are the bytes of the sheet, q its records, r the verdict that is returned. What a function returned is said by the record that its contract is (crates/plan_answer/specs/Returned.antt): proofs/Ties.antt shows of each function that it is.
 use Rattle.std.specs.Prelude.{◌≡◌, Bool, true, cond, ◌⊎◌, ◌≢◌, ◌↔◌, ℕ, ◌+◌, ◌*◌, ◌≤◌, ◌<◌, take}
+use Rattle.definitions.specs.Numbers.{Verdict, verdict_of}
 use mathlib.Core.List.{List, Memᴰ}
 use Rattle.definitions.specs.Answers.{count_of, edges_of, leasts_of}
 use Rattle.definitions.specs.Basics.{given, refused, test_bit}
 use Rattle.definitions.specs.Bytes.{Records}
 use Rattle.definitions.specs.Links.{Constraint, Keeps, KeepsAll, links_of, members}
-use Rattle.definitions.specs.Numbers.{verdict_of}
 use Rattle.definitions.specs.Plan.{delays, undecided}
 use Rattle.definitions.specs.Rival.{DynamicStrategy, Extension}
 use Rattle.definitions.specs.Rounds.{cell}
 use Rattle.definitions.specs.Waits.{Wait, WaitPair}
-use Rattle.definitions.specs.declared.Verdict.{Verdict}
 use Rattle.demands.specs.Demands.{DecidingFor, Durations, IsSheet, KeepsLinks, NoLateLinks, NoRival, NoStarts, OffsetFor, SomeListLeavesNone, WellFormed, in_start_set, sheet_decides, sheet_offset, sheet_waits, wait_link}
 use Rattle.theory.specs.Counts.{standing_bits}
 use Rattle.definitions.specs.declared.WaitMaps.{WaitMaps}

@@ -1,20 +1,18 @@
 -- What is promised of runs, stated of what the runner's functions return. Definitions alone: the theorem of the same name in small letters, in proofs/Runs.antt, proves it.
 -- What a function returned is said by what its contract cites: `BeginReturned`, `TickReturned`, `FinishReturned` of the crate run_calls, `StepsReturned` of run_sheet. r is what was returned: a status, a state and a map. What a run is and what is certified of its states is
 -- defined in the crate certificates; quoted sentences are those of the demands and of documents 01 and 02.
-use Rattle.std.specs.Prelude.{◌≡◌, Bool, true, false, ◌⊎◌, ◌≢◌, ◌↔◌, List, ℕ, ◌≤◌, ◌<◌, length}
+use Rattle.std.specs.Prelude.{◌≡◌, Bool, true, false, ◌⊎◌, ◌≢◌, ◌↔◌, List, ℕ, ◌≤◌, ◌<◌, length, Err, Ok}
+use Rattle.definitions.specs.Numbers.{Verdict, number, verdict_of}
 use Rattle.definitions.specs.Answers.{Beginning, count_of}
 use Rattle.definitions.specs.Basics.{given, test_bit}
 use Rattle.definitions.specs.Bytes.{Records}
 use Rattle.definitions.specs.Dispatcher.{ended, fresh, ticked}
 use Rattle.definitions.specs.Limits.{last_tick}
-use Rattle.definitions.specs.Numbers.{number, verdict_of}
 use Rattle.definitions.specs.declared.Call.{Call}
 use Rattle.definitions.specs.declared.Call.TheVariants.{Begin, Finish, Tick}
 use Rattle.definitions.specs.declared.Dispatch.{Dispatch}
 use Rattle.definitions.specs.declared.Refusal.{Refusal}
 use Rattle.definitions.specs.declared.State.{State}
-use Rattle.definitions.specs.declared.Status.TheVariants.{Done, Refused}
-use Rattle.definitions.specs.declared.Verdict.{Verdict}
 use Rattle.demands.specs.Demands.{Accepted, IsSheet}
 use Rattle.run_calls.specs.Calls.{BeginReturned, FinishReturned, TickReturned}
 use Rattle.run_sheet.specs.Steps.{StepsReturned}
@@ -31,10 +29,10 @@ CallReturned st table leasts (Finish s) r = FinishReturned st s table r
 
 -- It went through, or it was refused, by the number of the refusal.
 abbrev pub WentThrough : Dispatch → Type 0
-WentThrough r = r.status ≡ Done
+WentThrough r = r.status ≡ (Ok tt)
 
 abbrev pub RefusedBy : Dispatch → ℕ → Type 0
-RefusedBy r k = (why : Refusal) × (r.status ≡ Refused why) × (number why ≡ k)
+RefusedBy r k = (why : Refusal) × (r.status ≡ Err why) × (number why ≡ k)
 
 -- ## Demand 1
 
@@ -44,7 +42,7 @@ RefusalsKeep = (st : State) (table leasts : List ℕ) (c : Call) (r : Dispatch) 
 
 -- So too where N, the open map and the leasts of a sheet are asked for, whatever its bytes: all that is lent for them stays.
 abbrev pub StepsRefusalsKeep : Type 0
-StepsRefusalsKeep = (s : List ℕ) (lent : Beginning) (why : Refusal) (after : Beginning) → StepsReturned s lent (Refused why) after → after ≡ lent
+StepsRefusalsKeep = (s : List ℕ) (lent : Beginning) (why : Refusal) (after : Beginning) → StepsReturned s lent (Err why) after → after ≡ lent
 
 -- ## The rule of one call, on any state and any table
 
@@ -79,7 +77,7 @@ pub record StepsBegin (q : Records) (b : Beginning) : Type 0 where
   pub run : (before : State) (table : List ℕ) (r : Dispatch) → IsLent q table → BeginReturned before b.n b.unbounded b.leasts table r → WentThrough r → RunReturned q r.state
 
 abbrev pub StepsBeginRuns : Type 0
-StepsBeginRuns = (s : List ℕ) (q : Records) (lent after : Beginning) → IsSheet s q → StepsReturned s lent Done after → StepsBegin q after
+StepsBeginRuns = (s : List ℕ) (q : Records) (lent after : Beginning) → IsSheet s q → StepsReturned s lent (Ok tt) after → StepsBegin q after
 
 -- "Its table" is what planning leaves of a table that it is lent, where the sheet is accepted.
 abbrev pub PlanCanBeLent : Type 0

@@ -1,14 +1,13 @@
 -- Request L4, "A sheet writer", stated of what `write` of the crate write_sheet returns. Definitions alone: the theorem of the same name in small letters, in proofs/Writing.antt, proves it.
 -- What the function returned is said by what its contract cites, `Wrote`: t is its answer, `after` the buffer that was lent. Quoted sentences are document 02's.
 use Rattle.std.specs.Prelude.{◌≡◌, ℕ, ◌≤◌, length, take}
+use Rattle.definitions.specs.Numbers.{Tally, tally_of}
 use mathlib.Core.List.{List, Permᴰ}
 use Rattle.definitions.specs.Answers.{count_of}
 use Rattle.definitions.specs.Basics.{given}
 use Rattle.definitions.specs.Bytes.{Records}
-use Rattle.definitions.specs.Numbers.{tally_of}
 use Rattle.definitions.specs.declared.Link.{Link}
 use Rattle.definitions.specs.declared.Operation.{Operation}
-use Rattle.definitions.specs.declared.Tally.{Tally}
 use Rattle.demands.specs.Demands.{IsSheet}
 use Rattle.demands.specs.Writing.{SameAnswers, WriteFor, WrittenCall}
 use Rattle.write_sheet.specs.Written.{Wrote}

@@ -1,7 +1,7 @@
 // What the records of a sheet are made of, at a place of the bytes: a map whose bits say which fields are there, and numbers of two bytes.
 #![tactic(auto)]
 
-ghost use Rattle.std.specs.Prelude.{◌≡◌, Bool, ◌+◌, ◌≤◌, ◌<◌, leb, length};
+ghost use Rattle.std.specs.Prelude.{◌≡◌, ◌+◌, ◌≤◌, ◌<◌, leb, length};
 ghost use Rattle.std.proofs.Common.{Fits};
 ghost use Rattle.std.specs.Int.{w64};
 ghost use Rattle.definitions.specs.Basics.{test_bit};
@@ -11,17 +11,11 @@ ghost use Rattle.read_fields.specs.Answers.{NumberReads, number_at, field_at, fi
 
 use definitions::Refusal;
 
-// A number at a place of the bytes, with the place after it; or the fault met there.
+// An item that was read at a place of the bytes, with the place after it.
 #[derive(Clone, Copy)]
-pub enum NumberRead {
-    Item(u16, usize),
-    Refused(Refusal),
-}
-
-fn wide(x: u8) -> u16
-    ensures { (result ≡ x) × (result < 256) }
-{
-    x as u16
+pub struct Item<T> {
+    pub value: T,
+    pub next: usize,
 }
 
 // The number of two bytes that stands at a place, the low one first.
@@ -31,19 +25,22 @@ fn number_at(s: &[u8], at: usize) -> u16
 {
     let low = s[at];
     let high = s[at + 1];
-    wide(low) + wide(high) * 256
+    u16::from(low) + u16::from(high) * 256
 }
 
 // A number of two bytes.
-pub fn read_number(s: &[u8], at: usize) -> NumberRead
+pub fn read_number(s: &[u8], at: usize) -> Result<Item<u16>, Refusal>
     requires { at ≤ length s.now + 1 }
     ensures { NumberReads s.now at result }
 {
     let end = at + 2;
     if s.len() < end {
-        return NumberRead::Refused(Refusal::Truncated);
+        return Err(Refusal::Truncated);
     }
-    NumberRead::Item(number_at(s, at), end)
+    Ok(Item {
+        value: number_at(s, at),
+        next: end,
+    })
 }
 
 // Whether bit k of a record's map stands.
@@ -75,7 +72,7 @@ pub fn is_brief(s: &[u8], most: u16) -> bool
     ensures { result ≡ leb (link_count s.now) most }
 {
     match read_number(s, 1) {
-        NumberRead::Item(count, next) => count <= most,
-        NumberRead::Refused(k) => true,
+        Ok(count) => count.value <= most,
+        Err(_) => true,
     }
 }

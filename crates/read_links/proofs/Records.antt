@@ -1,5 +1,6 @@
 -- The edges of link records: of one, by the bits of its map; and of a list with one more behind it.
 use mathlib.Core.Path.{◌≡◌, refl, sym, ap, ◌∙◌}
+use Rattle.std.specs.Prelude.{Result, Ok, Err}
 use mathlib.Core.Bool.{Bool, true, false}
 use mathlib.Core.List.{List, [], ◌∷◌, ◌++◌, map, map-append}
 use Prim.Native.Nat.{ℕ, ◌+◌, ◌*◌, ◌≤◌, ◌<◌}
@@ -8,10 +9,10 @@ use lib.ListN.{length, take, length-append, length-map}
 use Rattle.definitions.specs.Basics.{test_bit, when_given}
 use Rattle.definitions.specs.Bytes.{ticks_if, bound_from}
 use Rattle.definitions.specs.Limits.{links_of_record}
-use Rattle.definitions.specs.Links.{sequencing, minimum, maximum, finish_maximum, sequencing_of, minimum_of, maximum_of, finish_maximum_of, ticks_said}
-use Rattle.definitions.specs.Links.{Edge, link_constraints, constraints, delay_at, least_at, sequencing_edge, finish_edge, edge_of, edges}
+use Rattle.definitions.specs.Links.{sequencing, minimum, maximum, finish_maximum, sequencing_of, minimum_of, maximum_of, finish_maximum_of, ticks_said, Edge, link_constraints, constraints, delay_at, least_at, sequencing_edge, finish_edge, edge_of, edges}
 use Rattle.definitions.specs.declared.Link.{Link}
 use Rattle.definitions.specs.declared.Operation.{Operation}
+use Rattle.definitions.specs.declared.Refusal.{Refusal}
 use Rattle.definitions.specs.declared.Delay.{Delay}
 use Rattle.data_edges.specs.Words.{edge, graph, unpack, Fit, to_place, loss_place}
 use Rattle.read_pair.specs.Parts.{link_from, link_ticks}
@@ -21,7 +22,6 @@ use Rattle.read_steps.specs.Leaving.{leaving}
 use Rattle.laws.proofs.Lists.{flatMap_snoc}
 use Rattle.read_links.specs.Pushes.{if_there, Pushed, PushedIf, GapThere, LinkPushed, BoundReads, LinkReads}
 use Rattle.read_links.specs.declared.LinkRead.{LinkRead}
-use Rattle.read_links.specs.declared.LinkRead.TheVariants.{Item, Refused}
 use Rattle.read_links.proofs.Pushing.{if_few, push_both}
 use Rattle.read_links.proofs.Words.{sequencing_unpacked, finish_unpacked, finish_same}
 
@@ -137,19 +137,19 @@ module _ (i j digits : ℕ) (fit : Fit i j) (small : digits < loss_place) where
   meant_by least most = record { after = λ d l e. sequencing_unpacked d l i j 0 digits _ fit (omega arith) e (omega arith); least = refl; most = refl; latest = λ d l. finish_same d l i j 0 digits }
 
   module _ (s : List ℕ) (at : ℕ) (words words' : List ℕ) (c m : ℕ) where
-    pub least_read : m ≡ 2 → (r : LinkRead) → BoundReads false i j s at words words' c r → LinkReads m i j digits s at words words' c r
+    pub least_read : m ≡ 2 → (r : Result LinkRead Refusal) → BoundReads false i j s at words words' c r → LinkReads m i j digits s at words words' c r
     unfolding link_ticks ticks_if test_bit when_given
-    least_read e (Item next c') T =
+    least_read e (Ok r) T =
         let t = bounds T.ticks 0 in
         record { fields = t; same = fields_there m i j _ (rw (e, T.same)); inside = T.inside; pushed = all_pushed m i j t digits _ _ _ _ (λ h. refl) (meant_by T.ticks 0) (rw e T.pushed) }
-    least_read e (Refused k) f = fields_refused m i j _ (rw (e, f))
+    least_read e (Err k) f = fields_refused m i j _ (rw (e, f))
 
-    pub most_read : m ≡ 4 → (r : LinkRead) → BoundReads true i j s at words words' c r → LinkReads m i j digits s at words words' c r
+    pub most_read : m ≡ 4 → (r : Result LinkRead Refusal) → BoundReads true i j s at words words' c r → LinkReads m i j digits s at words words' c r
     unfolding link_ticks ticks_if test_bit when_given
-    most_read e (Item next c') T =
+    most_read e (Ok r) T =
         let t = bounds 0 T.ticks in
         record { fields = t; same = fields_there m i j _ (rw (e, T.same)); inside = T.inside; pushed = all_pushed m i j t digits _ _ _ _ (λ h. refl) (meant_by 0 T.ticks) (rw e T.pushed) }
-    most_read e (Refused k) f = fields_refused m i j _ (rw (e, f))
+    most_read e (Err k) f = fields_refused m i j _ (rw (e, f))
 
 -- One record more.
 pub edges_more : (os : List Operation) (s : List Link) (l : Link) → edges os (constraints (s ++ l ∷ [])) ≡ edges os (constraints s) ++ edges os (link_constraints l)

@@ -1,5 +1,5 @@
 -- What the functions that write edge words are said with: words behind others, and the words of one link record.
-use Rattle.std.specs.Prelude.{◌≡◌, Bool, true, false, cond, List, [], ◌∷◌, ◌++◌, ℕ, ◌+◌, ◌≤◌, length, take, drop}
+use Rattle.std.specs.Prelude.{◌≡◌, Bool, true, false, cond, List, [], ◌∷◌, ◌++◌, ℕ, ◌+◌, ◌≤◌, length, take, drop, Result, Ok, Err}
 use Rattle.definitions.specs.Basics.{refused, test_bit}
 use Rattle.definitions.specs.Bytes.{two_bytes}
 use Rattle.definitions.specs.Limits.{links_of_record}
@@ -7,13 +7,13 @@ use Rattle.definitions.specs.Links.{Edge, link_constraints, delay_at, least_at, 
 use Rattle.definitions.specs.Numbers.{number}
 use Rattle.definitions.specs.declared.Link.{Link}
 use Rattle.definitions.specs.declared.Operation.{Operation}
+use Rattle.definitions.specs.declared.Refusal.{Refusal}
 use Rattle.data_edges.specs.Words.{edge, graph, Fit}
 use Rattle.read_fields.specs.Answers.{item_at}
 use Rattle.read_pair.specs.Parts.{link_fields, link_from}
 use Rattle.read_pair.specs.declared.Fields.{Fields}
 use Rattle.read_steps.specs.Leaving.{leaving}
 use Rattle.read_links.specs.declared.LinkRead.{LinkRead}
-use Rattle.read_links.specs.declared.LinkRead.TheVariants.{Item, Refused}
 
 -- One, or none.
 abbrev pub if_there : {A : Type 0} → Bool → A → List A
@@ -73,11 +73,11 @@ pub record BoundTook (back : Bool) (i j : ℕ) (s : List ℕ) (at : ℕ) (words 
   pub inside : next ≤ length s
   pub pushed : Pushed (bound_edge back i j ticks ∷ []) words words' c c'
 
-abbrev pub BoundReads : Bool → ℕ → ℕ → List ℕ → ℕ → List ℕ → List ℕ → ℕ → LinkRead → Type 0
-BoundReads back i j s at words words' c (Item next c') = BoundTook back i j s at words words' c next c'
-BoundReads back i j s at words words' c (Refused k) = two_bytes (drop at s) ≡ refused (number k)
+abbrev pub BoundReads : Bool → ℕ → ℕ → List ℕ → ℕ → List ℕ → List ℕ → ℕ → Result LinkRead Refusal → Type 0
+BoundReads back i j s at words words' c (Ok r) = BoundTook back i j s at words words' c r.next r.count
+BoundReads back i j s at words words' c (Err k) = two_bytes (drop at s) ≡ refused (number k)
 
 -- It is taken, or refused. What the words hold beside a refusal is not said.
-abbrev pub LinkReads : ℕ → ℕ → ℕ → ℕ → List ℕ → ℕ → List ℕ → List ℕ → ℕ → LinkRead → Type 0
-LinkReads m i j digits s at words words' c (Item next c') = Took m i j digits s at words words' c next c'
-LinkReads m i j digits s at words words' c (Refused k) = link_fields m i j (drop at s) ≡ refused (number k)
+abbrev pub LinkReads : ℕ → ℕ → ℕ → ℕ → List ℕ → ℕ → List ℕ → List ℕ → ℕ → Result LinkRead Refusal → Type 0
+LinkReads m i j digits s at words words' c (Ok r) = Took m i j digits s at words words' c r.next r.count
+LinkReads m i j digits s at words words' c (Err k) = link_fields m i j (drop at s) ≡ refused (number k)

@@ -2,7 +2,7 @@
 #![tactic(auto)]
 
 ghost use Rattle.std.specs.Prelude.{◌≡◌, true, false, List, ℕ, ◌+◌, ◌≤◌, ◌<◌, eqb, length};
-ghost use Rattle.definitions.specs.Limits.{most_steps, most_ticks};
+ghost use Rattle.definitions.specs.Limits.{most_steps};
 ghost use Rattle.definitions.specs.Links.{sequencing_edge, finish_edge};
 ghost use Rattle.definitions.specs.declared.Delay.{Delay};
 ghost use Rattle.data_edges.specs.Words.{edge, unpack, Fit, DigitsFit};
@@ -12,34 +12,15 @@ ghost use Rattle.read_links.specs.Pushes.{PushedIf, Pushable, LinkPushed, Ready,
 ghost use Rattle.read_links.specs.Completes.{EnteredMore, Loose, Completable, Completes};
 
 use data_edges::{BACK_PLACE, COUNTED_PLACE, GAIN_PLACE, LATE_PLACE, LOSS_PLACE, TO_PLACE};
-use data_indices::byte_index;
 use definitions::Refusal;
-use read_fields::{NumberRead, has};
-use read_pair::{Fields, FieldsRead};
+use read_fields::has;
+use read_pair::Fields;
 
-// The place after a link record that was read, and the count of words after its edges; or the fault met there.
+// The place after a link record that was read, and the count of words after its edges.
 #[derive(Clone, Copy)]
-pub enum LinkRead {
-    Item(usize, usize),
-    Refused(Refusal),
-}
-
-fn wide(x: u8) -> u64
-    ensures { result ≡ x }
-{
-    x as u64
-}
-
-fn ticks_of(x: u16) -> u64
-    ensures { (result ≡ x) × (result ≤ most_ticks) }
-{
-    x as u64
-}
-
-fn digits_of(x: u32) -> u64
-    ensures { result ≡ x }
-{
-    x as u64
+pub struct LinkRead {
+    pub next: usize,
+    pub count: usize,
 }
 
 // The word of an edge, from its seven digits.
@@ -60,37 +41,33 @@ fn sequencing_word(digits: u32, from: u8, to: u8, gap: u16) -> u64
     requires { Fit from to }
     ensures { (d : Delay) (least : ℕ) → digits ≡ leaving d least from → unpack result ≡ sequencing_edge d least from to gap }
 {
-    wide(from) + wide(to) * TO_PLACE + digits_of(digits) + ticks_of(gap) * GAIN_PLACE
+    u64::from(from) + u64::from(to) * TO_PLACE + u64::from(digits) + u64::from(gap) * GAIN_PLACE
 }
 
 fn minimum_word(from: u8, to: u8, least: u16) -> u64
     requires { Fit from to }
     ensures { unpack result ≡ edge from to least 0 false false false }
 {
-    word(wide(from), wide(to), 0, 0, ticks_of(least), 0, 0)
+    let (from, to) = (u64::from(from), u64::from(to));
+    word(from, to, 0, 0, u64::from(least), 0, 0)
 }
 
 fn maximum_word(from: u8, to: u8, most: u16) -> u64
     requires { Fit from to }
     ensures { unpack result ≡ edge to from 0 most false true false }
 {
-    word(wide(to), wide(from), 0, 1, 0, ticks_of(most), 0)
+    let (from, to) = (u64::from(from), u64::from(to));
+    word(to, from, 0, 1, 0, u64::from(most), 0)
 }
 
 fn finish_word(digits: u32, from: u8, to: u8, most: u16) -> u64
     requires { Fit from to }
     ensures { (d : Delay) (least : ℕ) → digits ≡ leaving d least from → unpack result ≡ finish_edge d least from to most }
 {
-    let d = digits_of(digits);
-    word(
-        wide(to),
-        wide(from),
-        0,
-        1,
-        0,
-        d / GAIN_PLACE + ticks_of(most),
-        d / COUNTED_PLACE % 2,
-    )
+    let (from, to) = (u64::from(from), u64::from(to));
+    let d = u64::from(digits);
+    let loss = d / GAIN_PLACE + u64::from(most);
+    word(to, from, 0, 1, 0, loss, d / COUNTED_PLACE % 2)
 }
 
 // A word behind the first count words, where it is there; it says how many there are then.
@@ -148,17 +125,16 @@ fn push_bound(
     count: usize,
     from: u8,
     to: u8,
-) -> LinkRead
+) -> Result<LinkRead, Refusal>
     requires { Ready s.now at words.old count from to }
     ensures { BoundReads back from to s.now at words.old words.new count result }
 {
-    match read_fields::read_number(s, at) {
-        NumberRead::Item(ticks, next) => {
-            let w = bound_word(back, from, to, ticks);
-            LinkRead::Item(next, push(words, count, true, w))
-        }
-        NumberRead::Refused(k) => LinkRead::Refused(k),
-    }
+    let ticks = read_fields::read_number(s, at)?;
+    let w = bound_word(back, from, to, ticks.value);
+    Ok(LinkRead {
+        next: ticks.next,
+        count: push(words, count, true, w),
+    })
 }
 
 // A link record with the map m for (from, to), from its fields on, and its edges, written at count; `digits` are what `from` adds. Most records are an after link, an at-least link or an at-most link alone.
@@ -171,24 +147,27 @@ pub fn push_link(
     from: u8,
     to: u8,
     digits: u32,
-) -> LinkRead
+) -> Result<LinkRead, Refusal>
     requires { Ready s.now at words.old count from to }
     ensures { LinkReads m from to digits s.now at words.old words.new count result }
 {
     match m {
         1 => {
             let after = sequencing_word(digits, from, to, 0);
-            LinkRead::Item(at, push(words, count, true, after))
+            Ok(LinkRead {
+                next: at,
+                count: push(words, count, true, after),
+            })
         }
         2 => push_bound(s, at, false, words, count, from, to),
         4 => push_bound(s, at, true, words, count, from, to),
-        _ => match read_pair::read_fields(s, at, m) {
-            FieldsRead::Item(fields, end) => {
-                let next = push_edges(words, count, m, from, to, digits, fields);
-                LinkRead::Item(end, next)
-            }
-            FieldsRead::Refused(k) => LinkRead::Refused(k),
-        },
+        _ => {
+            let fields = read_pair::read_fields(s, at, m)?;
+            Ok(LinkRead {
+                next: fields.next,
+                count: push_edges(words, count, m, from, to, digits, fields.value),
+            })
+        }
     }
 }
 
@@ -199,7 +178,7 @@ pub fn with_entered(entered: u64, m: u8, to: u8) -> u64
     requires { to < most_steps }
     ensures { EnteredMore m to entered result }
 {
-    data_bits::insert_if(entered, byte_index(to), m % 4 != 0)
+    data_bits::insert_if(entered, usize::from(to), m % 4 != 0)
 }
 
 // The map of the steps that follow nothing: those below n, without 0 and those entered.
@@ -215,13 +194,11 @@ pub fn complete(words: &mut [u64], count: usize, entered: u64, n: usize, d: u32)
     requires { Completable n words.old count }
     ensures { Completes n entered d words.old words.new count result }
 {
-    let mut left = loose_steps(entered, n);
+    let loose = loose_steps(entered, n);
     let mut next = count;
-    while left != 0 {
-        let v = data_bits::lowest(left);
+    for v in data_bits::members(loose) {
         let w = sequencing_word(d, 0, v as u8, 0);
         next = push(words, next, true, w);
-        left = data_bits::without_lowest(left);
     }
     next
 }

@@ -1,5 +1,7 @@
 -- What the parser of a link record finds at a place of the bytes, case by case. Each law is the parser's text, computed at the bytes that are there.
 use mathlib.Core.Path.{◌≡◌, refl, sym, ap, subst, ◌∙◌}
+use Rattle.std.specs.Prelude.{None, Some}
+use Rattle.definitions.specs.Bytes.{Previous, Parser, Taken, ◌>>=◌, give, demand, byte, ticks_if, link_map, sequenced, endpoints, rises, bound_from, link}
 use mathlib.Core.Bool.{Bool, true, false, not, ◌&&◌, ◌||◌, or-false}
 use mathlib.Core.Logic.{◌⊎◌, inl, inr}
 use mathlib.Core.List.{List, [], ◌∷◌}
@@ -12,10 +14,7 @@ use mir.Val.{has_key}
 use types.Run.{OneOf, hit}
 use borrow.Author.Tests.{leb-true, ltb-true, ltb-false, eqb-false, not-true, lt-ltb, le-ltb, lt-leb, le-leb, eq-eqb, ne_eqb}
 use Rattle.definitions.specs.Basics.{all, all_below, test_bit, Outcome, given, refused, when_given}
-use Rattle.definitions.specs.Bytes.{Parser, Taken, ◌>>=◌, give, demand, byte, ticks_if, link_map, sequenced, endpoints, rises, bound_from, link}
 use Rattle.definitions.specs.declared.Link.{Link}
-use Rattle.definitions.specs.declared.Previous.{Previous}
-use Rattle.definitions.specs.declared.Previous.TheVariants.{Nothing, Pair}
 use Rattle.laws.proofs.Bools.{both_ways, bool_cases, same_or_not, and_split, not_passing}
 use Rattle.laws.proofs.Tests.{all_below_each}
 use Rattle.laws.proofs.Parsers.{when_given_twice, drop_byte, drop_end}
@@ -163,27 +162,27 @@ module _ (m i j : ℕ) (t : List ℕ) where
   fields_refused e = rw e
 
 -- Pairs that rise: by i, and by j where i is the same.
-rises_same : (i₀ j₀ i j : ℕ) → i₀ ≡ i → rises (Pair i₀ j₀) i j ≡ ltb j₀ j
+rises_same : (i₀ j₀ i j : ℕ) → i₀ ≡ i → rises (Some (i₀, j₀)) i j ≡ ltb j₀ j
 unfolding rises
 rises_same i₀ j₀ i j e = rw (le-ltb i₀ i (omega arith), eq-eqb i₀ i e)
 
-rises_other : (i₀ j₀ i j : ℕ) → (i₀ ≡ i → ⊥) → rises (Pair i₀ j₀) i j ≡ ltb i₀ i
+rises_other : (i₀ j₀ i j : ℕ) → (i₀ ≡ i → ⊥) → rises (Some (i₀, j₀)) i j ≡ ltb i₀ i
 unfolding rises
 rises_other i₀ j₀ i j e = rw (ne_eqb i₀ i e) (or-false (ltb i₀ i))
 
 -- A pair rises exactly where its number does.
 pub rank_above : (previous : Previous) (last i j r : ℕ) → Ranked previous last → Ranks i j r → last < r → rises previous i j ≡ true
 unfolding rises
-rank_above Nothing last i j r e f h = refl
-rank_above (Pair i₀ j₀) last i j r e f h =
+rank_above None last i j r e f h = refl
+rank_above (Some (i₀, j₀)) last i j r e f h =
     elim (same_or_not i₀ i) [
       | inl same ↦ rises_same i₀ j₀ i j same ∙ lt-ltb j₀ j (omega (arith, e.0, e.1, f.0, f.1))
       | inr other ↦ rises_other i₀ j₀ i j other ∙ lt-ltb i₀ i (omega (arith, e.0, e.1, f.0, f.1))
     ]
 
 pub rank_below : (previous : Previous) (last i j r : ℕ) → Ranked previous last → Ranks i j r → r ≤ last → (i ≡ j → ⊥) → rises previous i j ≡ false
-rank_below Nothing last i j r e f h apart = absurd (apart (omega (arith, f.0)))
-rank_below (Pair i₀ j₀) last i j r e f h apart =
+rank_below None last i j r e f h apart = absurd (apart (omega (arith, f.0)))
+rank_below (Some (i₀, j₀)) last i j r e f h apart =
     elim (same_or_not i₀ i) [
       | inl same ↦ rises_same i₀ j₀ i j same ∙ le-ltb j₀ j (omega (arith, e.0, e.1, f.0, f.1))
       | inr other ↦ rises_other i₀ j₀ i j other ∙ le-ltb i₀ i (omega (arith, e.0, e.1, f.0, f.1))

@@ -1,9 +1,8 @@
 -- The parts of the definitions' parser of a link record that the functions of this crate take over; proofs/Parts.antt shows that they are its parts.
 use Rattle.std.specs.Prelude.{ℕ}
+use Rattle.definitions.specs.Bytes.{Previous, Parser, ◌>>=◌, ◌>>◌, give, demand, byte, ticks_if, bound_from, endpoints, rises}
 use Rattle.definitions.specs.Basics.{test_bit}
-use Rattle.definitions.specs.Bytes.{Parser, ◌>>=◌, ◌>>◌, give, demand, byte, ticks_if, bound_from, endpoints, rises}
 use Rattle.definitions.specs.declared.Link.{Link}
-use Rattle.definitions.specs.declared.Previous.{Previous}
 use Rattle.read_pair.specs.declared.Fields.{Fields}
 
 -- The ticks of the fields, and the link record that they make.

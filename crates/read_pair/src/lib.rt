@@ -2,21 +2,20 @@
 #![tactic(auto)]
 
 ghost use Rattle.std.specs.Prelude.{◌≡◌, ◌+◌, ◌≤◌, length, drop};
+ghost use Rattle.definitions.specs.Bytes.{Previous, endpoints, link};
 ghost use Rattle.definitions.specs.Numbers.{number};
-ghost use Rattle.definitions.specs.Bytes.{endpoints, link};
-ghost use Rattle.definitions.specs.declared.Previous.{Previous};
 ghost use Rattle.read_pair.specs.Parts.{link_pair};
 ghost use Rattle.read_pair.specs.Answers.{Ranks, Ranked, PairReads, FieldsReads, allowed, upper_allowed, map_refusal};
 
-use data_indices::byte_index;
 use definitions::Refusal;
-use read_fields::{field, field_end, has};
+use read_fields::{Item, field, field_end, has};
 
-// The map and the pair (i, j) of a link record; or the fault met there.
+// The map and the pair of a link record.
 #[derive(Clone, Copy)]
-pub enum PairRead {
-    Pair(u8, u8, u8),
-    Refused(Refusal),
+pub struct Pair {
+    pub map: u8,
+    pub from: u8,
+    pub to: u8,
 }
 
 // The ticks of the fields: at least, at most, the gap, at most from the finish. Those of a field that is not there are 0.
@@ -28,63 +27,49 @@ pub struct Fields {
     pub latest: u16,
 }
 
-// The fields at a place of the bytes, with the place after them; or the fault met there.
-#[derive(Clone, Copy)]
-pub enum FieldsRead {
-    Item(Fields, usize),
-    Refused(Refusal),
-}
-
 // Whether both ends of a pair are steps, and not one step.
 pub fn endpoints_allowed(n: usize, i: u8, j: u8) -> bool
     ensures { result ≡ endpoints n i j }
 {
-    let from = byte_index(i);
-    let to = byte_index(j);
-    if n <= from {
-        return false;
-    }
-    if n <= to {
-        return false;
-    }
-    from != to
+    usize::from(i) < n && usize::from(j) < n && i != j
 }
 
 // A pair as one number: pairs rise as their numbers do.
 pub fn rank(i: u8, j: u8) -> usize
     ensures { Ranks i j result }
 {
-    byte_index(i) * 256 + byte_index(j)
+    usize::from(i) * 256 + usize::from(j)
 }
 
 // The pair of a link record with the map m, where the pair before it has the number `last`.
-fn read_pair(s: &[u8], at: usize, n: usize, last: usize, m: u8) -> PairRead
+fn read_pair(s: &[u8], at: usize, n: usize, last: usize, m: u8) -> Result<Pair, Refusal>
     requires { at ≤ length s.now }
     ensures { (previous : Previous) → Ranked previous last → PairReads s.now (at + 2) n (link_pair n previous m (drop at s.now)) result }
 {
     let second = at + 1;
     if s.len() <= second {
-        return PairRead::Refused(Refusal::Truncated);
+        return Err(Refusal::Truncated);
     }
     let i = s[at];
     let j = s[second];
     if !endpoints_allowed(n, i, j) {
-        return PairRead::Refused(Refusal::BadEndpoint);
+        return Err(Refusal::BadEndpoint);
     }
     if rank(i, j) <= last {
-        return PairRead::Refused(Refusal::BadOrder);
+        return Err(Refusal::BadOrder);
     }
-    PairRead::Pair(m, i, j)
+    Ok(Pair {
+        map: m,
+        from: i,
+        to: j,
+    })
 }
 
 // Whether a map with bit 3 or bit 4 is allowed: with bit 0.
 fn upper_map_allowed(m: u8) -> bool
     ensures { result ≡ upper_allowed m }
 {
-    match m {
-        9 | 11 | 13 | 15 | 17 | 19 | 21 | 23 | 25 | 27 | 29 | 31 => true,
-        _ => false,
-    }
+    matches!(m, 9 | 11 | 13 | 15 | 17 | 19 | 21 | 23 | 25 | 27 | 29 | 31)
 }
 
 // Whether a map is allowed. Most have none but bits 0 to 2.
@@ -108,21 +93,21 @@ fn map_fault(m: u8) -> Refusal
 }
 
 // A link record up to its fields, where the pair before it has the number `last`: its map is judged first.
-pub fn read_link(s: &[u8], at: usize, n: usize, last: usize) -> PairRead
+pub fn read_link(s: &[u8], at: usize, n: usize, last: usize) -> Result<Pair, Refusal>
     ensures { (previous : Previous) → Ranked previous last → PairReads s.now (at + 3) n (link n previous (drop at s.now)) result }
 {
     if s.len() <= at {
-        return PairRead::Refused(Refusal::Truncated);
+        return Err(Refusal::Truncated);
     }
     let m = s[at];
     if !map_allowed(m) {
-        return PairRead::Refused(map_fault(m));
+        return Err(map_fault(m));
     }
     read_pair(s, at + 1, n, last, m)
 }
 
 // The fields of a link record with the map m: either all are there to their ends, or the bytes end too early.
-pub fn read_fields(s: &[u8], at: usize, m: u8) -> FieldsRead
+pub fn read_fields(s: &[u8], at: usize, m: u8) -> Result<Item<Fields>, Refusal>
     requires { at ≤ length s.now }
     ensures { FieldsReads s.now at m result }
 {
@@ -135,7 +120,7 @@ pub fn read_fields(s: &[u8], at: usize, m: u8) -> FieldsRead
     let latest_at = field_end(gap_at, has_gap);
     let end = field_end(latest_at, has_latest);
     if s.len() < end {
-        return FieldsRead::Refused(Refusal::Truncated);
+        return Err(Refusal::Truncated);
     }
     let fields = Fields {
         least: field(s, at, has_least),
@@ -143,5 +128,8 @@ pub fn read_fields(s: &[u8], at: usize, m: u8) -> FieldsRead
         gap: field(s, gap_at, has_gap),
         latest: field(s, latest_at, has_latest),
     };
-    FieldsRead::Item(fields, end)
+    Ok(Item {
+        value: fields,
+        next: end,
+    })
 }

@@ -1,23 +1,18 @@
 -- The loop over the link records: those read, put in front of those that are left, give the same answer as the whole, the first words stand for the edges of those read, and a map has the steps that these lead into.
 use mathlib.Core.Path.{◌≡◌, refl, sym, ap, ◌∙◌}
+use Rattle.std.specs.Prelude.{None}
+use Rattle.definitions.specs.Bytes.{Previous, link, links, pair_of}
 use mathlib.Core.List.{List, [], ◌∷◌, ◌++◌, flat_map, map, map-append}
 use Prim.Native.Nat.{ℕ, suc, ◌+◌, ◌-◌, ◌*◌, ◌≤◌, ◌<◌}
 use native.Mathlib.Omega.{arith}
 use lib.ListN.{length, take, drop, get_or, length-append}
-use Rattle.definitions.specs.Basics.{given, refused, when_given}
-use Rattle.definitions.specs.Numbers.{number}
-use Rattle.definitions.specs.Bytes.{link, links, pair_of}
+use Rattle.definitions.specs.Basics.{given, refused}
 use Rattle.definitions.specs.Limits.{links_of_record}
 use Rattle.definitions.specs.Links.{Edge, link_constraints, constraints, source_link, loose_steps, completed, edge_of, edges}
 use Rattle.definitions.specs.declared.Link.{Link}
 use Rattle.definitions.specs.declared.Operation.{Operation}
-use Rattle.definitions.specs.declared.Previous.{Previous}
-use Rattle.definitions.specs.declared.Previous.TheVariants.{Nothing}
-use Rattle.definitions.specs.declared.Reading.TheVariants.{Whole, Refused}
-use Rattle.definitions.specs.declared.Refusal.{Refusal}
 use Rattle.data_edges.specs.Words.{graph}
 use Rattle.read_fields.specs.Parts.{outcome}
-use Rattle.laws.proofs.Outcomes.{given_same, given_not_refused}
 use Rattle.laws.proofs.Parsers.{Unread, unread_start, unread_one, unread_refused, unread_none}
 use Rattle.read_pair.specs.Answers.{Ranks, Ranked}
 use Rattle.read_pair.specs.Parts.{link_fields, link_from}
@@ -26,7 +21,7 @@ use Rattle.read_links.specs.Pushes.{Took}
 use Rattle.read_links.specs.Completes.{Entered, EnteredMore, Completes}
 use Rattle.read_links.proofs.Completing.{entered_none, entered_more}
 use Rattle.read_links.proofs.Records.{link_few, edges_more}
-use Rattle.read_records.specs.Answers.{LinksReads}
+use Rattle.read_records.specs.Answers.{LinksFound}
 use Rattle.read_records.specs.Parts.{last_links}
 
 -- The loop's invariant: i of r records are read, `last` is the number of the last pair, the words are right for all steps that add these digits, and `entered` is the map of the steps that forward links lead into.
@@ -36,7 +31,7 @@ pub record Edged (digits : List ℕ) (n r : ℕ) (bytes : List ℕ) (i last : �
   pub ranked : Ranked previous last
   pub within : i ≤ r
   pub taken : length done ≡ i
-  pub unread : Unread (link n) pair_of r Nothing bytes done (r - i) previous rest
+  pub unread : Unread (link n) pair_of r None bytes done (r - i) previous rest
   pub few : count ≤ links_of_record * i
   pub same : (os : List Operation) → Leaves os n digits → graph (take count words) ≡ edges os (constraints done)
   pub enters : Entered (constraints done) entered
@@ -47,10 +42,10 @@ module _ (digits : List ℕ) (n r : ℕ) (bytes : List ℕ) where
   unfolding graph edges constraints flat_map
   edged_none words =
       let e : r - 0 ≡ r = omega arith in
-      record { done = []; previous = Nothing; ranked = refl; within = omega arith; taken = refl; unread = rw e (unread_start (link n) pair_of r Nothing bytes); few = omega arith; same = λ os h. refl; enters = entered_none }
+      record { done = []; previous = None; ranked = refl; within = omega arith; taken = refl; unread = rw e (unread_start (link n) pair_of r None bytes); few = omega arith; same = λ os h. refl; enters = entered_none }
 
   module _ (i last : ℕ) (rest words : List ℕ) (count entered : ℕ) (so : Edged digits n r bytes i last rest words count entered) where
-    one_left : i < r → Unread (link n) pair_of r Nothing bytes so.done (suc (r - (i + 1))) so.previous rest
+    one_left : i < r → Unread (link n) pair_of r None bytes so.done (suc (r - (i + 1))) so.previous rest
     one_left h = let e : suc (r - (i + 1)) ≡ r - i = omega arith in rw e so.unread
 
     -- One more is read from its fields on, and its edges are pushed, those of all steps of which its first adds what stands at `source`.
@@ -73,7 +68,7 @@ module _ (digits : List ℕ) (n r : ℕ) (bytes : List ℕ) where
         ranked = number;
         within = omega arith;
         taken = length-append so.done (more ∷ []) ∙ ap (λ (k : ℕ). k + 1) so.taken;
-        unread = unread_one (link n) pair_of r Nothing bytes so.done (r - (i + 1)) so.previous rest (drop next bytes) more (sym pair ∙ T.same) (one_left h);
+        unread = unread_one (link n) pair_of r None bytes so.done (r - (i + 1)) so.previous rest (drop next bytes) more (sym pair ∙ T.same) (one_left h);
         few = omega (arith, so.few, T.pushed.counts, link_few m from to T.fields);
         same = λ os h. edges_same os h e below;
         enters = entered_more so.done m from to T.fields entered entered' enters so.enters;
@@ -82,14 +77,14 @@ module _ (digits : List ℕ) (n r : ℕ) (bytes : List ℕ) where
     -- The next one is refused: so is the whole.
     pub edged_refused : i < r → (q : ℕ) → link n so.previous rest ≡ refused q → links n r bytes ≡ refused q
     unfolding links
-    edged_refused h q e = unread_refused (link n) pair_of r Nothing bytes so.done (r - (i + 1)) so.previous rest q e (one_left h)
+    edged_refused h q e = unread_refused (link n) pair_of r None bytes so.done (r - (i + 1)) so.previous rest q e (one_left h)
 
     -- All are read.
     pub edged_all : r ≤ i → links n r bytes ≡ given (record { value = so.done; rest = rest })
     unfolding links
     edged_all h =
         let none : r - i ≡ 0 = omega arith in
-        unread_none (link n) pair_of r Nothing bytes so.done so.previous rest (rw none at so.unread)
+        unread_none (link n) pair_of r None bytes so.done so.previous rest (rw none at so.unread)
 
     -- What is answered once the added links are pushed too: the edges of the completed links of all records, those of the records first.
     module _ (words' : List ℕ) (count' : ℕ) (added : Completes n entered (get_or digits 0 0) words words' count count') where
@@ -104,25 +99,13 @@ module _ (digits : List ℕ) (n r : ℕ) (bytes : List ℕ) where
       edges_sent : (os : List Operation) → Leaves os n digits → graph (take count words') ≡ edges os (constraints so.done)
       edges_sent os h = ap graph added.kept ∙ so.same os h
 
-      pub answers_whole : r ≤ i → outcome (last_links n r) bytes ≡ given so.done → LinksReads bytes n r digits words' (record { reading = Whole; count = count'; linked = count })
-      unfolding when_given
-      answers_whole all e = record {
-        reading = rw e;
+      pub links_found : r ≤ i → outcome (last_links n r) bytes ≡ given so.done → LinksFound bytes n r digits words' (record { count = count'; linked = count })
+      links_found all e = record {
+        links = so.done;
+        are_given = e;
+        records = omega (arith, so.taken, so.within);
         few = omega (arith, so.few, so.within, added.few);
-        same = λ os h ls g. edges_completed os h ∙ ap (λ (x : List Link). edges os (completed n (constraints x))) (given_same (sym e ∙ g));
+        same = edges_completed;
         linked = omega (arith, so.few, so.within);
-        sent = λ os h ls g. edges_sent os h ∙ ap (λ (x : List Link). edges os (constraints x)) (given_same (sym e ∙ g));
-        records = λ ls g. let read : length so.done ≡ r = omega (arith, so.taken, so.within) in sym (ap length (given_same (sym e ∙ g))) ∙ read;
+        sent = edges_sent;
       }
-
--- A refusal.
-pub answers_refused : (n r : ℕ) (bytes digits words : List ℕ) (k : Refusal) → outcome (last_links n r) bytes ≡ refused (number k) → LinksReads bytes n r digits words (record { reading = Refused k; count = 0; linked = 0 })
-unfolding when_given
-answers_refused n r bytes digits words k e = record {
-  reading = rw e;
-  few = omega arith;
-  same = λ os h ls g. absurd (given_not_refused (sym g ∙ e));
-  linked = omega arith;
-  sent = λ os h ls g. absurd (given_not_refused (sym g ∙ e));
-  records = λ ls g. absurd (given_not_refused (sym g ∙ e));
-}

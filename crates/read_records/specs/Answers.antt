@@ -1,11 +1,12 @@
 -- What is answered about the link records of a sheet, and what the words hold.
-use Rattle.std.specs.Prelude.{◌≡◌, List, ℕ, ◌+◌, ◌*◌, ◌≤◌, length, take}
-use Rattle.definitions.specs.Basics.{given, when_given}
+use Rattle.std.specs.Prelude.{◌≡◌, List, ℕ, ◌+◌, ◌*◌, ◌≤◌, length, take, Result, Ok, Err}
+use Rattle.definitions.specs.Basics.{given, refused}
 use Rattle.definitions.specs.Limits.{most_steps, links_of_record, most_added}
-use Rattle.definitions.specs.Numbers.{reading_of}
+use Rattle.definitions.specs.Numbers.{number}
 use Rattle.definitions.specs.Links.{constraints, completed, edges}
 use Rattle.definitions.specs.declared.Link.{Link}
 use Rattle.definitions.specs.declared.Operation.{Operation}
+use Rattle.definitions.specs.declared.Refusal.{Refusal}
 use Rattle.data_edges.specs.Words.{graph}
 use Rattle.read_fields.specs.Parts.{outcome}
 use Rattle.read_steps.specs.Leaving.{Leaves}
@@ -17,12 +18,18 @@ pub record Fits (n r : ℕ) (words : List ℕ) : Type 0 where
   pub steps : n ≤ most_steps
   pub room : links_of_record * r + most_added ≤ length words
 
--- The reading is that of r link records which are the whole of the bytes s; the first words stand for the edges of their links, completed, for all n steps that add these digits, and the first of these for the edges of the
--- links that the records themselves say. What the words hold beside a refusal is not said.
-pub record LinksReads (s : List ℕ) (n r : ℕ) (digits words : List ℕ) (q : LinksRead) : Type 0 where
-  pub reading : reading_of {A = Unit {0}} q.reading tt ≡ when_given (outcome (last_links n r) s) (λ ls. given tt)
+-- The r link records are the whole of the bytes s; the first words stand for the edges of their links, completed, for all n steps that add these digits, and the first of these for the edges of the links that the records
+-- themselves say.
+pub record LinksFound (s : List ℕ) (n r : ℕ) (digits words : List ℕ) (q : LinksRead) : Type 0 where
+  pub links : List Link
+  pub are_given : outcome (last_links n r) s ≡ given links
+  pub records : length links ≡ r
   pub few : q.count ≤ links_of_record * r + most_added
-  pub same : (os : List Operation) → Leaves os n digits → (ls : List Link) → outcome (last_links n r) s ≡ given ls → graph (take q.count words) ≡ edges os (completed n (constraints ls))
+  pub same : (os : List Operation) → Leaves os n digits → graph (take q.count words) ≡ edges os (completed n (constraints links))
   pub linked : q.linked ≤ links_of_record * r
-  pub sent : (os : List Operation) → Leaves os n digits → (ls : List Link) → outcome (last_links n r) s ≡ given ls → graph (take q.linked words) ≡ edges os (constraints ls)
-  pub records : (ls : List Link) → outcome (last_links n r) s ≡ given ls → length ls ≡ r
+  pub sent : (os : List Operation) → Leaves os n digits → graph (take q.linked words) ≡ edges os (constraints links)
+
+-- They are read, or the first fault is met. What the words hold beside a refusal is not said.
+abbrev pub LinksReads : List ℕ → ℕ → ℕ → List ℕ → List ℕ → Result LinksRead Refusal → Type 0
+LinksReads s n r digits words (Ok q) = LinksFound s n r digits words q
+LinksReads s n r digits words (Err k) = outcome (last_links n r) s ≡ refused (number k)

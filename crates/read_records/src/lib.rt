@@ -3,15 +3,11 @@
 
 ghost use Rattle.read_records.specs.Answers.{Fits, LinksReads};
 
-use data_indices::byte_index;
-use definitions::{Reading, Refusal};
-use read_links::LinkRead;
-use read_pair::PairRead;
+use definitions::Refusal;
 
-// Whether the records are the whole of the bytes; or the first fault. The first count words stand for the edges of their links, completed, and the first linked of these for those of the links that were sent: 0 and 0 beside a fault.
+// The first count words stand for the edges of the records' links, completed, and the first linked of these for those of the links that were sent.
 #[derive(Clone, Copy)]
 pub struct LinksRead {
-    pub reading: Reading,
     pub count: usize,
     pub linked: usize,
 }
@@ -23,7 +19,7 @@ pub fn read_links(
     r: usize,
     digits: &[u32; 64],
     words: &mut [u64],
-) -> LinksRead
+) -> Result<LinksRead, Refusal>
     requires { Fits n r words.old }
     ensures { LinksReads part.now n r digits.now words.new result }
 {
@@ -31,49 +27,22 @@ pub fn read_links(
     let mut next = 0;
     let mut count = 0;
     let mut entered = 0;
-    let mut i = 0;
-    while i < r {
-        match read_pair::read_link(part, next, n, last) {
-            PairRead::Pair(m, from, to) => {
-                let source = byte_index(from);
-                let d = digits[source];
-                match read_links::push_link(part, next + 3, m, words, count, from, to, d) {
-                    LinkRead::Item(after, more) => {
-                        last = read_pair::rank(from, to);
-                        entered = read_links::with_entered(entered, m, to);
-                        next = after;
-                        count = more;
-                        i += 1;
-                    }
-                    LinkRead::Refused(k) => {
-                        return LinksRead {
-                            reading: Reading::Refused(k),
-                            count: 0,
-                            linked: 0,
-                        };
-                    }
-                }
-            }
-            PairRead::Refused(k) => {
-                return LinksRead {
-                    reading: Reading::Refused(k),
-                    count: 0,
-                    linked: 0,
-                };
-            }
-        }
+    for _ in 0..r {
+        let pair = read_pair::read_link(part, next, n, last)?;
+        let (m, from, to) = (pair.map, pair.from, pair.to);
+        let d = digits[usize::from(from)];
+        let link = read_links::push_link(part, next + 3, m, words, count, from, to, d)?;
+        last = read_pair::rank(from, to);
+        entered = read_links::with_entered(entered, m, to);
+        next = link.next;
+        count = link.count;
     }
     if next < part.len() {
-        return LinksRead {
-            reading: Reading::Refused(Refusal::Trailing),
-            count: 0,
-            linked: 0,
-        };
+        return Err(Refusal::Trailing);
     }
     let all = read_links::complete(words, count, entered, n, digits[0]);
-    LinksRead {
-        reading: Reading::Whole,
+    Ok(LinksRead {
         count: all,
         linked: count,
-    }
+    })
 }

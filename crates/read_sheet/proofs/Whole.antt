@@ -1,17 +1,14 @@
 -- A report on bytes that are read whole: the records of a sheet, within their limits.
-use mathlib.Core.Path.{◌≡◌}
 use mathlib.Core.List.{List}
 use Prim.Native.Nat.{ℕ, ◌<◌}
 use native.Mathlib.Omega.{arith}
 use lib.ListN.{get_or}
 use Rattle.definitions.specs.Bytes.{read}
-use Rattle.definitions.specs.declared.Reading.TheVariants as Readings
 use Rattle.laws.proofs.Lists.{mem_place}
 use Rattle.demands.specs.Demands.{Bytes, IsSheet}
 use Rattle.demands.proofs.Reading.{Fits, fits_of}
-use Rattle.read_sheet.specs.Answers.{Reports}
+use Rattle.read_sheet.specs.Answers.{Found}
 use Rattle.read_sheet.specs.declared.Report.{Report}
-use Rattle.read_sheet.proofs.Reports.{Found, report_given}
 
 -- The elements of a list of bytes are below 256, from each place.
 pub bytes_by : (s : List ℕ) → ((i : ℕ) → get_or s i 0 < 256) → Bytes s
@@ -22,8 +19,7 @@ pub record Whole (s words leasts : List ℕ) (report : Report) : Type 0 where
   pub sheet : IsSheet s found.whole
   pub fits : Fits found.whole
 
-pub whole : (s words leasts : List ℕ) (report : Report) → ((i : ℕ) → get_or s i 0 < 256) → Reports (read s) words leasts report → report.reading ≡ Readings.Whole → Whole s words leasts report
-whole s words leasts report small reports e =
-    let h = report_given (read s) words leasts report reports e in
+pub whole : (s words leasts : List ℕ) (report : Report) → ((i : ℕ) → get_or s i 0 < 256) → Found (read s) words leasts report → Whole s words leasts report
+whole s words leasts report small h =
     let is : IsSheet s h.whole = record { bytes = bytes_by s small; reads = h.is_given } in
     record { found = h; sheet = is; fits = fits_of is }

@@ -1,22 +1,16 @@
--- What the reader's report says, and the words and leasts beside it; and what its parts say: N and R, and the link records.
-use Rattle.std.specs.Prelude.{◌≡◌, List, ℕ, ◌*◌, ◌≤◌, ◌<◌, length, take, drop, replicate}
+-- What the reader's report says, and the words and leasts beside it; and what N and R say.
+use Rattle.std.specs.Prelude.{◌≡◌, List, ℕ, ◌*◌, ◌≤◌, ◌<◌, length, take, drop, replicate, Result, Ok, Err}
 use Rattle.definitions.specs.Answers.{count_of, edges_of}
-use Rattle.definitions.specs.Basics.{Outcome, given, refused, test_bit, when_given}
+use Rattle.definitions.specs.Basics.{Outcome, given, refused, test_bit}
 use Rattle.definitions.specs.Bytes.{Records}
 use Rattle.definitions.specs.Limits.{most_steps, most_records, links_of_record, most_edges}
 use Rattle.definitions.specs.Links.{constraints, edges}
-use Rattle.definitions.specs.Numbers.{number, reading_of}
+use Rattle.definitions.specs.Numbers.{number}
+use Rattle.definitions.specs.declared.Refusal.{Refusal}
 use Rattle.data_edges.specs.Words.{graph}
-use Rattle.definitions.specs.declared.Reading.{Reading}
-use Rattle.definitions.specs.declared.Reading.TheVariants as Readings
 use Rattle.read_fields.specs.Counts.{link_count, edge_room}
 use Rattle.read_fields.specs.Parts.{outcome}
-use Rattle.read_steps.specs.Answers.{place_end}
 use Rattle.read_steps.specs.Leaving.{Leasts, unbounded_at}
-use Rattle.read_steps.specs.declared.Place.{Place}
-use Rattle.read_steps.specs.declared.Place.TheVariants as Places
-use Rattle.read_records.specs.Answers.{Fits, LinksReads}
-use Rattle.read_records.specs.declared.LinksRead.{LinksRead}
 use Rattle.read_sheet.specs.Parts.{sheet_records}
 use Rattle.read_sheet.specs.declared.Head.{Head}
 use Rattle.read_sheet.specs.declared.Report.{Report}
@@ -41,31 +35,25 @@ pub record Holds (q : Records) (words leasts : List ℕ) (r : Report) : Type 0 w
   pub records : r.records ≡ length q.pairs
   pub few_records : r.records ≤ most_records
 
--- A report on what reading finds: the refusal or none, and the sheet where there is one.
-pub record Reports (p : Outcome Records) (words leasts : List ℕ) (r : Report) : Type 0 where
-  pub reading : reading_of {A = Unit {0}} r.reading tt ≡ when_given p (λ q. given tt)
-  pub sheet : (q : Records) → p ≡ given q → Holds q words leasts r
+-- An outcome that gives its records, and how they are held.
+pub record Found (p : Outcome Records) (words leasts : List ℕ) (r : Report) : Type 0 where
+  pub whole : Records
+  pub is_given : p ≡ given whole
+  pub holds : Holds whole words leasts r
 
--- What N and R leave to be read: the records; or a refusal by its number.
-abbrev pub head_outcome : List ℕ → Head → Reading → Outcome Records
-head_outcome s h Readings.Whole = outcome (sheet_records h.n h.r) (drop h.at s)
-head_outcome s h (Readings.Refused k) = refused (number k)
+-- A report on what reading finds: the sheet, or the refusal. What words and leasts hold beside a refusal is not said.
+abbrev pub Reports : Outcome Records → List ℕ → List ℕ → Result Report Refusal → Type 0
+Reports p words leasts (Ok r) = Found p words leasts r
+Reports p words leasts (Err k) = p ≡ refused (number k)
 
--- N and R of the bytes s, of which reading makes p. They keep their limits, also beside a refusal.
-pub record Heads (p : Outcome Records) (s : List ℕ) (h : Head) : Type 0 where
-  pub same : head_outcome s h h.reading ≡ p
+-- N and R of the bytes s, within their limits: the records that they leave to be read are what reading makes of s, which is p.
+pub record HeadFound (p : Outcome Records) (s : List ℕ) (h : Head) : Type 0 where
+  pub same : outcome (sheet_records h.n h.r) (drop h.at s) ≡ p
   pub inside : h.at ≤ length s
   pub steps : h.n ≤ most_steps
   pub few : h.r ≤ most_records
   pub room : h.r ≤ link_count s
 
--- The row of steps ends within the bytes, and the link records have room.
-pub record TailReady (s : List ℕ) (place : Place) (n r : ℕ) (words : List ℕ) : Type 0 where
-  pub inside : place_end place ≤ length s
-  pub fits : Fits n r words
-
--- The link records, where the reading up to the steps, and the row of steps, have these answers.
-abbrev pub TailReads : List ℕ → ℕ → ℕ → List ℕ → List ℕ → LinksRead → Reading → Place → Type 0
-TailReads s n r digits words q (Readings.Refused k) place = q.reading ≡ Readings.Refused k
-TailReads s n r digits words q Readings.Whole (Places.Refused k) = q.reading ≡ Readings.Refused k
-TailReads s n r digits words q Readings.Whole (Places.At middle) = LinksReads (drop middle s) n r digits words q
+abbrev pub Heads : Outcome Records → List ℕ → Result Head Refusal → Type 0
+Heads p s (Ok h) = HeadFound p s h
+Heads p s (Err k) = p ≡ refused (number k)

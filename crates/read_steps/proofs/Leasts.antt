@@ -1,5 +1,6 @@
 -- The least of a step, and the leasts of the steps that are read, as numbers.
 use mathlib.Core.Path.{◌≡◌, refl, sym, ap, ◌∙◌}
+use Rattle.std.specs.Prelude.{None, Option}
 use mathlib.Core.Logic.{inl, inr}
 use mathlib.Core.List.{List, [], ◌∷◌, ◌++◌}
 use Prim.Native.Nat.{ℕ, zero, suc, ◌≤◌, ◌<◌, ◌+◌, ◌*◌}
@@ -11,8 +12,6 @@ use borrow.Author.Tests.{ne_eqb}
 use Rattle.definitions.specs.Bytes.{blank_operation}
 use Rattle.definitions.specs.Limits.{most_steps}
 use Rattle.definitions.specs.Links.{ticks_said, delay_at, least_with, least_at}
-use Rattle.definitions.specs.declared.Bound.{Bound}
-use Rattle.definitions.specs.declared.Bound.TheVariants.{Absent}
 use Rattle.definitions.specs.declared.Delay.{Delay}
 use Rattle.definitions.specs.declared.Delay.TheVariants.{Open, Fixed}
 use Rattle.definitions.specs.declared.Operation.{Operation}
@@ -22,17 +21,17 @@ use Rattle.data_edges.specs.Words.{counted_place, gain_place}
 use Rattle.read_steps.specs.Leaving.{Leasts, LeastPut, added, leaving}
 
 -- Step 0 has none, and an open step other than 0 has what its record says.
-pub least_source : (d : Delay) (said : Bound) → least_with 0 d said ≡ 0
+pub least_source : (d : Delay) (said : Option ℕ) → least_with 0 d said ≡ 0
 unfolding least_with
 least_source Open said = refl
 least_source (Fixed ticks) said = refl
 
-pub least_unsaid : (i : ℕ) → least_with i Open Absent ≡ 0
+pub least_unsaid : (i : ℕ) → least_with i Open None ≡ 0
 unfolding least_with ticks_said
 least_unsaid zero = refl
 least_unsaid (suc i) = refl
 
-pub least_open : (i : ℕ) (said : Bound) → (i ≡ 0 → ⊥) → least_with i Open said ≡ ticks_said said
+pub least_open : (i : ℕ) (said : Option ℕ) → (i ≡ 0 → ⊥) → least_with i Open said ≡ ticks_said said
 unfolding least_with
 least_open zero said h = absurd (h refl)
 least_open (suc i) said h = refl
@@ -46,7 +45,7 @@ pub added_source : (i : ℕ) (o : Operation) → i ≡ 0 → o.delay ≡ Open �
 unfolding leaving
 added_source i o z e = rw (e, z, least_source Open o.least)
 
-pub added_open : (i : ℕ) (o : Operation) (said : Bound) → (i ≡ 0 → ⊥) → o.delay ≡ Open → o.least ≡ said → added i o ≡ counted_place + ticks_said said * gain_place
+pub added_open : (i : ℕ) (o : Operation) (said : Option ℕ) → (i ≡ 0 → ⊥) → o.delay ≡ Open → o.least ≡ said → added i o ≡ counted_place + ticks_said said * gain_place
 unfolding leaving
 added_open i o said z e f = rw (e, f, ne_eqb i 0 z, least_open i said z)
 

@@ -1,5 +1,6 @@
 -- What the parser of a step record finds at a place of the bytes, case by case. Each law is the parser's text, computed at the bytes that are there.
 use mathlib.Core.Path.{◌≡◌, refl, ap₂}
+use Rattle.std.specs.Prelude.{None, Some}
 use mathlib.Core.Bool.{Bool, true, false, ◌||◌}
 use mathlib.Core.List.{List}
 use Prim.Native.Nat.{ℕ, ◌+◌, ◌≤◌, ◌<◌}
@@ -8,7 +9,6 @@ use lib.ListN.{length, get_or, drop}
 use borrow.Author.Tests.{ne_eqb, lt-leb}
 use Rattle.definitions.specs.Basics.{test_bit, given, refused, when_given}
 use Rattle.definitions.specs.Bytes.{demand, byte, two_bytes, ticks_if, bound_from, operation_map, delay_from, operation}
-use Rattle.definitions.specs.declared.Bound.TheVariants.{Absent, Ticks}
 use Rattle.definitions.specs.declared.Delay.TheVariants.{Open, Fixed}
 use Rattle.laws.proofs.Parsers.{drop_byte, drop_end}
 use Rattle.read_steps.specs.Parts.{operation_mapped, fixed, slow}
@@ -39,17 +39,17 @@ module _ (t : List ℕ) where
     unfolding operation_mapped demand when_given
     mapped_refused e = rw e
 
-    pub mapped_open : m ≡ 1 → operation_mapped first m t ≡ given (record { value = record { delay = Open; least = Absent }; rest = t })
+    pub mapped_open : m ≡ 1 → operation_mapped first m t ≡ given (record { value = record { delay = Open; least = None }; rest = t })
     unfolding operation_mapped demand ticks_if bound_from test_bit operation_map delay_from when_given
     mapped_open e = rw e (go first)
       where
-        go : (first : Bool) → operation_mapped first 1 t ≡ given (record { value = record { delay = Open; least = Absent }; rest = t })
+        go : (first : Bool) → operation_mapped first 1 t ≡ given (record { value = record { delay = Open; least = None }; rest = t })
         go true = refl
         go false = refl
 
     -- A step other than 0.
     module _ (later : first ≡ false) where
-      pub mapped_zero : m ≡ 0 → operation_mapped first m t ≡ given (record { value = record { delay = Fixed 0; least = Absent }; rest = t })
+      pub mapped_zero : m ≡ 0 → operation_mapped first m t ≡ given (record { value = record { delay = Fixed 0; least = None }; rest = t })
       unfolding operation_mapped demand ticks_if bound_from test_bit operation_map delay_from when_given
       mapped_zero e = rw (later, e)
 
@@ -62,7 +62,7 @@ module _ (t : List ℕ) where
       mapped_slow e = rw (later, e)
 
   -- The number of ticks of a step that lasts a fixed time; and the least of an open one.
-  pub fixed_there : {rest : List ℕ} {ticks : ℕ} → two_bytes t ≡ given (record { value = ticks; rest = rest }) → fixed t ≡ given (record { value = record { delay = Fixed ticks; least = Absent }; rest = rest })
+  pub fixed_there : {rest : List ℕ} {ticks : ℕ} → two_bytes t ≡ given (record { value = ticks; rest = rest }) → fixed t ≡ given (record { value = record { delay = Fixed ticks; least = None }; rest = rest })
   unfolding fixed when_given
   fixed_there there = rw there
 
@@ -70,7 +70,7 @@ module _ (t : List ℕ) where
   unfolding fixed when_given
   fixed_refused not_there = rw not_there
 
-  pub slow_there : {rest : List ℕ} {ticks : ℕ} → two_bytes t ≡ given (record { value = ticks; rest = rest }) → slow t ≡ given (record { value = record { delay = Open; least = Ticks ticks }; rest = rest })
+  pub slow_there : {rest : List ℕ} {ticks : ℕ} → two_bytes t ≡ given (record { value = ticks; rest = rest }) → slow t ≡ given (record { value = record { delay = Open; least = Some ticks }; rest = rest })
   unfolding slow when_given
   slow_there there = rw there
 

@@ -1,8 +1,7 @@
 -- The parts of the definitions' parser of a step record that the functions of this crate take over.
-use Rattle.std.specs.Prelude.{Bool, ℕ}
+use Rattle.std.specs.Prelude.{Bool, ℕ, None, Some}
 use Rattle.definitions.specs.Basics.{test_bit}
 use Rattle.definitions.specs.Bytes.{Parser, ◌>>=◌, ◌>>◌, give, demand, two_bytes, ticks_if, bound_from, operation_map, delay_from}
-use Rattle.definitions.specs.declared.Bound.TheVariants.{Absent, Ticks}
 use Rattle.definitions.specs.declared.Delay.TheVariants.{Open, Fixed}
 use Rattle.definitions.specs.declared.Operation.{Operation}
 
@@ -18,9 +17,9 @@ operation_mapped first m = do
 unfoldable pub fixed : Parser Operation
 fixed = do
   ticks ← two_bytes
-  give (record { delay = Fixed ticks; least = Absent })
+  give (record { delay = Fixed ticks; least = None })
 
 unfoldable pub slow : Parser Operation
 slow = do
   least ← two_bytes
-  give (record { delay = Open; least = Ticks least })
+  give (record { delay = Open; least = Some least })

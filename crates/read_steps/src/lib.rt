@@ -1,10 +1,9 @@
 // The step records of a sheet, read one by one; what each step adds to the words of the after links that leave it is written, and the least durations, and the open steps are gathered in a map.
 #![tactic(auto)]
 
-ghost use Rattle.std.specs.Prelude.{◌≡◌, List, ℕ, ◌*◌, ◌≤◌, ◌<◌, eqb, length};
+ghost use Rattle.std.specs.Prelude.{◌≡◌, List, ℕ, ◌*◌, ◌≤◌, ◌<◌, eqb, length, None, Some};
 ghost use Rattle.definitions.specs.Bytes.{operation};
 ghost use Rattle.definitions.specs.Limits.{most_steps};
-ghost use Rattle.definitions.specs.declared.Bound.TheVariants.{Absent, Ticks};
 ghost use Rattle.definitions.specs.declared.Delay.TheVariants.{Fixed, Open};
 ghost use Rattle.read_steps.specs.Leaving.{added};
 ghost use Rattle.read_steps.specs.Parts.{fixed, slow, operation_mapped};
@@ -12,27 +11,13 @@ ghost use Rattle.data_edges.specs.Words.{gain_place};
 ghost use Rattle.read_steps.specs.Answers.{StepReads, SlowReady, MappedReady, RowReady, OperationsReads};
 
 use data_edges::{COUNTED_PLACE, GAIN_PLACE};
-use definitions::{Bound, Delay, Operation, Refusal};
-use read_fields::NumberRead;
+use definitions::{Delay, Operation, Refusal};
+use read_fields::Item;
 
-// What a step at a place of the bytes adds to the words of the after links that leave it, with the place after it; or the fault met there.
-#[derive(Clone, Copy)]
-enum StepRead {
-    Item(u32, usize),
-    Refused(Refusal),
-}
-
-// Where a row of records ends; or the first fault in it.
-#[derive(Clone, Copy)]
-pub enum Place {
-    At(usize),
-    Refused(Refusal),
-}
-
-// Where the step records end, or the first fault in them; and the map of the open steps other than 0. What the map is beside a fault is not said.
+// Where the step records end, and the map of the open steps other than 0.
 #[derive(Clone, Copy)]
 pub struct Steps {
-    pub place: Place,
+    pub next: usize,
     pub unbounded: u64,
 }
 
@@ -43,24 +28,22 @@ const MARK: u32 = COUNTED_PLACE as u32;
 fn gain_digits(x: u16) -> u32
     ensures { result ≡ x * gain_place }
 {
-    (x as u32) * (GAIN_PLACE as u32)
+    u32::from(x) * (GAIN_PLACE as u32)
 }
 
 // What step i adds.
 fn added_by(step: Operation, i: usize) -> u32
     ensures { result ≡ added i step }
 {
-    let delay = step.delay;
-    let said = step.least;
-    match delay {
+    match step.delay {
         Delay::Fixed(ticks) => gain_digits(ticks),
         Delay::Open => {
             if i < 1 {
                 return 0;
             }
-            match said {
-                Bound::Absent => MARK,
-                Bound::Ticks(x) => MARK + gain_digits(x),
+            match step.least {
+                None => MARK,
+                Some(x) => MARK + gain_digits(x),
             }
         }
     }
@@ -68,84 +51,99 @@ fn added_by(step: Operation, i: usize) -> u32
 
 // A step that lasts a fixed number of ticks, and an open one without a least duration and with one.
 fn timed(ticks: u16) -> Operation
-    ensures { result ≡ record { delay = Fixed ticks; least = Absent } }
+    ensures { result ≡ record { delay = Fixed ticks; least = None } }
 {
     Operation {
         delay: Delay::Fixed(ticks),
-        least: Bound::Absent,
+        least: None,
     }
 }
 
 fn untimed() -> Operation
-    ensures { result ≡ record { delay = Open; least = Absent } }
+    ensures { result ≡ record { delay = Open; least = None } }
 {
     Operation {
         delay: Delay::Open,
-        least: Bound::Absent,
+        least: None,
     }
 }
 
 fn lasting(least: u16) -> Operation
-    ensures { result ≡ record { delay = Open; least = Ticks least } }
+    ensures { result ≡ record { delay = Open; least = Some least } }
 {
     Operation {
         delay: Delay::Open,
-        least: Bound::Ticks(least),
+        least: Some(least),
     }
 }
 
-// The duration of a step that lasts a fixed number of ticks.
-fn fixed_step(s: &[u8], at: usize, i: usize) -> StepRead
+// Of a step i at a place of the bytes, what it adds to the words of the after links that leave it: of one that lasts a fixed number of ticks, by its duration.
+fn fixed_step(s: &[u8], at: usize, i: usize) -> Result<Item<u32>, Refusal>
     requires { at ≤ length s.now }
     ensures { (leasts : List ℕ) → StepReads fixed s.now at i leasts leasts result }
 {
-    match read_fields::read_number(s, at) {
-        NumberRead::Item(ticks, next) => StepRead::Item(added_by(timed(ticks), i), next),
-        NumberRead::Refused(k) => StepRead::Refused(k),
-    }
+    let ticks = read_fields::read_number(s, at)?;
+    Ok(Item {
+        value: added_by(timed(ticks.value), i),
+        next: ticks.next,
+    })
 }
 
-// The least duration of open step i.
-fn slow_step(s: &[u8], at: usize, i: usize, leasts: &mut [u16; 64]) -> StepRead
+// Of an open step i with a least duration.
+fn slow_step(s: &[u8], at: usize, i: usize, leasts: &mut [u16; 64]) -> Result<Item<u32>, Refusal>
     requires { SlowReady s.now at i }
     ensures { StepReads slow s.now at i leasts.old leasts.new result }
 {
-    match read_fields::read_number(s, at) {
-        NumberRead::Item(ticks, next) => {
-            leasts[i] = ticks;
-            StepRead::Item(added_by(lasting(ticks), i), next)
-        }
-        NumberRead::Refused(k) => StepRead::Refused(k),
-    }
+    let least = read_fields::read_number(s, at)?;
+    leasts[i] = least.value;
+    Ok(Item {
+        value: added_by(lasting(least.value), i),
+        next: least.next,
+    })
 }
 
 // The record of step i with the map m, from the place after its map on. Step 0 has the map 1.
-fn read_mapped(m: u8, s: &[u8], at: usize, i: usize, leasts: &mut [u16; 64]) -> StepRead
+fn read_mapped(
+    m: u8,
+    s: &[u8],
+    at: usize,
+    i: usize,
+    leasts: &mut [u16; 64],
+) -> Result<Item<u32>, Refusal>
     requires { MappedReady s.now at i }
     ensures { StepReads (operation_mapped (eqb i 0) m) s.now at i leasts.old leasts.new result }
 {
     if i == 0 {
-        return match m {
-            1 => StepRead::Item(added_by(untimed(), 0), at),
-            _ => StepRead::Refused(Refusal::BadMap),
-        };
+        if m != 1 {
+            return Err(Refusal::BadMap);
+        }
+        return Ok(Item {
+            value: added_by(untimed(), 0),
+            next: at,
+        });
     }
     match m {
-        0 => StepRead::Item(added_by(timed(0), i), at),
-        1 => StepRead::Item(added_by(untimed(), i), at),
+        0 => Ok(Item {
+            value: added_by(timed(0), i),
+            next: at,
+        }),
+        1 => Ok(Item {
+            value: added_by(untimed(), i),
+            next: at,
+        }),
         2 => fixed_step(s, at, i),
         5 => slow_step(s, at, i, leasts),
-        _ => StepRead::Refused(Refusal::BadMap),
+        _ => Err(Refusal::BadMap),
     }
 }
 
 // The record of step i.
-fn read_step(s: &[u8], at: usize, i: usize, leasts: &mut [u16; 64]) -> StepRead
+fn read_step(s: &[u8], at: usize, i: usize, leasts: &mut [u16; 64]) -> Result<Item<u32>, Refusal>
     requires { i < most_steps }
     ensures { StepReads (operation (eqb i 0)) s.now at i leasts.old leasts.new result }
 {
     if s.len() <= at {
-        return StepRead::Refused(Refusal::Truncated);
+        return Err(Refusal::Truncated);
     }
     read_mapped(s[at], s, at + 1, i, leasts)
 }
@@ -158,31 +156,17 @@ pub fn read_operations(
     n: usize,
     digits: &mut [u32; 64],
     leasts: &mut [u16; 64],
-) -> Steps
+) -> Result<Steps, Refusal>
     requires { RowReady s.now at n digits.old leasts.old }
-    ensures { OperationsReads s.now at n digits.new leasts.new result.unbounded result.place }
+    ensures { OperationsReads s.now at n digits.new leasts.new result }
 {
     let mut unbounded = 0;
     let mut next = at;
-    let mut i = 0;
-    while i < n {
-        match read_step(s, next, i, leasts) {
-            StepRead::Item(d, after) => {
-                digits[i] = d;
-                unbounded = data_bits::insert_if(unbounded, i, d / MARK % 2 == 1);
-                next = after;
-                i += 1;
-            }
-            StepRead::Refused(k) => {
-                return Steps {
-                    place: Place::Refused(k),
-                    unbounded: unbounded,
-                };
-            }
-        }
+    for i in 0..n {
+        let step = read_step(s, next, i, leasts)?;
+        digits[i] = step.value;
+        unbounded = data_bits::insert_if(unbounded, i, step.value / MARK % 2 == 1);
+        next = step.next;
     }
-    Steps {
-        place: Place::At(next),
-        unbounded: unbounded,
-    }
+    Ok(Steps { next, unbounded })
 }

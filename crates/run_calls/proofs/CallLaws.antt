@@ -1,5 +1,6 @@
 -- The three calls, refusal by refusal: what each early return shows, and what an accepted call returns. Assumes nothing.
 use mathlib.Core.Path.{◌≡◌, refl, ap, ap₂, ◌∙◌, subst}
+use Rattle.std.specs.Prelude.{Err, Ok}
 use mathlib.Core.Bool.{Bool, true, false, not, ◌||◌}
 use mathlib.Core.List.{List}
 use Prim.Native.Nat.{ℕ, ◌*◌, ◌^◌, ◌≤◌, ◌<◌}
@@ -15,10 +16,9 @@ use Rattle.definitions.specs.Dispatcher.{Progress, sweep, begun, not_running, ke
 use Rattle.definitions.specs.declared.State.{State}
 use Rattle.definitions.specs.declared.Dispatch.{Dispatch}
 use Rattle.definitions.specs.declared.Refusal.{Refusal}
-use Rattle.definitions.specs.declared.Status.TheVariants.{Done, Refused}
 use Rattle.laws.proofs.Bools.{and_split, or_neither}
 use Rattle.run_release.specs.Sweeps.{Room, Swept}
-use Rattle.run_calls.specs.Calls.{cannot_finish_in, too_little}
+use Rattle.run_calls.specs.Calls.{too_little}
 
 -- A disjunction whose first part fails is its second.
 pub or_past : {a : Bool} (b : Bool) → a ≡ false → (a || b) ≡ b
@@ -51,36 +51,6 @@ pub running_count : (st : State) → not_running st ≡ false → st.n ≤ most_
 unfolding not_running
 running_count st h = count_fits st.n ((or_neither (not (begun st)) (bad_count st.n)).0 h).1
 
-pub running_is : (st : State) (r : Bool) → r ≡ (not (test_bit st.started 0) || bad_count st.n) → r ≡ not_running st
-unfolding not_running begun
-running_is st r h = h
-
--- 17, branch by branch.
-pub cannot_is : (st : State) (s : ℕ) (r : Bool) → r ≡ cannot_finish_in st.n st.unbounded st.started st.finished s → r ≡ cannot_finish st s
-unfolding cannot_finish cannot_finish_in
-cannot_is st s r h = h
-
-module _ (n unbounded started finished s : ℕ) where
-  pub cannot_source : s ≡ 0 → true ≡ cannot_finish_in n unbounded started finished s
-  unfolding cannot_finish_in
-  cannot_source h = rw (eq-eqb s 0 h)
-
-  pub cannot_past : (s ≡ 0 → ⊥) → n ≤ s → true ≡ cannot_finish_in n unbounded started finished s
-  unfolding cannot_finish_in
-  cannot_past h k = rw (ne_eqb s 0 h, le-leb n s k)
-
-  pub cannot_fixed : (s ≡ 0 → ⊥) → s < n → not (test_bit unbounded s) ≡ true → true ≡ cannot_finish_in n unbounded started finished s
-  unfolding cannot_finish_in
-  cannot_fixed h k l = rw (ne_eqb s 0 h, lt-leb n s k, l)
-
-  pub cannot_early : (s ≡ 0 → ⊥) → s < n → not (test_bit unbounded s) ≡ false → not (test_bit started s) ≡ true → true ≡ cannot_finish_in n unbounded started finished s
-  unfolding cannot_finish_in
-  cannot_early h k l m = rw (ne_eqb s 0 h, lt-leb n s k, l, m)
-
-  pub cannot_twice : (s ≡ 0 → ⊥) → s < n → not (test_bit unbounded s) ≡ false → not (test_bit started s) ≡ false → test_bit finished s ≡ cannot_finish_in n unbounded started finished s
-  unfolding cannot_finish_in
-  cannot_twice h k l m = rw (ne_eqb s 0 h, lt-leb n s k, l, m)
-
 -- What is not refused 17 exists.
 pub finishable_below : (st : State) (s : ℕ) → cannot_finish st s ≡ false → s < st.n
 unfolding cannot_finish
@@ -104,11 +74,11 @@ pub returns_as : {st : State} {o p : Outcome Progress} {r : Dispatch} → Return
 returns_as {st} {r = r} R e = subst (λ x. Returns st x r) e R
 
 -- A refusal by computing, and an accepted call field by field.
-pub refusal_returns : (st : State) (why : Refusal) → Returns st (refused (number why)) (record { status = Refused why; state = st; map = 0 })
+pub refusal_returns : (st : State) (why : Refusal) → Returns st (refused (number why)) (record { status = Err why; state = st; map = 0 })
 unfolding state_after map_after
 refusal_returns st why = record { answer = refl; state = refl; map = refl }
 
-pub accepted : {st : State} {r : Dispatch} {g : Progress} → r.status ≡ Done → r.state ≡ g.state → r.map ≡ g.map → Returns st (given g) r
+pub accepted : {st : State} {r : Dispatch} {g : Progress} → r.status ≡ (Ok tt) → r.state ≡ g.state → r.map ≡ g.map → Returns st (given g) r
 unfolding state_after map_after
 accepted {st} {r} {g} d s m =
     record { answer = ap (λ x. status_of x (record { state = r.state; map = r.map })) d ∙ ap₂ (λ x y. given (record { state = x; map = y })) s m; state = s; map = m }

@@ -1,6 +1,5 @@
 -- What the dispatcher's functions return.
-use Rattle.std.specs.Prelude.{Bool, not, ◌||◌, List, ℕ, ◌*◌, ◌≤◌, eqb, leb, length}
-use Rattle.definitions.specs.Basics.{test_bit}
+use Rattle.std.specs.Prelude.{Bool, ◌||◌, List, ℕ, ◌*◌, ◌≤◌, length}
 use Rattle.definitions.specs.Limits.{most_steps}
 use Rattle.definitions.specs.Answers.{too_short}
 use Rattle.definitions.specs.Dispatcher.{Returns, begin, finish, tick}
@@ -17,10 +16,6 @@ TickReturned st table r = Returns st (tick st table) r
 
 abbrev pub FinishReturned : State → ℕ → List ℕ → Dispatch → Type 0
 FinishReturned st s table r = Returns st (finish st s table) r
-
--- `not_finishable`: refusal 17, by the parts of the state that it looks at.
-unfoldable pub cannot_finish_in : ℕ → ℕ → ℕ → ℕ → ℕ → Bool
-cannot_finish_in n unbounded started finished s = eqb s 0 || leb n s || not (test_bit unbounded s) || not (test_bit started s) || test_bit finished s
 
 -- `too_little`: refusal 14 of Begin. The table has fewer than n × n numbers, or the list of least durations fewer than n.
 abbrev pub too_little : ℕ → List ℕ → List ℕ → Bool

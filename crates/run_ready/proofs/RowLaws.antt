@@ -2,33 +2,21 @@
 use mathlib.Core.Path.{◌≡◌, refl, sym, ap, ◌∙◌}
 use mathlib.Core.Bool.{Bool, true, false, not, ◌&&◌, ◌||◌, and-true, or-false}
 use mathlib.Core.List.{List}
-use Prim.Native.Nat.{ℕ, ◌+◌, ◌-◌, ◌*◌, ◌≤◌, ◌<◌}
+use Prim.Native.Nat.{ℕ, ◌+◌, ◌*◌, ◌≤◌, ◌<◌}
 use native.Mathlib.Omega.{arith}
-use native.Mathlib.Nat.{add-sub_cancel_left}
 use native.Mathlib.Numerals.{add-one}
-use lib.Dec.{leb}
-use lib.ListN.{length, get_or, take, drop, length-take, length-drop}
+use lib.ListN.{length, get_or, length-take, length-drop}
 use borrow.Author.Tests.{eq-eqb, ne_eqb}
 use Rattle.laws.proofs.Counts.{row_end, square_small}
-use Rattle.definitions.specs.Basics.{any_below, all_below, test_bit}
+use Rattle.definitions.specs.Basics.{any_below, all_below}
 use Rattle.definitions.specs.Limits.{longest_table, most_steps}
 use Rattle.definitions.specs.Plan.{undecided, row_part}
 use Rattle.laws.proofs.Bools.{both_ways, not_passing}
 use Rattle.laws.proofs.Tests.{all_below_each}
-use Rattle.run_ready.specs.Rows.{due_in, names_in, row_ready, ready_in}
-
--- A step that has not finished is not due; one that has is compared.
-pub due_unfinished : (finished : ℕ) (finish : List ℕ) (clock a offset : ℕ) → test_bit finished a ≡ false → due_in finished finish clock a offset ≡ false
-unfolding due_in
-due_unfinished finished finish clock a offset h = rw h
-
-pub due_finished : (finished : ℕ) (finish : List ℕ) (clock a offset : ℕ) → test_bit finished a ≡ true → due_in finished finish clock a offset ≡ leb (get_or finish a 0 + offset) clock
-unfolding due_in
-due_finished finished finish clock a offset h = rw h
+use Rattle.run_ready.specs.Rows.{due_in, names_in, row_ready}
 
 -- What is known once a entries have been passed: whether one of them was named, and that all named ones are due.
 pub record Passed (finished : ℕ) (finish : List ℕ) (clock : ℕ) (row : List ℕ) (named : Bool) (a : ℕ) : Type 0 where
-  pub within : a ≤ length row
   pub some : named ≡ any_below (names_in row) a
   pub each : all_below (λ k. not (names_in row k) || due_in finished finish clock k (get_or row k 0)) a ≡ true
 
@@ -36,19 +24,19 @@ module _ {finished : ℕ} {finish : List ℕ} {clock : ℕ} {row : List ℕ} whe
   -- None so far.
   pub passed_none : Passed finished finish clock row false 0
   unfolding any_below all_below
-  passed_none = record { within = omega arith; some = refl; each = refl }
+  passed_none = record { some = refl; each = refl }
 
   -- An entry that names nothing.
   pub passed_over : {named : Bool} {a : ℕ} → Passed finished finish clock row named a → a < length row → get_or row a 0 ≡ undecided → Passed finished finish clock row named (a + 1)
   unfolding any_below all_below names_in
   passed_over {named} {a} P h e =
-      record { within = omega arith; some = rw (add-one, eq-eqb (get_or row a 0) undecided e) (P.some ∙ sym (or-false (any_below (names_in row) a))); each = rw (add-one, eq-eqb (get_or row a 0) undecided e) (rw P.each) }
+      record { some = rw (add-one, eq-eqb (get_or row a 0) undecided e) (P.some ∙ sym (or-false (any_below (names_in row) a))); each = rw (add-one, eq-eqb (get_or row a 0) undecided e) (rw P.each) }
 
   -- A named entry that is due.
   pub passed_due : {named : Bool} {a : ℕ} → Passed finished finish clock row named a → a < length row → (get_or row a 0 ≡ undecided → ⊥) → due_in finished finish clock a (get_or row a 0) ≡ true → Passed finished finish clock row true (a + 1)
   unfolding any_below all_below names_in
   passed_due {named} {a} P h e d =
-      record { within = omega arith; some = rw (add-one, ne_eqb (get_or row a 0) undecided e) (sym (or_true (any_below (names_in row) a))); each = rw (add-one, ne_eqb (get_or row a 0) undecided e) (rw (P.each, d)) }
+      record { some = rw (add-one, ne_eqb (get_or row a 0) undecided e) (sym (or_true (any_below (names_in row) a))); each = rw (add-one, ne_eqb (get_or row a 0) undecided e) (rw (P.each, d)) }
     where
       or_true : (b : Bool) → (b || true) ≡ true
       or_true true = refl
@@ -67,24 +55,15 @@ module _ {finished : ℕ} {finish : List ℕ} {clock : ℕ} {row : List ℕ} whe
       fails = not_passing _ (λ t. both_ways (all_below_each _ (length row) t a h) (rw (ne_eqb (get_or row a 0) undecided e) d))
 
   -- All of them: the row's answer is whether one was named.
-  pub passed_all : {named : Bool} {a : ℕ} → Passed finished finish clock row named a → length row ≤ a → named ≡ row_ready finished finish clock row (length row)
+  pub passed_all : {named : Bool} {a : ℕ} → Passed finished finish clock row named a → a ≤ length row → length row ≤ a → named ≡ row_ready finished finish clock row (length row)
   unfolding row_ready
-  passed_all {named} {a} P h =
-      let e : a ≡ length row = omega (arith, P.within) in
+  passed_all {named} {a} P w h =
+      let e : a ≡ length row = omega arith in
       rw (ap (λ k. all_below (λ k. not (names_in row k) || due_in finished finish clock k (get_or row k 0)) k) (sym e) ∙ P.each) (P.some ∙ ap (any_below (names_in row)) e ∙ sym (and-true (any_below (names_in row) (length row))))
 
 -- A row lies inside the table.
 pub row_inside : (n v size : ℕ) → v < n → n * n ≤ size → v * n + n ≤ size
 row_inside n v size h k = omega (arith, row_end n v h)
-
--- A step that has started is not ready; one that has not is ready by its row.
-pub ready_started : (started finished : ℕ) (finish : List ℕ) (clock : ℕ) (table : List ℕ) (n v : ℕ) → test_bit started v ≡ true → ready_in started finished finish clock table n v ≡ false
-unfolding ready_in
-ready_started started finished finish clock table n v h = rw h
-
-pub ready_row : (started finished : ℕ) (finish : List ℕ) (clock : ℕ) (table : List ℕ) (n v : ℕ) → test_bit started v ≡ false → ready_in started finished finish clock table n v ≡ row_ready finished finish clock (row_part table n v) n
-unfolding ready_in
-ready_row started finished finish clock table n v h = rw h
 
 -- A row has n entries.
 pub row_length : (table : List ℕ) (n v : ℕ) → v < n → n * n ≤ length table → length (row_part table n v) ≡ n
@@ -94,12 +73,3 @@ row_length table n v h k = simp (length-take, length-drop) (omega (arith, row_in
 -- A row ends within the longest table.
 pub row_small : (n v : ℕ) → n ≤ most_steps → v < n → v * n + n ≤ longest_table
 row_small n v h k = row_inside n v longest_table k (square_small n h)
-
--- The part of the table that the code lends is the row.
-abbrev lent_row : List ℕ → ℕ → ℕ → List ℕ
-lent_row table n v = take (v * n + n - v * n) (drop (v * n) table)
-
-pub ready_part : (started finished : ℕ) (finish : List ℕ) (clock : ℕ) (table : List ℕ) (n v : ℕ) → test_bit started v ≡ false → v < n → n * n ≤ length table → row_ready finished finish clock (lent_row table n v) (length (lent_row table n v)) ≡ ready_in started finished finish clock table n v
-unfolding row_part
-ready_part started finished finish clock table n v h b k =
-    rw (add-sub_cancel_left (v * n) n) (ap (row_ready finished finish clock (row_part table n v)) (row_length table n v b k) ∙ sym (ready_row started finished finish clock table n v h))

@@ -2,7 +2,7 @@
 use Rattle.std.specs.Prelude.{Bool, not, ◌&&◌, ◌||◌, List, ℕ, ◌+◌, ◌*◌, ◌≤◌, ◌<◌, eqb, leb, get_or, length}
 use Rattle.definitions.specs.Basics.{any_below, all_below, test_bit}
 use Rattle.definitions.specs.Limits.{most_steps}
-use Rattle.definitions.specs.Plan.{undecided, row_part}
+use Rattle.definitions.specs.Plan.{undecided}
 
 -- The table has row v of n.
 pub record RowThere (n v : ℕ) (table : List ℕ) : Type 0 where
@@ -21,7 +21,3 @@ names_in row a = not (eqb (get_or row a 0) undecided)
 -- The row names some step, and each that it names is due.
 unfoldable pub row_ready : ℕ → List ℕ → ℕ → List ℕ → ℕ → Bool
 row_ready finished finish clock row n = any_below (names_in row) n && all_below (λ a. not (names_in row a) || due_in finished finish clock a (get_or row a 0)) n
-
--- Step v has not started, and its row is due.
-unfoldable pub ready_in : ℕ → ℕ → List ℕ → ℕ → List ℕ → ℕ → ℕ → Bool
-ready_in started finished finish clock table n v = not (test_bit started v) && row_ready finished finish clock (row_part table n v) n

@@ -1,5 +1,7 @@
 -- What a report of a whole sheet holds is what a run of the sheet is begun with. Assumes nothing.
 use mathlib.Core.Path.{◌≡◌, refl, sym, ap, ap₂, subst, ◌∙◌}
+use Rattle.std.specs.Prelude.{Err, Ok}
+use Rattle.definitions.specs.Numbers.{Status, number}
 use mathlib.Core.Bool.{Bool, true, false, not, ◌&&◌, ◌||◌, and-true, and-false, or-false, or-true}
 use mathlib.Core.List.{List, ◌++◌}
 use Prim.Native.Nat.{ℕ, zero, suc, ◌≤◌, ◌<◌}
@@ -11,11 +13,8 @@ use Rattle.definitions.specs.Answers.{Beginning, beginning, count_of, leasts_of,
 use Rattle.definitions.specs.Basics.{Outcome, given, refused, bits_below, refuse_if, tabulate, test_bit, when_given}
 use Rattle.definitions.specs.Bytes.{Records, read}
 use Rattle.definitions.specs.Links.{delay_at, is_open}
-use Rattle.definitions.specs.Numbers.{number}
 use Rattle.definitions.specs.declared.Refusal.{Refusal}
 use Rattle.definitions.specs.declared.Refusal.TheVariants.{TooShort}
-use Rattle.definitions.specs.declared.Status.{Status}
-use Rattle.definitions.specs.declared.Status.TheVariants as Statuses
 use Rattle.laws.proofs.Maps.{same_map, test_bits_below}
 use Rattle.laws.proofs.Outcomes.{passes_by, stops_at, when_given_by}
 use Rattle.laws.proofs.Tests.{tabulate_same}
@@ -54,7 +53,7 @@ bits_same f g (suc n) h =
 -- ---- what is returned
 
 -- A refusal leaves what was lent.
-pub refusal_returned : (k : Refusal) (outcome : Outcome Beginning) (lent : Beginning) → outcome ≡ refused (number k) → Returns outcome lent (Statuses.Refused k) lent
+pub refusal_returned : (k : Refusal) (outcome : Outcome Beginning) (lent : Beginning) → outcome ≡ refused (number k) → Returns outcome lent (Err k) lent
 refusal_returned k outcome lent e = record { answer = sym e; n = left (λ b. b.n); unbounded = left (λ b. b.unbounded); leasts = left (λ b. b.leasts) }
   where
     left : {A : Type 0} (part : Beginning → A) → part lent ≡ part (left_in lent outcome)
@@ -62,7 +61,7 @@ refusal_returned k outcome lent e = record { answer = sym e; n = left (λ b. b.n
 
 -- An answer is left in its three parts.
 pub answer_returned : {outcome : Outcome Beginning} {b : Beginning} (lent : Beginning) {n unbounded : ℕ} {leasts : List ℕ} → outcome ≡ given b → n ≡ b.n → unbounded ≡ b.unbounded → leasts ≡ b.leasts
-    → Returns outcome lent Statuses.Done (memory n unbounded leasts)
+    → Returns outcome lent (Ok tt) (memory n unbounded leasts)
 answer_returned {outcome} {b} lent {n} {unbounded} {leasts} e en eu el =
     record { answer = ap given same ∙ sym e; n = en ∙ left (λ b. b.n); unbounded = eu ∙ left (λ b. b.unbounded); leasts = el ∙ left (λ b. b.leasts) }
   where
@@ -73,19 +72,19 @@ answer_returned {outcome} {b} lent {n} {unbounded} {leasts} e en eu el =
     same = rw (en, eu, el)
 
 -- 14, and the answer where enough is lent.
-pub given_short : (count others : ℕ) (held : List ℕ) (lent : Beginning) → length lent.leasts < count → Returns (steps_of count others held lent.leasts) lent (Statuses.Refused TooShort) lent
+pub given_short : (count others : ℕ) (held : List ℕ) (lent : Beginning) → length lent.leasts < count → Returns (steps_of count others held lent.leasts) lent (Err TooShort) lent
 unfolding too_short
 given_short count others held lent b = refusal_returned TooShort _ lent (stops_at 14 _ (lt-ltb (length lent.leasts) count b))
 
 pub given_whole : (count others : ℕ) (held : List ℕ) (lent : Beginning) {unbounded : ℕ} {leasts : List ℕ} → count ≤ length lent.leasts → unbounded ≡ bits_below (λ (i : ℕ). eqb i 0 || test_bit others i) count → leasts ≡ tabulate (leasts_in held) count ++ drop count lent.leasts
-    → Returns (steps_of count others held lent.leasts) lent Statuses.Done (memory count unbounded leasts)
+    → Returns (steps_of count others held lent.leasts) lent (Ok tt) (memory count unbounded leasts)
 unfolding too_short
 given_whole count others held lent b eu el = answer_returned lent (passes_by 14 _ (le-ltb (length lent.leasts) count b)) refl eu el
 
 -- ---- of the bytes
 
 -- What reading refuses is refused.
-pub steps_unread : (s : List ℕ) (lent : Beginning) (k : Refusal) → read s ≡ refused (number k) → StepsReturned s lent (Statuses.Refused k) lent
+pub steps_unread : (s : List ℕ) (lent : Beginning) (k : Refusal) → read s ≡ refused (number k) → StepsReturned s lent (Err k) lent
 unfolding steps_answer when_given
 steps_unread s lent k e = refusal_returned k _ lent (ap (λ (o : Outcome Records). when_given o (λ q. steps_read q lent.leasts)) e)
 

@@ -1,10 +1,9 @@
 -- What giving a sheet's N, open map and leasts returns, and what it leaves in the numbers that are lent for them.
 use Rattle.std.specs.Prelude.{◌≡◌, ◌||◌, List, ◌++◌, ℕ, ◌≤◌, eqb, length, drop}
+use Rattle.definitions.specs.Numbers.{Status, status_of}
 use Rattle.definitions.specs.Answers.{Beginning, steps_answer, too_short}
 use Rattle.definitions.specs.Basics.{Outcome, given, refused, bits_below, refuse_if, tabulate, test_bit}
 use Rattle.definitions.specs.Limits.{most_steps}
-use Rattle.definitions.specs.Numbers.{status_of}
-use Rattle.definitions.specs.declared.Status.{Status}
 use Rattle.data_edges.specs.Serial.{leasts_in}
 
 -- The memory that is lent: a number for N, one for the map, and numbers for the leasts.

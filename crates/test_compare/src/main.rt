@@ -6,101 +6,68 @@
 // Numbers have the low byte first. Lent numbers are 4,294,967,294, which no answer holds.
 #![tactic(auto)]
 
-ghost use Rattle.std.specs.Prelude.{◌<◌, ◌≤◌, IfOk};
-
-use data_indices::byte_index;
-use definitions::{Tally, UNDECIDED};
+use definitions::{Refusal, UNDECIDED, Verdict};
 use std::io;
 use std::io::{Read, Write};
 
 // What lent numbers hold before a call.
 const LENT: u32 = UNDECIDED - 1;
 
-fn wide(x: u8) -> u32
-    ensures { result < 256 }
-{
-    x as u32
-}
-
 // The next byte of the input, or 0 at its end.
-fn read_byte<R: Read>(input: &mut R) -> io::Result<usize>
-    ensures { IfOk result (λ b. b < 256) }
-{
-    let mut bytes = [0u8; 1];
+fn read_byte<R: Read>(input: &mut R) -> io::Result<u8> {
+    let mut bytes = [0; 1];
     print_console::read_full(input, &mut bytes)?;
-    Ok(byte_index(bytes[0]))
+    Ok(bytes[0])
 }
 
-// The next two bytes of the input, as a number, or 65,536 at its end.
-fn read_number<R: Read>(input: &mut R) -> io::Result<usize> {
-    let mut bytes = [0u8; 2];
+// The next two bytes of the input, as a number, or none at its end.
+fn read_number<R: Read>(input: &mut R) -> io::Result<Option<usize>> {
+    let mut bytes = [0; 2];
     let got = print_console::read_full(input, &mut bytes)?;
     if got < 2 {
-        return Ok(65536);
+        return Ok(None);
     }
-    Ok(byte_index(bytes[0]) + 256 * byte_index(bytes[1]))
+    Ok(Some(usize::from(u16::from_le_bytes(bytes))))
 }
 
 // The next four bytes of the input, as a number.
 fn read_entry<R: Read>(input: &mut R) -> io::Result<u32> {
-    let mut bytes = [0u8; 4];
+    let mut bytes = [0; 4];
     print_console::read_full(input, &mut bytes)?;
-    let low = wide(bytes[0]) + 256 * wide(bytes[1]);
-    Ok(low + 65536 * wide(bytes[2]) + 16777216 * wide(bytes[3]))
+    Ok(u32::from_le_bytes(bytes))
 }
 
 fn read_entries<R: Read>(input: &mut R, list: &mut [u32]) -> io::Result<()> {
-    let mut i = 0;
-    while i < list.len() {
-        let x = read_entry(input)?;
-        list[i] = x;
-        i += 1;
+    for x in list.iter_mut() {
+        *x = read_entry(input)?;
     }
     Ok(())
 }
 
 // A line of a word and a verdict, by its number.
-fn write_verdict<W: Write>(out: &mut W, word: &[u8], code: u32) -> io::Result<()> {
+fn write_verdict<W: Write>(out: &mut W, word: &[u8], verdict: Verdict) -> io::Result<()> {
     print_console::write(out, word)?;
-    print_console::write_code(out, code)?;
+    print_console::write_code(out, data_numbers::verdict_code(verdict))?;
     print_console::write(out, b"\n")
-}
-
-// 1 where two numbers are equal, else 0.
-fn same(x: u32, y: u32) -> u64
-    ensures { result ≤ 1 }
-{
-    if x == y {
-        return 1;
-    }
-    0
 }
 
 // How often x stands among numbers.
 fn occurrences(x: u32, numbers: &[u32]) -> u64 {
-    let mut k = 0;
-    let mut i = 0;
-    while i < numbers.len() {
-        k += same(x, numbers[i]);
-        i += 1;
-    }
-    k
+    numbers.iter().filter(|y| **y == x).count() as u64
 }
 
 // A place and its number, but for 4,294,967,295 and the number that was lent.
 fn write_place<W: Write>(out: &mut W, i: usize, x: u32) -> io::Result<()> {
     if x < LENT {
         print_console::write_number(out, i as u64)?;
-        print_console::write_number(out, x as u64)?;
+        print_console::write_number(out, u64::from(x))?;
     }
     Ok(())
 }
 
 fn write_places<W: Write>(out: &mut W, numbers: &[u32]) -> io::Result<()> {
-    let mut i = 0;
-    while i < numbers.len() {
-        write_place(out, i, numbers[i])?;
-        i += 1;
+    for (i, &x) in numbers.iter().enumerate() {
+        write_place(out, i, x)?;
     }
     Ok(())
 }
@@ -128,45 +95,28 @@ fn write_map<W: Write>(out: &mut W, i: usize, map: u64) -> io::Result<()> {
 }
 
 fn write_maps<W: Write>(out: &mut W, maps: &[u64; 64]) -> io::Result<()> {
-    let mut i = 0;
-    while i < 64 {
-        write_map(out, i, maps[i])?;
-        i += 1;
+    for (i, &map) in maps.iter().enumerate() {
+        write_map(out, i, map)?;
     }
     Ok(())
 }
 
 // What listing waits hands back.
-fn write_listed<W: Write>(out: &mut W, code: u32, maps: &[u64; 64], count: u32) -> io::Result<()> {
-    print_console::write(out, b"waits")?;
-    print_console::write_code(out, code)?;
-    print_console::write_number(out, count as u64)?;
-    print_console::write(out, b"\n")?;
-    write_maps(out, maps)
-}
-
 fn write_waits<W: Write>(out: &mut W, s: &[u8]) -> io::Result<()> {
     let listed = judge_sheet::waits(s);
-    let verdict = listed.verdict;
-    let maps = listed.maps;
-    write_listed(
-        out,
-        data_numbers::verdict_code(verdict),
-        &maps,
-        listed.count,
-    )
+    print_console::write(out, b"waits")?;
+    print_console::write_code(out, data_numbers::verdict_code(listed.verdict))?;
+    print_console::write_number(out, u64::from(listed.count))?;
+    print_console::write(out, b"\n")?;
+    write_maps(out, &listed.maps)
 }
 
 // How many records clash, or the refusal.
-fn write_tally<W: Write>(out: &mut W, tally: Tally) -> io::Result<()> {
+fn write_tally<W: Write>(out: &mut W, tally: Result<usize, Refusal>) -> io::Result<()> {
     print_console::write(out, b"clash")?;
     match tally {
-        Tally::Count(k) => {
-            print_console::write_number(out, k as u64)?;
-        }
-        Tally::Refused(_) => {
-            print_console::write_code(out, data_numbers::tally_code(tally))?;
-        }
+        Ok(k) => print_console::write_number(out, k as u64)?,
+        Err(_) => print_console::write_code(out, data_numbers::tally_code(tally))?,
     }
     print_console::write(out, b"\n")
 }
@@ -180,20 +130,15 @@ fn write_clashes_into<W: Write>(out: &mut W, s: &[u8], list: &mut [u32]) -> io::
 // The same, into as many of 600 numbers as the input says.
 fn write_clashes<R: Read, W: Write>(input: &mut R, out: &mut W, s: &[u8]) -> io::Result<()> {
     let mut list = [LENT; 600];
-    let length = read_number(input)?;
-    if length <= 600 {
-        write_clashes_into(out, s, &mut list[..length])?;
+    match read_number(input)? {
+        Some(length) if length <= 600 => write_clashes_into(out, s, &mut list[..length]),
+        _ => Ok(()),
     }
-    Ok(())
-}
-
-fn judge_code(s: &[u8], allow: bool) -> u32 {
-    data_numbers::verdict_code(judge_sheet::judge(s, allow))
 }
 
 fn write_judgements<W: Write>(out: &mut W, s: &[u8]) -> io::Result<()> {
-    write_verdict(out, b"judge 0", judge_code(s, false))?;
-    write_verdict(out, b"judge 1", judge_code(s, true))
+    write_verdict(out, b"judge 0", judge_sheet::judge(s, false))?;
+    write_verdict(out, b"judge 1", judge_sheet::judge(s, true))
 }
 
 // Row v of a table for n steps, asked for: what the companion call says, and the part that is handed back.
@@ -219,16 +164,12 @@ fn write_rows<W: Write>(out: &mut W, table: &[u32], n: usize) -> io::Result<()> 
 
 // The first byte of a sheet, its step count; 0 where there is none.
 fn first_byte(s: &[u8]) -> usize {
-    if s.len() == 0 {
-        return 0;
-    }
-    byte_index(s[0])
+    s.first().map_or(0, |b| usize::from(*b))
 }
 
 // The plan, into the table that is lent, and rows of it.
 fn write_plan_into<W: Write>(out: &mut W, s: &[u8], table: &mut [u32]) -> io::Result<()> {
-    let code = data_numbers::verdict_code(plan_sheet::plan(s, true, table));
-    write_verdict(out, b"plan", code)?;
+    write_verdict(out, b"plan", plan_sheet::plan(s, true, table))?;
     write_numbers(out, table)?;
     write_rows(out, table, first_byte(s))
 }
@@ -236,11 +177,10 @@ fn write_plan_into<W: Write>(out: &mut W, s: &[u8], table: &mut [u32]) -> io::Re
 // The same, into as many of 4,096 numbers as the input says.
 fn write_plan<R: Read, W: Write>(input: &mut R, out: &mut W, s: &[u8]) -> io::Result<()> {
     let mut table = [LENT; 4096];
-    let length = read_number(input)?;
-    if length <= 4096 {
-        write_plan_into(out, s, &mut table[..length])?;
+    match read_number(input)? {
+        Some(length) if length <= 4096 => write_plan_into(out, s, &mut table[..length]),
+        _ => Ok(()),
     }
-    Ok(())
 }
 
 // The start times for the list that the input has next, into the list that is lent for them.
@@ -253,37 +193,29 @@ fn write_starts_into<R: Read, W: Write>(
     times: &mut [u32],
 ) -> io::Result<()> {
     read_entries(input, list)?;
-    let code = data_numbers::verdict_code(plan_times::starts(s, allow, list, times));
-    write_verdict(out, b"starts", code)?;
+    write_verdict(out, b"starts", plan_times::starts(s, allow, list, times))?;
     write_numbers(out, times)
 }
 
 // The same, for as many entries and into as many numbers as the input says.
 fn write_starts<R: Read, W: Write>(input: &mut R, out: &mut W, s: &[u8]) -> io::Result<()> {
-    let mut list = [0u32; 128];
+    let mut list = [0; 128];
     let mut times = [LENT; 128];
-    let allow = read_byte(input)?;
+    let allow = read_byte(input)? == 1;
     let entries = read_number(input)?;
     let length = read_number(input)?;
-    if entries <= 128 && length <= 128 {
-        write_starts_into(
-            input,
-            out,
-            s,
-            allow == 1,
-            &mut list[..entries],
-            &mut times[..length],
-        )?;
+    match (entries, length) {
+        (Some(n), Some(k)) if n <= 128 && k <= 128 => {
+            write_starts_into(input, out, s, allow, &mut list[..n], &mut times[..k])
+        }
+        _ => Ok(()),
     }
-    Ok(())
 }
 
 fn write_lists<R: Read, W: Write>(input: &mut R, out: &mut W, s: &[u8]) -> io::Result<()> {
     let lists = read_byte(input)?;
-    let mut i = 0;
-    while i < lists {
+    for _ in 0..lists {
         write_starts(input, out, s)?;
-        i += 1;
     }
     Ok(())
 }
@@ -314,23 +246,22 @@ fn write_sheet_into<R: Read, W: Write>(
 }
 
 fn write_sheet<R: Read, W: Write>(input: &mut R, out: &mut W, size: usize) -> io::Result<()> {
-    let mut bytes = [0u8; 8192];
+    let mut bytes = [0; 8192];
     if size <= 8192 {
         write_sheet_into(input, out, &mut bytes[..size])?;
     }
     Ok(())
 }
 
-// Sheets to the end of the input. Nothing says that an input ends, so the loop counts its turns down, from a number that no run uses up.
+// Sheets to the end of the input. Nothing says that an input ends, so the loop takes a number of turns that no run uses up.
 fn main(rt: HostRuntime) -> io::Result<()> {
     let mut input = rt.stdin();
     let mut out = rt.stdout();
-    let mut turns = u64::MAX;
-    let mut size = read_number(&mut input)?;
-    while 0 < turns && size <= 8192 {
-        write_sheet(&mut input, &mut out, size)?;
-        size = read_number(&mut input)?;
-        turns -= 1;
+    for _ in 0..u64::MAX {
+        match read_number(&mut input)? {
+            Some(size) if size <= 8192 => write_sheet(&mut input, &mut out, size)?,
+            _ => return Ok(()),
+        }
     }
     Ok(())
 }

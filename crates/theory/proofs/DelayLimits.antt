@@ -1,5 +1,6 @@
 -- Lists of durations that are not refused (13): each entry is within the limit of its step.
 use mathlib.Core.Path.{◌≡◌, refl, ap, ◌∙◌}
+use Rattle.std.specs.Prelude.{Option}
 use mathlib.Core.Bool.{Bool, true, false, ◌&&◌}
 use mathlib.Core.Logic.{◌≢◌}
 use mathlib.Core.List.{List}
@@ -15,7 +16,6 @@ use Rattle.definitions.specs.Links.{delay_at, least_with, least_at}
 use Rattle.definitions.specs.Plan.{delay_limit, delay_wrong, delays_wrong, delays}
 use Rattle.definitions.specs.declared.Delay.{Delay}
 use Rattle.definitions.specs.declared.Delay.TheVariants.{Open, Fixed}
-use Rattle.definitions.specs.declared.Bound.{Bound}
 use Rattle.definitions.specs.declared.Operation.{Operation}
 use Rattle.laws.proofs.Bools.{and_split, and_join, both_ways, neither, not_passing, or_neither}
 use Rattle.laws.proofs.Tests.{any_below_none, none_any_below}
@@ -85,12 +85,12 @@ limit_open (suc i) Open z e = refl
 limit_open (suc i) (Fixed t) z e = let c : ◌≡◌ {A = ℕ} 0 1 = cc in absurd (omega arith)
 
 -- Only an open step other than 0 has a least, and it is no more than its field says.
-least_with_source : (x : Delay) (b : Bound) → least_with 0 x b ≡ 0
+least_with_source : (x : Delay) (b : Option ℕ) → least_with 0 x b ≡ 0
 unfolding least_with
 least_with_source Open b = refl
 least_with_source (Fixed t) b = refl
 
-least_with_fixed : (i t : ℕ) (b : Bound) → least_with i (Fixed t) b ≡ 0
+least_with_fixed : (i t : ℕ) (b : Option ℕ) → least_with i (Fixed t) b ≡ 0
 unfolding least_with
 least_with_fixed zero t b = refl
 least_with_fixed (suc i) t b = refl

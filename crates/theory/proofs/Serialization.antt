@@ -10,8 +10,7 @@ use Rattle.definitions.specs.Waits.{Wait, wait_edge, wait_pair}
 use Rattle.laws.proofs.Bools.{bool_cases, both_ways, cond_true}
 use Rattle.theory.specs.Graphs.{Acyclic, Carries, Consistent, FirstGains, ForwardAcyclic, Gains, KeepsEdge, Leasts, NonPositive, Rooted, Schedule, Serializable, Shape, Timely, WaitEdge, Waited, Well}
 use Rattle.theory.proofs.Usables.{carries_usable, dec_late_into, forward_usable, timely_usable, usable_member, usable_shape, usable_sub}
-use Rattle.theory.proofs.Walks.{after_bound, after_edge, after_from, after_join, after_joined, after_mono, after_start_below, after_to, after_trans, after_walk, chain_after, counted_forward, forward_losses}
-use Rattle.theory.proofs.Walks.{join, joined_mono, member_after, member_mono, member_to, schedule_mono, some_after, walk_edge, walk_from, walk_mono, walk_none, walk_to}
+use Rattle.theory.proofs.Walks.{after_bound, after_edge, after_from, after_join, after_joined, after_mono, after_start_below, after_to, after_trans, after_walk, chain_after, counted_forward, forward_losses, join, joined_mono, member_after, member_mono, member_to, schedule_mono, some_after, walk_edge, walk_from, walk_mono, walk_none, walk_to}
 
 -- What holds of the edges of E and of the serialization edges holds of those of E'.
 pub waited_each : {least : ℕ → ℕ} {E E' : Graph} → Waited least E E' → (P : Edge → Type 0) → ((e : Edge) → E e → P e) → ((e : Edge) → WaitEdge least E e → P e) → (e : Edge) → E' e → P e

@@ -1,6 +1,6 @@
 -- Signed numbers by their heights: sums, differences and orders become those of natural numbers, which omega reads.
 use mathlib.Core.Path.{◌≡◌, refl, sym, ap, ◌∙◌}
-use mathlib.Core.Bool.{Bool, true, false}
+use mathlib.Core.Bool.{Bool, true, false, cond}
 use mathlib.Core.Logic.{◌⊎◌, inl, inr}
 use Prim.Native.Nat.{ℕ, zero, suc, ◌+◌, ◌-◌, ◌<◌, ◌≤◌, ◌^◌}
 use native.Mathlib.Omega.{arith}
@@ -13,6 +13,7 @@ use mir.Facts.{to_z-of_z}
 use mir.Val.{Fits, SFits, of_z, to_z}
 use mir.ValLaws.{to_z_pos}
 use mir.Syntax.{w32, w64}
+use Rattle.std.specs.Int.{int_max}
 use Rattle.walk_cells.specs.Cells.{Clear, Delta, Larger, Movable, Risen, Small, ground, height, most_weight, move_limit, none, value}
 
 -- What a cell says, by its height.
@@ -132,6 +133,28 @@ module _ {a b : ℤ} (fa : SFits w32 a) (fb : SFits w32 b) where
   pub not_less_back : lt_z (back a) (back b) ≡ false → height b ≤ height a
   not_less_back h = height_not_less a b (fits_height a fa).near (fits_height b fb).near (rw (to_z-of_z fa, to_z-of_z fb) at h)
 
+-- The height tells the number.
+same_height : (a b : ℤ) → Near a → Near b → height a ≡ height b → a ≡ b
+unfolding height
+same_height (pos a) (pos b) h k e = ap pos (omega arith)
+same_height (pos a) (negsuc b) h k e = absurd (omega arith)
+same_height (negsuc a) (pos b) h k e = absurd (omega arith)
+same_height (negsuc a) (negsuc b) h k e = ap negsuc (omega arith)
+
+-- The larger of two numbers, as the machine finds it.
+module _ {a b : ℤ} (fa : SFits w32 a) (fb : SFits w32 b) where
+  larger_of : (t : Bool) → lt_z b a ≡ t → Larger a b (back (cond t a b))
+  larger_of true h =
+      let l = height_less b a (fits_height b fb).near (fits_height a fa).near h in
+      record { kept = λ k. to_z-of_z fa; taken = λ k. absurd (omega (arith, l)) }
+  larger_of false h =
+      let l = height_not_less b a (fits_height b fb).near (fits_height a fa).near h in
+      let same = λ (k : height b ≤ height a). same_height b a (fits_height b fb).near (fits_height a fa).near (omega (arith, l)) in
+      record { kept = λ k. to_z-of_z fb ∙ same k; taken = λ k. to_z-of_z fb }
+
+  pub larger_back : Larger a b (back (int_max (back a) (back b)))
+  larger_back = rw (to_z-of_z fa, to_z-of_z fb) (larger_of (lt_z b a) refl)
+
 module _ {c : ℤ} (f : SFits w32 c) where
   pub below_back : lt_z (back c) (pos 0) ≡ true → value c ≡ 0
   below_back h = below_ground c (rw (to_z-of_z f) at h)
@@ -186,9 +209,6 @@ module _ {gain loss : ℕ} (g : gain < move_limit) (l : loss < move_limit) where
   difference_fits : SFits w32 (pos gain -ℤ pos loss)
   difference_fits = height_fits (pos gain -ℤ pos loss) (omega (arith, difference)) (omega (arith, difference))
 
-  pub difference_fits_back : SFits w32 (to_z w32 gain -ℤ to_z w32 loss)
-  difference_fits_back = rw (to_z_pos w32 gain (omega arith), to_z_pos w32 loss (omega arith)) difference_fits
-
   pub difference_back : Delta gain loss (back (to_z w32 gain -ℤ to_z w32 loss)) × Small (back (to_z w32 gain -ℤ to_z w32 loss))
   difference_back =
       rw (to_z_pos w32 gain (omega arith), to_z_pos w32 loss (omega arith), to_z-of_z difference_fits)
@@ -217,14 +237,11 @@ module _ {c : ℤ} {least : ℕ} (f : SFits w32 c) (small : least < 2 ^ 16) wher
         by (pos n) g h = let k : n < 2 ^ 31 = g.sfits in (less_pos n least (ltb-false n least h) ∙ ap pos (omega arith), omega arith)
         by (negsuc n) g h = let z : ◌≡◌ {A = ℕ} 0 1 = cc in absurd (omega arith)
 
-    pub past_fits : SFits w32 (back c -ℤ to_z w32 least)
+    past_fits : SFits w32 (back c -ℤ to_z w32 least)
     past_fits = rw past_is.0 (record { sfits = past_is.1 })
 
     past_back : back (back c -ℤ to_z w32 least) ≡ pos (value c - 1 - least)
     past_back = to_z-of_z past_fits ∙ past_is.0
-
-    pub past_cast : T (non_neg (back (back c -ℤ to_z w32 least))) × Fits w32 (nat_abs (back (back c -ℤ to_z w32 least)))
-    past_cast = rw past_back (tt, record { fits = omega (arith, past_is.1) })
 
     pub past_bits : nat_abs (back (back c -ℤ to_z w32 least)) ≡ value c - 1 - least
     past_bits = ap nat_abs past_back
@@ -241,9 +258,6 @@ wide z = to_z w64 (of_z w64 (back z))
 module _ {z : ℤ} (f : SFits w32 z) where
   fits_wide : SFits w64 z
   fits_wide = record { sfits = (let k : mag z < 2 ^ 31 = f.sfits in let r : mag z < 2 ^ 63 = omega arith in r) }
-
-  pub wide_fits : SFits w64 (back z)
-  wide_fits = rw (to_z-of_z f) fits_wide
 
   wide_back : wide z ≡ z
   wide_back = rw (to_z-of_z f, to_z-of_z fits_wide)
@@ -263,9 +277,6 @@ module _ {x y : ℤ} (fx : SFits w32 x) (fy : SFits w32 y) where
       let b = fits_height y fy in
       let sum = height_sum x y a.near b.near in
       near_fits (x +ℤ y) (omega (arith, sum, a.most, b.most)) (omega (arith, sum, a.least, b.least))
-
-  pub wide_sum_fits : SFits w64 (wide x +ℤ wide y)
-  wide_sum_fits = rw (wide_back fx, wide_back fy) wide_sum
 
   -- Whether it is no less than a third number, where all three are weights.
   pub wide_test : {z : ℤ} → SFits w32 z → 1 ≤ value x → 1 ≤ value y → 1 ≤ value z → le_z (wide z) (to_z w64 (of_z w64 (wide x +ℤ wide y))) ≡ leb (value z - 1) (value x - 1 + (value y - 1))

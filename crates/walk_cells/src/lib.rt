@@ -31,7 +31,7 @@ pub fn moved(c: i32, delta: i32) -> i32
 pub fn larger(old: i32, c: i32) -> i32
     ensures { Larger old c result }
 {
-    if old < c { c } else { old }
+    old.max(c)
 }
 
 // The bits in which a cell differs from what it was: 0 where it is the same. Bits, so that the compiler makes vectors of the loop that gathers them.
@@ -60,14 +60,14 @@ pub fn is_idle(top: u32, gain: u64, loss: u64) -> bool
     requires { gain < move_limit }
     ensures { result ≡ leb (top + gain) loss }
 {
-    (top as u64) + gain <= loss
+    u64::from(top) + gain <= loss
 }
 
 // The cell of a walk that weighs a least.
 pub fn of_least(least: u16) -> i32
     ensures { (value result ≡ suc least) × (least ≤ most_ticks) }
 {
-    least as i32
+    i32::from(least)
 }
 
 // The cell of a walk that is one edge; of weight 0 where it loses more than it gains.
@@ -108,7 +108,7 @@ pub fn weight(c: i32) -> u32
 pub fn weight_past(c: i32, least: u16) -> u32
     ensures { result ≡ value c - 1 - least }
 {
-    let x = least as i32;
+    let x = i32::from(least);
     if c < x {
         return 0;
     }
@@ -119,7 +119,7 @@ pub fn weight_past(c: i32, least: u16) -> u32
 pub fn sum_reaches(x: i32, y: i32, z: i32) -> bool
     ensures { 1 ≤ value x → 1 ≤ value y → 1 ≤ value z → result ≡ leb (value z - 1) (value x - 1 + (value y - 1)) }
 {
-    (z as i64) <= (x as i64) + (y as i64)
+    i64::from(z) <= i64::from(x) + i64::from(y)
 }
 
 // Whether a walk, made longer by an edge, is no heavier than another.
@@ -133,5 +133,5 @@ pub fn has_handed(c: i32, gain: u64, loss: u64, to: i32) -> bool
     if to < 0 {
         return false;
     }
-    (weight(c) as u64) + gain <= (weight(to) as u64) + loss
+    u64::from(weight(c)) + gain <= u64::from(weight(to)) + loss
 }

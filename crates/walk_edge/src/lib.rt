@@ -8,7 +8,6 @@ ghost use Rattle.walk_lift.specs.Lifts.{Liftable, Raised, lent};
 ghost use Rattle.walk_edge.specs.Columns.{HandedAll, Only, Sendable};
 
 use data_edges::{edge_gain, edge_loss, edge_to, is_late};
-use data_indices::byte_index;
 use walk_lift::raise_row;
 
 // A late edge leaves the column of its own end as it was.
@@ -24,7 +23,7 @@ fn raise_late(
     requires { (to < 64) × Liftable to width delta row.now d.old }
     ensures { Raised (λ k. (k < width) × (k ≢ get_or number.now to 0)) to delta row.now d.old d.new marks result }
 {
-    let k = byte_index(number[to]);
+    let k = usize::from(number[to]);
     if width <= k {
         return raise_row(d, row, to, delta, width, marks);
     }

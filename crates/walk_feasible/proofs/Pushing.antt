@@ -3,7 +3,7 @@ use mathlib.Core.Path.{◌≡◌, refl, sym, ap, ◌∙◌}
 use mathlib.Core.Bool.{Bool, true, false, ◌||◌}
 use mathlib.Core.Logic.{◌⊎◌, inl, inr, ◌≢◌}
 use mathlib.Core.List.{List}
-use Prim.Native.Nat.{ℕ, ◌+◌, ◌-◌, ◌≤◌, ◌<◌}
+use Prim.Native.Nat.{ℕ, ◌+◌, ◌≤◌, ◌<◌}
 use native.Mathlib.Omega.{arith}
 use lib.Dec.{eqb}
 use lib.IntN.{ℤ, pos}
@@ -16,9 +16,8 @@ use mir.Val.{SFits}
 use Rattle.data_lists.proofs.Following.{Adds, Following}
 use Rattle.definitions.specs.Basics.{test_bit}
 use Rattle.definitions.specs.Links.{Edge, Graph, ◌⊑◌}
-use Rattle.data_edges.specs.Words.{unpack}
 use Rattle.laws.proofs.Bools.{both_ways, or_left, or_neither, same_or_not}
-use Rattle.walk_cells.specs.Cells.{Clear, Movable, height}
+use Rattle.walk_cells.specs.Cells.{Clear, Delta, Movable, ground, height}
 use Rattle.walk_cells.proofs.Heights.{back, value_height}
 use Rattle.walk_feasible.specs.Search.{Came, HandedOut, Pushed, Room, level}
 use Rattle.walk_feasible.proofs.Handing.{handed_both}
@@ -33,6 +32,10 @@ height_back f = ap height (to_z-of_z f)
 
 pub back_has : (P : ℤ → Type 0) {z : ℤ} → SFits w32 z → P z → P (back z)
 back_has P f h = rw (to_z-of_z f) h
+
+-- The moved cell weighs what the cell does and what the edge gains, less what it loses.
+pub moved_weighs : {own by c : ℤ} {gain loss : ℕ} → SFits w32 own → SFits w32 by → SFits w32 c → Delta gain loss by → height c + ground ≡ height (back own) + height (back by) → height (back c) + loss ≡ height own + gain
+moved_weighs o b f D sum = omega (arith, sum, D.sum, height_back o, height_back b, height_back f)
 
 -- A cell of a row that has room for a visit can be moved.
 pub room_movable : {row : List ℤ} → Room 1 row → (u : ℕ) → Movable (get_or row u (pos 0))
@@ -122,8 +125,6 @@ module _ {u own : ℕ} {row₀ : List ℤ} {m₀ : ℕ} where
       → (G : Graph) → Adds u E y G → Pushed E u own row₀ row via m₀ m → Pushed G u own row₀ row' via' m₀ m'
   pushed_more Q G A P = pushed_both A.leaves A.old A.new A.split P Q
 
--- The place of an edge and the level that it hands on, under other names.
-pub pushed_at : (es : List ℕ) {at k own own' : ℕ} {row row' : List ℤ} {via' : List ℕ} {m m' : ℕ} → at ≡ k → own ≡ own'
-    → Pushed (λ x. x ≡ unpack (get_or es (at - 1) 0)) (unpack (get_or es (at - 1) 0)).from own row row' via' m m'
-    → Pushed (λ x. x ≡ unpack (get_or es (k - 1) 0)) (unpack (get_or es (k - 1) 0)).from own' row row' via' m m'
-pushed_at es same high P = rw (same, high) at P
+-- The level that an edge hands on, under another name.
+pub pushed_own : {y : Edge} {own own' : ℕ} {row row' : List ℤ} {via' : List ℕ} {m m' : ℕ} → own ≡ own' → Pushed (λ x. x ≡ y) y.from own row row' via' m m' → Pushed (λ x. x ≡ y) y.from own' row row' via' m m'
+pushed_own high P = rw high at P

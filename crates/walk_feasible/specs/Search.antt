@@ -1,12 +1,11 @@
 -- A search on one row of cells. Bit v of a map of marks stands where the cell of step v was raised since v last handed on.
 use Rattle.std.specs.Prelude.{◌≡◌, Bool, true, false, ◌⊎◌, List, ℕ, ◌+◌, ◌-◌, ◌*◌, ◌<◌, ◌≤◌, ℤ, pos, length, get_or}
-use Rattle.data_lists.specs.Lists.{Lists}
 use Rattle.definitions.specs.Basics.{test_bit}
 use Rattle.definitions.specs.Limits.{most_gain, most_steps}
 use Rattle.definitions.specs.Links.{Edge, Graph, Walk}
 use Rattle.definitions.specs.Rounds.{rounds, source_row, stable}
 use Rattle.data_edges.specs.Words.{graph, unpack}
-use Rattle.walk_cells.specs.Cells.{Movable, ground, height, most_weight}
+use Rattle.walk_cells.specs.Cells.{ground, height, most_weight}
 
 -- A cell of this row is the weight of a walk, in a signed number of 32 bits. Every cell begins at 0, and none falls. The level of step v is the height of its cell: the ground where the weight is 0.
 abbrev pub level : List ℤ → ℕ → ℕ
@@ -77,18 +76,6 @@ pub record Room (c : ℕ) (row : List ℤ) : Type 0 where
   pub long : length row ≡ 64
   pub least : (v : ℕ) → ground ≤ level row v
   pub below : (v : ℕ) → level row v + most_gain * c ≤ most_level
-
--- Edges with their lists, a row on which c more visits have room, and the edges noted on the way.
-pub record Searchable (c : ℕ) (es lists : List ℕ) (row : List ℤ) (via : List ℕ) : Type 0 where
-  pub listed : Lists es lists
-  pub room : Room c row
-  pub noted : length via ≡ 64
-
--- A cell that holds own can move along any edge, to a row of 64 cells.
-pub record Pushable (own : ℤ) (row : List ℤ) (via : List ℕ) : Type 0 where
-  pub long : length row ≡ 64
-  pub noted : length via ≡ 64
-  pub movable : Movable own
 
 -- Rounds over the edges come to rest: 10 does not apply.
 abbrev pub rests : ℕ → List ℕ → Bool

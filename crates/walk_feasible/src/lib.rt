@@ -2,19 +2,20 @@
 #![tactic(auto)]
 
 ghost use Rattle.std.specs.Prelude.{◌≡◌, true, ◌<◌, ◌≤◌};
-ghost use Rattle.data_lists.specs.Lists.{WithLists};
+ghost use Rattle.data_lists.specs.Graphs.{edges_in};
 ghost use Rattle.definitions.specs.Limits.{most_steps};
 ghost use Rattle.definitions.specs.Links.{members};
 ghost use Rattle.data_edges.specs.Words.{graph, unpack};
 ghost use Rattle.theory.specs.Graphs.{Rooted, Shape};
-ghost use Rattle.walk_cells.specs.Cells.{height};
-ghost use Rattle.walk_feasible.specs.Search.{Circle, Enters, Passed, Pushable, Pushed, Searchable, level, pass_visits, rests};
+ghost use Rattle.walk_cells.specs.Cells.{Movable, height};
+ghost use Rattle.walk_feasible.specs.Search.{Circle, Enters, Passed, Pushed, Room, level, pass_visits, rests};
 
 use data_edges::{edge_from, edge_gain, edge_loss, edge_to};
+use data_lists::Edges;
 
 // One edge, at place k of the lists, from a cell that holds own. Where it raises the cell at its end, a mark stands there and the place is noted. The marks after it.
 fn push_edge(row: &mut [i32; 64], via: &mut [u16; 64], marks: u64, w: u64, k: u16, own: i32) -> u64
-    requires { Pushable own row.old via.old }
+    requires { Movable own }
     ensures { Pushed (λ e. e ≡ unpack w) (unpack w).from (height own) row.old row.new via.new marks result }
 {
     let to = edge_to(w);
@@ -29,45 +30,28 @@ fn push_edge(row: &mut [i32; 64], via: &mut [u16; 64], marks: u64, w: u64, k: u1
 }
 
 // The edges out of u.
-fn push_step(
-    row: &mut [i32; 64],
-    via: &mut [u16; 64],
-    marks: u64,
-    es: &[u64],
-    lists: &[u16],
-    u: usize,
-) -> u64
-    requires { (u < 64) × Searchable 1 es.now lists.now row.old via.old }
-    ensures { Pushed (members (graph es.now)) u (level row.old u) row.old row.new via.new marks result }
+fn push_step(row: &mut [i32; 64], via: &mut [u16; 64], marks: u64, es: Edges, u: usize) -> u64
+    requires { (u < 64) × Room 1 row.old }
+    ensures { Pushed (members (edges_in es.entry)) u (level row.old u) row.old row.new via.new marks result }
 {
     let own = row[u];
     let mut m = marks;
-    let mut next = lists[u];
-    while next != 0 {
-        let k = data_indices::index(next);
-        m = push_edge(row, via, m, es[k - 1], next, own);
-        next = lists[63 + k];
+    for k in es.out_of(u) {
+        m = push_edge(row, via, m, es.words[k], (k + 1) as u16, own);
     }
     m
 }
 
 // Step u hands on, where its cell was raised since it last did.
-fn pass_step(
-    row: &mut [i32; 64],
-    via: &mut [u16; 64],
-    marks: u64,
-    es: &[u64],
-    lists: &[u16],
-    u: usize,
-) -> u64
-    requires { (u < 64) × Searchable 1 es.now lists.now row.old via.old }
-    ensures { Passed (members (graph es.now)) (λ v. v ≡ u) 1 row.old row.new via.new marks result }
+fn pass_step(row: &mut [i32; 64], via: &mut [u16; 64], marks: u64, es: Edges, u: usize) -> u64
+    requires { (u < 64) × Room 1 row.old }
+    ensures { Passed (members (edges_in es.entry)) (λ v. v ≡ u) 1 row.old row.new via.new marks result }
 {
     let rest = data_bits::remove(marks, u);
     if rest == marks {
         return marks;
     }
-    push_step(row, via, rest, es, lists, u)
+    push_step(row, via, rest, es, u)
 }
 
 // The steps of an order, one after another. What the order is decides only how much is left to do.
@@ -75,35 +59,31 @@ fn pass_order(
     row: &mut [i32; 64],
     via: &mut [u16; 64],
     marks: u64,
-    es: &[u64],
-    lists: &[u16],
+    es: Edges,
     order: &[u8; 64],
     n: usize,
 ) -> u64
-    requires { (n ≤ most_steps) × Searchable most_steps es.now lists.now row.old via.old }
-    ensures { Passed (members (graph es.now)) (λ v. ⊥) most_steps row.old row.new via.new marks result }
+    requires { (n ≤ most_steps) × Room most_steps row.old }
+    ensures { Passed (members (edges_in es.entry)) (λ v. ⊥) most_steps row.old row.new via.new marks result }
 {
     let mut m = marks;
-    let mut k = 0;
-    while k < n {
-        let u = data_indices::place(order[k]);
-        m = pass_step(row, via, m, es, lists, u);
-        k += 1;
+    for &x in &order[..n] {
+        m = pass_step(row, via, m, es, data_indices::place(x));
     }
     m
 }
 
 // Every step that has a mark, from the last to the first: returns mostly lead to lower steps. Those that are left are before the last one visited.
-fn pass_down(row: &mut [i32; 64], via: &mut [u16; 64], marks: u64, es: &[u64], lists: &[u16]) -> u64
-    requires { Searchable most_steps es.now lists.now row.old via.old }
-    ensures { Passed (members (graph es.now)) (λ v. v < 64) most_steps row.old row.new via.new marks result }
+fn pass_down(row: &mut [i32; 64], via: &mut [u16; 64], marks: u64, es: Edges) -> u64
+    requires { Room most_steps row.old }
+    ensures { Passed (members (edges_in es.entry)) (λ v. v < 64) most_steps row.old row.new via.new marks result }
 {
     let mut m = marks;
     let mut left = marks;
     let mut last = 64;
     while left != 0 {
         last = data_bits::highest(left);
-        m = pass_step(row, via, m, es, lists, last);
+        m = pass_step(row, via, m, es, last);
         left = data_sets::both(m, data_sets::below(last));
     }
     m
@@ -114,29 +94,22 @@ fn pass(
     row: &mut [i32; 64],
     via: &mut [u16; 64],
     marks: u64,
-    es: &[u64],
-    lists: &[u16],
+    es: Edges,
     order: &[u8; 64],
     n: usize,
 ) -> u64
-    requires { (n ≤ most_steps) × Searchable pass_visits es.now lists.now row.old via.old }
-    ensures { Passed (members (graph es.now)) (λ v. v < 64) pass_visits row.old row.new via.new marks result }
+    requires { (n ≤ most_steps) × Room pass_visits row.old }
+    ensures { Passed (members (edges_in es.entry)) (λ v. v < 64) pass_visits row.old row.new via.new marks result }
 {
-    let m = pass_order(row, via, marks, es, lists, order, n);
-    pass_down(row, via, m, es, lists)
+    let m = pass_order(row, via, marks, es, order, n);
+    pass_down(row, via, m, es)
 }
 
 // Whether k is the place of an edge that enters v.
 fn enters(es: &[u64], k: usize, v: usize) -> bool
     ensures { result ≡ true → Enters es.now k v }
 {
-    if k == 0 {
-        return false;
-    }
-    if es.len() < k {
-        return false;
-    }
-    edge_to(es[k - 1]) == v
+    k != 0 && k <= es.len() && edge_to(es[k - 1]) == v
 }
 
 // Back from x, n times, along the edges that raised each step last: where a walk that closes leads to x, this is on it.
@@ -145,17 +118,12 @@ fn far_back(es: &[u64], via: &[u16; 64], x: usize, n: usize) -> usize
     ensures { result < 64 }
 {
     let mut v = x;
-    let mut k = 0;
-    while k < n {
-        let i = data_indices::index(via[v]);
-        if i == 0 {
-            return v;
-        }
-        if es.len() < i {
+    for _ in 0..n {
+        let i = usize::from(via[v]);
+        if i == 0 || es.len() < i {
             return v;
         }
         v = edge_from(es[i - 1]);
-        k += 1;
     }
     v
 }
@@ -168,9 +136,8 @@ fn closes_above(es: &[u64], via: &[u16; 64], x: usize, n: usize) -> bool
     let mut v = x;
     let mut gains = 0;
     let mut losses = 0;
-    let mut k = 0;
-    while k < n {
-        let i = data_indices::index(via[v]);
+    for _k in 0..n {
+        let i = usize::from(via[v]);
         if !enters(es, i, v) {
             return false;
         }
@@ -181,31 +148,29 @@ fn closes_above(es: &[u64], via: &[u16; 64], x: usize, n: usize) -> bool
         if v == x {
             return losses < gains;
         }
-        k += 1;
     }
     false
 }
 
 // Whether start times keep every edge while no step is delayed. The order decides speed alone.
-pub fn feasible(es: &[u64], lists: &[u16], order: &[u8; 64], n: usize) -> bool
-    requires { WithLists n es.now lists.now }
-    ensures { Shape n (members (graph es.now)) → Rooted n (members (graph es.now)) → result ≡ rests n es.now }
+pub fn feasible(es: Edges, order: &[u8; 64], n: usize) -> bool
+    requires some { 1 ≤ n }
+    requires few { n ≤ most_steps }
+    ensures { Shape n (members (edges_in es.entry)) → Rooted n (members (edges_in es.entry)) → result ≡ rests n es.entry.words.now }
 {
     let mut row = [0i32; 64];
     let mut via = [0u16; 64];
     let mut marks = data_sets::below(n);
-    let mut k = 0;
-    while k <= n {
-        marks = pass(&mut row, &mut via, marks, es, lists, order, n);
+    for _k in 0..=n {
+        marks = pass(&mut row, &mut via, marks, es, order, n);
         if marks == 0 {
             return true;
         }
         let x = data_bits::lowest(marks);
-        let y = far_back(es, &via, x, n);
-        if closes_above(es, &via, y, n) {
+        let y = far_back(es.words, &via, x, n);
+        if closes_above(es.words, &via, y, n) {
             return false;
         }
-        k += 1;
     }
     false
 }

@@ -1,9 +1,8 @@
 -- Sweeps over a working table until nothing is left to hand on, and what its numbered columns then say. The terms are those of walk_edge's specs/Columns.antt.
 use Rattle.std.specs.Prelude.{◌≡◌, Bool, true, List, ◌++◌, ℕ, ◌<◌, ◌≤◌, ltb, ℤ, length, get_or}
-use Rattle.data_lists.specs.Lists.{WithLists}
 use Rattle.definitions.specs.Anchors.{WellPosed}
 use Rattle.definitions.specs.Basics.{test_bit}
-use Rattle.definitions.specs.Limits.{most_gain}
+use Rattle.definitions.specs.Limits.{most_gain, most_steps}
 use Rattle.definitions.specs.Links.{Edge, Graph, members}
 use Rattle.definitions.specs.Plan.{offset_row}
 use Rattle.definitions.specs.Rounds.{cell, entry}
@@ -54,9 +53,10 @@ pub record SettledIf (es : List ℕ) (least : ℕ → ℕ) (waiting number : Lis
   pub settled : r ≡ true → SettledBy es least waiting number width n d d'
   pub told : Shape n (members (graph es)) → Rooted n (members (graph es)) → ((d₁ : List (List ℤ)) (m : ℕ) → Opened es least waiting number width n d d₁ m → m ≡ 0 → rests n es ≡ true) → r ≡ rests n es
 
--- What heaviest walks are sought over: edges with their lists, and an empty table with a row for each step below n and each end, of which no column has a number.
-pub record Seekable (n : ℕ) (es lists number : List ℕ) (d : List (List ℤ)) : Type 0 where
-  pub given : WithLists n es lists
+-- What heaviest walks are sought over: the edges of a sheet of n steps, and an empty table with a row for each step below n and each end, of which no column has a number.
+pub record Seekable (n : ℕ) (es number : List ℕ) (d : List (List ℤ)) : Type 0 where
+  pub some : 1 ≤ n
+  pub few : n ≤ most_steps
   pub inside : n ≤ length d
   pub bare : Empty d
   pub blank : Blank number

@@ -1,6 +1,6 @@
 -- How a row takes in the cells of another.
 use mathlib.Core.Path.{◌≡◌, refl, sym, ap, ◌∙◌}
-use mathlib.Core.Bool.{Bool, true, false, ◌&&◌, ◌||◌}
+use mathlib.Core.Bool.{Bool, true, false, not, ◌&&◌, ◌||◌}
 use mathlib.Core.Logic.{◌⊎◌, inl, inr, ◌≢◌}
 use mathlib.Core.List.{List, []}
 use Prim.Native.Nat.{ℕ, ◌+◌, ◌<◌}
@@ -9,15 +9,16 @@ use lib.Bits.{bit_or}
 use lib.Dec.{eqb}
 use lib.IntN.{ℤ, pos}
 use lib.ListN.{length, get_or, set}
+use mir.Facts.{Fits-of_z, Fits-or, of_z-to_z, to_z-of_z}
 use mir.Syntax.{w32}
-use mir.Val.{SFits, of_z}
-use borrow.Author.Tests.{eq-eqb}
+use mir.Val.{Fits, SFits, of_z, to_z}
+use borrow.Author.Tests.{eq-eqb, eqb-true, not-false}
 use Rattle.definitions.specs.Basics.{test_bit}
 use Rattle.laws.proofs.Bools.{both_ways, or_left, same_or_not}
 use Rattle.laws.proofs.Maps.{or_above}
 use Rattle.walk_cells.specs.Cells.{Risen}
 use Rattle.walk_cells.specs.Tables.{Square, Target, cell_at, cell_of}
-use Rattle.walk_cells.proofs.Heights.{no_bits}
+use Rattle.walk_cells.proofs.Heights.{back, no_bits}
 use Rattle.walk_cells.proofs.Tables.{square_own, square_stored, square_then, stored_beside, stored_here, stored_other}
 use Rattle.walk_lift.specs.Lifts.{Liftable, LiftableCell, Lifted, Raised, Still}
 
@@ -61,25 +62,38 @@ lifted_turn {to} {delta} {k} {row} {d₀} {d} {d'} next is L C = record {
     lifts j l (inl e) = rw (← L.keeps j (λ q. omega arith)) (C.lifts j e)
     lifts j l (inr o) = rw (C.keeps j o) (L.lifts j (omega (arith, o)))
 
--- The next column of a table that was lifted so far.
-pub liftable_turn : {to width : ℕ} {delta : ℤ} {On : ℕ → Type 0} {row : List ℤ} {d₀ d : List (List ℤ)} (k : ℕ) → k < width → Liftable to width delta row d₀ → Lifted On to delta row d₀ d → LiftableCell to k delta row d
-liftable_turn k b T L = record {
-  target = record { row = omega (arith, T.target.row, L.square.rows); few = omega (arith, T.target.few); square = square_own L.square };
+-- A turn lifts the cells of four columns.
+pub lifted_four : {to : ℕ} {delta : ℤ} {k : ℕ} {row : List ℤ} {d₀ d d₁ d₂ d₃ d₄ : List (List ℤ)} → Lifted (λ j. j < k) to delta row d₀ d → Lifted (λ j. j ≡ k) to delta row d d₁ → Lifted (λ j. j ≡ k + 1) to delta row d₁ d₂ → Lifted (λ j. j ≡ k + 2) to delta row d₂ d₃ → Lifted (λ j. j ≡ k + 3) to delta row d₃ d₄ → Lifted (λ j. j < k + 4) to delta row d₀ d₄
+lifted_four {k = k} L C₁ C₂ C₃ C₄ =
+    lifted_turn (k + 4) (omega arith) (lifted_turn (k + 3) (omega arith) (lifted_turn (k + 2) (omega arith) (lifted_turn (k + 1) refl L C₁) C₂) C₃) C₄
+
+-- The next column of a table that was lifted so far, by delta as the machine reads it.
+pub liftable_turn : {to width : ℕ} {delta : ℤ} {row : List ℤ} {d₀ d : List (List ℤ)} (k : ℕ) → k < width → SFits w32 delta → Liftable to width delta row d₀ → Square (length d₀) d → LiftableCell to k (back delta) row d
+liftable_turn k b f T S = rw (to_z-of_z f) (record {
+  target = record { row = omega (arith, T.target.row, S.rows); few = omega (arith, T.target.few); square = square_own S };
   long = T.movable.long;
   movable = T.movable.each k b;
   small = T.small;
-}
+})
 
--- How cells changed is gathered: where nothing is, nothing was before, and the row stayed. Four such gatherings are put together at the end.
-pub none_noted : {A : Type 0} (g : ℕ) {c : ℤ} → SFits w32 c → (c ≡ pos 0 → A) → bit_or g (of_z w32 c) ≡ 0 → (g ≡ 0) × A
-none_noted g {c} f still e = let above = or_above g (of_z w32 c) in (omega arith, still (no_bits f (omega arith)))
+no_number : (g : ℕ) → g ≡ 0 → to_z w32 g ≡ pos 0
+no_number g e = ap (to_z w32) e
 
-pub all_none : {A : Type 0} (g₀ g₁ g₂ g₃ : ℕ) → bit_or (bit_or (bit_or g₀ g₁) g₂) g₃ ≡ 0 → (g₀ ≡ 0 → g₁ ≡ 0 → g₂ ≡ 0 → g₃ ≡ 0 → A) → A
+-- How cells changed is gathered: where nothing is, nothing was before, and the row stayed.
+pub none_noted : {A : Type 0} (g : ℕ) {c : ℤ} → Fits w32 g → SFits w32 c → (c ≡ pos 0 → A) → to_z w32 (bit_or g (of_z w32 c)) ≡ pos 0 → (to_z w32 g ≡ pos 0) × A
+none_noted g {c} b f still e =
+    let above = or_above g (of_z w32 c) in
+    let nothing : bit_or g (of_z w32 c) ≡ 0 = sym (of_z-to_z (Fits-or b (Fits-of_z f))) ∙ ap (of_z w32) e in
+    (no_number g (omega arith), still (no_bits f (omega arith)))
+
+-- Four such gatherings are put together at the end.
+pub all_none : {A : Type 0} (g₀ g₁ g₂ g₃ : ℕ) → not (eqb (bit_or (bit_or (bit_or g₀ g₁) g₂) g₃) 0) ≡ false → (to_z w32 g₀ ≡ pos 0 → to_z w32 g₁ ≡ pos 0 → to_z w32 g₂ ≡ pos 0 → to_z w32 g₃ ≡ pos 0 → A) → A
 all_none g₀ g₁ g₂ g₃ e known =
+    let nothing : bit_or (bit_or (bit_or g₀ g₁) g₂) g₃ ≡ 0 = eqb-true _ _ (not-false _ e) in
     let first = or_above g₀ g₁ in
     let second = or_above (bit_or g₀ g₁) g₂ in
     let third = or_above (bit_or (bit_or g₀ g₁) g₂) g₃ in
-    known (omega arith) (omega arith) (omega arith) (omega arith)
+    known (no_number g₀ (omega arith)) (no_number g₁ (omega arith)) (no_number g₂ (omega arith)) (no_number g₃ (omega arith))
 
 -- Marks: a row that has one may change,
 pub raised_marked : {On : ℕ → Type 0} {to : ℕ} {delta : ℤ} {row : List ℤ} {d d' : List (List ℤ)} {m : ℕ} → test_bit m to ≡ true → Lifted On to delta row d d' → Raised On to delta row d d' m m

@@ -18,7 +18,7 @@ fn lift_cell(d: &mut [[i32; 64]], row: &[i32; 64], to: usize, delta: i32, k: usi
     change(old, new)
 }
 
-// The first columns of the row, four at a time: so many make a vector.
+// The first columns of the row, four at a time: so many make a vector. A `for` by steps of four compiles to a second test in each turn.
 fn lift(d: &mut [[i32; 64]], row: &[i32; 64], to: usize, delta: i32, width: usize)
     requires { Liftable to width delta row.now d.old }
     ensures { Lifted (λ k. k < width) to delta row.now d.old d.new }
@@ -44,10 +44,10 @@ fn lift_noting(d: &mut [[i32; 64]], row: &[i32; 64], to: usize, delta: i32, widt
     let mut g3 = 0i32;
     let mut k = 0;
     while k < width {
-        g0 = g0 | lift_cell(d, row, to, delta, k);
-        g1 = g1 | lift_cell(d, row, to, delta, k + 1);
-        g2 = g2 | lift_cell(d, row, to, delta, k + 2);
-        g3 = g3 | lift_cell(d, row, to, delta, k + 3);
+        g0 |= lift_cell(d, row, to, delta, k);
+        g1 |= lift_cell(d, row, to, delta, k + 1);
+        g2 |= lift_cell(d, row, to, delta, k + 2);
+        g3 |= lift_cell(d, row, to, delta, k + 3);
         k += 4;
     }
     (g0 | g1 | g2 | g3) != 0

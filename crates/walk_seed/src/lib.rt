@@ -19,10 +19,8 @@ fn all_members(sets: &[u64; 64], n: usize) -> u64
     ensures { (a : ℕ) → test_bit result a ≡ any_below (λ v. row_bit sets.now v a) n }
 {
     let mut all = 0u64;
-    let mut v = 0;
-    while v < n {
+    for v in 0..n {
         all = data_sets::union(all, sets[v]);
-        v += 1;
     }
     all
 }
@@ -33,14 +31,11 @@ fn number_members(all: u64, number: &mut [u8; 64]) -> usize
     ensures { Numbered all result number.new }
 {
     let mut width = 0u8;
-    let mut left = all;
-    while left != 0 {
-        let a = data_bits::lowest(left);
+    for a in data_bits::members(all) {
         number[a] = width;
         width += 1;
-        left = data_bits::without_lowest(left);
     }
-    width as usize
+    usize::from(width)
 }
 
 // The walks that weigh the leasts of their anchors at step v, in the columns of the members of a map.
@@ -48,13 +43,9 @@ fn seed_row(d: &mut [[i32; 64]], number: &[u8; 64], leasts: &[u16; 64], map: u64
     requires { (v < length d.old) × Square (length d.old) d.old }
     ensures { Seeded (leasts_in leasts.now) number.now (λ w a. (w ≡ v) × (a < 64) × (test_bit map a ≡ true)) d.old d.new }
 {
-    let mut left = map;
-    while left != 0 {
-        let a = data_bits::lowest(left);
+    for a in data_bits::members(map) {
         let k = data_indices::place(number[a]);
-        let first = walk_cells::of_least(leasts[a]);
-        d[v][k] = first;
-        left = data_bits::without_lowest(left);
+        d[v][k] = walk_cells::of_least(leasts[a]);
     }
 }
 
@@ -63,10 +54,8 @@ fn seed_rows(d: &mut [[i32; 64]], number: &[u8; 64], leasts: &[u16; 64], sets: &
     requires { Rows n d.old }
     ensures { Seeded (leasts_in leasts.now) number.now (λ w a. (w < n) × (a < 64) × (row_bit sets.now w a ≡ true)) d.old d.new }
 {
-    let mut v = 0;
-    while v < n {
+    for v in 0..n {
         seed_row(d, number, leasts, sets[v], v);
-        v += 1;
     }
 }
 
@@ -116,10 +105,8 @@ fn seed_words(d: &mut [[i32; 64]], number: &[u8; 64], es: &[u64])
     requires { AllPlaced es.now d.old }
     ensures { BegunAll (members (graph es.now)) number.now d.old d.new }
 {
-    let mut k = 0;
-    while k < es.len() {
-        seed_word(d, number, es[k]);
-        k += 1;
+    for &w in es {
+        seed_word(d, number, w);
     }
 }
 
@@ -136,11 +123,8 @@ fn begins_some(es: &[u64]) -> bool
     ensures { result ≡ false → Idle es.now (length es.now) }
 {
     let mut all = 0u64;
-    let mut k = 0;
-    while k < es.len() {
-        let gain = counted_gain(es[k]);
-        all = all | gain;
-        k += 1;
+    for &w in es {
+        all |= counted_gain(w);
     }
     all != 0
 }

@@ -36,14 +36,7 @@ fn settled_edges(d: &[[i32; 64]; 64], es: &[u64]) -> bool
     requires { Square 64 d.now }
     ensures { result ≡ all (handed_on (said d.now)) (graph es.now) }
 {
-    let mut k = 0;
-    while k < es.len() {
-        if !handed_word(d, es[k]) {
-            return false;
-        }
-        k += 1;
-    }
-    true
+    es.iter().all(|&w| handed_word(d, w))
 }
 
 // Whether a wait of step `to` has, by the least of the step that it waits for.
@@ -51,7 +44,7 @@ fn handed_wait(d: &[[i32; 64]; 64], from: usize, to: usize, least: u16) -> bool
     requires { (from < 64) × (to < 64) × Square 64 d.now }
     ensures { result ≡ leb (extend (entry (said d.now) from 0) least 0) (entry (said d.now) to 0) }
 {
-    handed(d, from, to, least as u64, 0)
+    handed(d, from, to, u64::from(least), 0)
 }
 
 // Whether every wait of step i has, by the map of what it waits for.
@@ -59,13 +52,10 @@ fn settled_row(d: &[[i32; 64]; 64], leasts: &[u16; 64], map: u64, i: usize) -> b
     requires { (i < 64) × Square 64 d.now }
     ensures { result ≡ waits_handed_on (said d.now) (leasts_in leasts.now) map i }
 {
-    let mut left = map;
-    while left != 0 {
-        let a = data_bits::lowest(left);
+    for a in data_bits::members(map) {
         if !handed_wait(d, a, i, leasts[a]) {
             return false;
         }
-        left = data_bits::without_lowest(left);
     }
     true
 }
@@ -75,12 +65,10 @@ fn settled_waits(d: &[[i32; 64]; 64], leasts: &[u16; 64], maps: &[u64; 64], n: u
     requires { (n ≤ 64) × Square 64 d.now }
     ensures { result ≡ all_below (λ i. waits_handed_on (said d.now) (leasts_in leasts.now) (get_or maps.now i 0) i) n }
 {
-    let mut i = 0;
-    while i < n {
+    for i in 0..n {
         if !settled_row(d, leasts, maps[i], i) {
             return false;
         }
-        i += 1;
     }
     true
 }

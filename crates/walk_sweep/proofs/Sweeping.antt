@@ -201,14 +201,14 @@ swept_all {All = All} z few P =
     swept_then {Then = All} {j = 0} (λ v x. inr x) (omega arith) P (swept_none (square_own P.square) (λ v x. ap (λ (y : ℕ). test_bit y v) z ∙ test_zero v))
 
 -- One table after another: what is said of rows holds for the later one too, which has as many.
-pub linked_then : {es lists : List ℕ} {d d' : List (List ℤ)} → Linked es lists d → Square (length d) d' → Linked es lists d'
-linked_then L S = record { listed = L.listed; ends = λ k b. omega (arith, L.ends k b, S.rows); square = square_own S }
+pub linked_then : {es : List ℕ} {d d' : List (List ℤ)} → Linked es d → Square (length d) d' → Linked es d'
+linked_then L S = record { ends = λ k b. omega (arith, L.ends k b, S.rows); square = square_own S }
 
-pub network_then : {es lists waiting : List ℕ} {d d' : List (List ℤ)} → Network es lists waiting d → Square (length d) d' → Network es lists waiting d'
+pub network_then : {es waiting : List ℕ} {d d' : List (List ℤ)} → Network es waiting d → Square (length d) d' → Network es waiting d'
 network_then N S = record { linked = linked_then N.linked S; waits = λ a b h. omega (arith, N.waits a b h, S.rows) }
 
 -- After some of the sweeps that there is room for, there is room for the others.
-pub sweepable_later : {sweeps n width : ℕ} {es lists waiting : List ℕ} {d d' : List (List ℤ)} (done left : ℕ) (P : Sweepable sweeps n width es lists waiting d) → done + left ≤ sweeps → Square (length d) d' → Held (P.level + most_gain * (most_visits * done)) d' → Sweepable left n width es lists waiting d'
+pub sweepable_later : {sweeps n width : ℕ} {es waiting : List ℕ} {d d' : List (List ℤ)} (done left : ℕ) (P : Sweepable sweeps n width es waiting d) → done + left ≤ sweeps → Square (length d) d' → Held (P.level + most_gain * (most_visits * done)) d' → Sweepable left n width es waiting d'
 sweepable_later done left P few S H =
     record { some = P.some; few = P.few; inside = omega (arith, P.inside, S.rows); narrow = P.narrow; network = network_then P.network S; level = P.level + most_gain * (most_visits * done); held = H; room = omega (arith, P.room) }
 

@@ -1,7 +1,6 @@
 -- The edges that a sweep goes over for anchor a: those of a list of words that walks from its end may use, and the waits that maps hold, bit i of map b where i waits for b.
 -- A wait gains the least of what it waits for.
 use Rattle.std.specs.Prelude.{◌≡◌, true, ◌⊎◌, List, ℕ, ◌+◌, ◌*◌, ◌<◌, ◌≤◌, ℤ, length, get_or}
-use Rattle.data_lists.specs.Lists.{Lists}
 use Rattle.definitions.specs.Basics.{test_bit}
 use Rattle.definitions.specs.Limits.{most_gain, most_steps}
 use Rattle.definitions.specs.Links.{Graph, UsableFrom, members}
@@ -16,22 +15,21 @@ use Rattle.walk_sweep.specs.Free.{Free}
 abbrev pub Both : List ℕ → (ℕ → ℕ) → List ℕ → ℕ → Graph
 Both es least waiting a e = UsableFrom (members (graph es)) a e ⊎ WaitsFor (least e.from) e.from (get_or waiting e.from 0) e
 
--- Edges with their lists, over a table that has a row for each end.
-pub record Linked (es lists : List ℕ) (d : List (List ℤ)) : Type 0 where
-  pub listed : Lists es lists
+-- Edges, over a table that has a row for each end.
+pub record Linked (es : List ℕ) (d : List (List ℤ)) : Type 0 where
   pub ends : EndsBelow es (length d)
   pub square : Square (length d) d
 
 -- The same with waits, and a row for each step that waits.
-pub record Network (es lists waiting : List ℕ) (d : List (List ℤ)) : Type 0 where
-  pub linked : Linked es lists d
+pub record Network (es waiting : List ℕ) (d : List (List ℤ)) : Type 0 where
+  pub linked : Linked es d
   pub waits : Within (length d) waiting
 
 -- A row of step u, made ready, can go along its edges.
-pub record Pushable (u width top : ℕ) (es lists : List ℕ) (row : List ℤ) (d : List (List ℤ)) : Type 0 where
+pub record Pushable (u width top : ℕ) (es : List ℕ) (row : List ℤ) (d : List (List ℤ)) : Type 0 where
   pub below : u < most_steps
   pub few : width ≤ 64
-  pub linked : Linked es lists d
+  pub linked : Linked es d
   pub ready : Ready row width top
 
 -- A row, made ready, can go to what waits, by a map.
@@ -42,11 +40,11 @@ pub record Tellable (waiting width : ℕ) (row : List ℤ) (d : List (List ℤ))
   pub movable : Movables row width
 
 -- Step u can hand on, with a row lent to it as a place to work in.
-pub record Visitable (u width : ℕ) (es lists waiting : List ℕ) (row : List ℤ) (d : List (List ℤ)) : Type 0 where
+pub record Visitable (u width : ℕ) (es waiting : List ℕ) (row : List ℤ) (d : List (List ℤ)) : Type 0 where
   pub below : u < most_steps
   pub inside : u < length d
   pub few : width ≤ 64
-  pub network : Network es lists waiting d
+  pub network : Network es waiting d
   pub held : Held most_weight d
   pub long : length row ≡ 64
 
@@ -61,12 +59,12 @@ abbrev pub most_visits : ℕ
 most_visits = visits most_steps
 
 -- The steps below n can, in so many sweeps: each visit raises cells by one gain at most.
-pub record Sweepable (sweeps n width : ℕ) (es lists waiting : List ℕ) (d : List (List ℤ)) : Type 0 where
+pub record Sweepable (sweeps n width : ℕ) (es waiting : List ℕ) (d : List (List ℤ)) : Type 0 where
   pub some : 1 ≤ n
   pub few : n ≤ most_steps
   pub inside : n ≤ length d
   pub narrow : width ≤ 64
-  pub network : Network es lists waiting d
+  pub network : Network es waiting d
   pub level : ℕ
   pub held : Held level d
   pub room : level + most_gain * (most_visits * sweeps) ≤ most_weight

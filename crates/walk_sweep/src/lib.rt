@@ -4,11 +4,12 @@
 ghost use Rattle.std.specs.Prelude.{◌≡◌, List, ℕ, ◌-◌, ◌<◌, ◌≤◌, pos, length};
 ghost use Rattle.definitions.specs.Links.{UsableFrom, members};
 ghost use Rattle.data_edges.specs.Serial.{leasts_in};
-ghost use Rattle.data_edges.specs.Words.{graph};
+ghost use Rattle.data_lists.specs.Graphs.{edges_in};
 ghost use Rattle.walk_lift.specs.Lifts.{Liftable, Raised, lent};
 ghost use Rattle.walk_edge.specs.Columns.{HandedAll, WaitsFor};
 ghost use Rattle.walk_sweep.specs.Graphs.{Next, Pushable, Sweepable, SweptBy, Tellable, Visitable, visits};
 
+use data_lists::Edges;
 use walk_edge::push_word;
 use walk_lift::raise_row;
 use walk_take::{extent, take};
@@ -21,21 +22,18 @@ fn push_row(
     d: &mut [[i32; 64]],
     row: &[i32; 64],
     marks: u64,
-    es: &[u64],
-    lists: &[u16],
+    es: Edges,
     u: usize,
     top: u32,
     number: &[u8; 64],
     width: usize,
 ) -> u64
-    requires { Pushable u width top es.now lists.now row.now d.old }
-    ensures { HandedAll (λ a. UsableFrom (members (graph es.now)) a) number.now u (lent row.now width) d.old d.new marks result }
+    requires { Pushable u width top es.words.now row.now d.old }
+    ensures { HandedAll (λ a. UsableFrom (members (edges_in es.entry)) a) number.now u (lent row.now width) d.old d.new marks result }
 {
     let mut left = marks;
-    let mut k = data_indices::index(lists[u]);
-    while k != 0 {
-        left = push_word(d, row, left, es[k - 1], top, number, width);
-        k = data_indices::index(lists[63 + k]);
+    for k in es.out_of(u) {
+        left = push_word(d, row, left, es.words[k], top, number, width);
     }
     left
 }
@@ -71,11 +69,8 @@ fn push_waits(
     ensures { (u : ℕ) (number : List ℕ) → HandedAll (λ a. WaitsFor least u waiting) number u (lent row.now width) d.old d.new marks result }
 {
     let mut left = marks;
-    let mut todo = waiting;
-    while todo != 0 {
-        let i = data_bits::lowest(todo);
+    for i in data_bits::members(waiting) {
         left = raise_by(d, row, i, least, width, left);
-        todo = data_bits::without_lowest(todo);
     }
     left
 }
@@ -85,16 +80,15 @@ fn hand_on(
     d: &mut [[i32; 64]],
     row: &mut [i32; 64],
     marks: u64,
-    es: &[u64],
-    lists: &[u16],
+    es: Edges,
     leasts: &[u16; 64],
     waiting: &[u64; 64],
     u: usize,
     number: &[u8; 64],
     width: usize,
 ) -> u64
-    requires { Visitable u width es.now lists.now waiting.now row.old d.old }
-    ensures { SweptBy es.now (leasts_in leasts.now) waiting.now number.now width (λ v. v ≡ u) 1 d.old d.new marks result × (length row.new ≡ 64) }
+    requires { Visitable u width es.words.now waiting.now row.old d.old }
+    ensures { SweptBy es.entry.words.now (leasts_in leasts.now) waiting.now number.now width (λ v. v ≡ u) 1 d.old d.new marks result × (length row.new ≡ 64) }
 {
     if !data_bits::has(marks, u) {
         return marks;
@@ -102,18 +96,15 @@ fn hand_on(
     let rest = data_bits::remove(marks, u);
     let own = extent(&d[u], width);
     let top = take(d, u, row, own);
-    let left = push_row(d, row, rest, es, lists, u, top, number, own);
+    let left = push_row(d, row, rest, es, u, top, number, own);
     push_waits(d, row, left, waiting[u], leasts[u], own)
 }
 
 // The places of steps, put to a map of places.
 fn noted(hint: u64, fresh: u64, place: &[u8; 64]) -> u64 {
     let mut all = hint;
-    let mut left = fresh;
-    while left != 0 {
-        let v = data_bits::lowest(left);
+    for v in data_bits::members(fresh) {
         all = data_bits::insert(all, data_indices::place(place[v]));
-        left = data_bits::without_lowest(left);
     }
     all
 }
@@ -154,8 +145,7 @@ fn rest_of(m: u64) -> u64 {
 pub fn sweep(
     d: &mut [[i32; 64]],
     marks: u64,
-    es: &[u64],
-    lists: &[u16],
+    es: Edges,
     leasts: &[u16; 64],
     waiting: &[u64; 64],
     order: &[u8; 64],
@@ -164,24 +154,20 @@ pub fn sweep(
     width: usize,
     n: usize,
 ) -> u64
-    requires { Sweepable 1 n width es.now lists.now waiting.now d.old }
-    ensures { SweptBy es.now (leasts_in leasts.now) waiting.now number.now width (λ v. v < n) (visits n) d.old d.new marks result }
+    requires { Sweepable 1 n width es.words.now waiting.now d.old }
+    ensures { SweptBy es.entry.words.now (leasts_in leasts.now) waiting.now number.now width (λ v. v < n) (visits n) d.old d.new marks result }
 {
     let mut row = [walk_cells::NONE; 64];
     let mut left = marks;
     let mut hint = marks;
-    let mut k = n + (n + SPARE_VISITS);
-    while k != 0 {
+    for k in (1..=n + (n + SPARE_VISITS)).rev() {
         if left == 0 {
             return left;
         }
         let u = next_step(k, n, hint, left, order);
         let before = left;
-        left = hand_on(
-            d, &mut row, before, es, lists, leasts, waiting, u, number, width,
-        );
+        left = hand_on(d, &mut row, before, es, leasts, waiting, u, number, width);
         hint = noted(rest_of(hint), data_sets::minus(left, before), place);
-        k -= 1;
     }
     left
 }

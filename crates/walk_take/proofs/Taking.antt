@@ -1,5 +1,5 @@
 -- Rows of cells: how they are made ready.
-use mathlib.Core.Path.{◌≡◌}
+use mathlib.Core.Path.{◌≡◌, refl}
 use mathlib.Core.Bool.{false}
 use mathlib.Core.Logic.{◌⊎◌, inl, inr, ◌≢◌}
 use mathlib.Core.List.{List}
@@ -14,7 +14,7 @@ use Rattle.laws.proofs.Bools.{same_or_not}
 use Rattle.laws.proofs.Maps.{or_above}
 use Rattle.walk_cells.specs.Cells.{Movable, value}
 use Rattle.walk_cells.specs.Tables.{cell_of}
-use Rattle.walk_take.specs.Rows.{CopiedCell, Taken, Trimmed}
+use Rattle.walk_take.specs.Rows.{CopiedCell, Takeable, Taken, Trimmed}
 
 -- The cells below n are made ready.
 pub record Copied (cells row : List ℤ) (n : ℕ) : Type 0 where
@@ -49,8 +49,32 @@ module _ {cells row row' : List ℤ} {k w : ℕ} (next : ℕ) (is : next ≡ k +
       by (inl e) = rw e (omega (arith, C.weighs))
       by (inr o) = B j (omega (arith, o))
 
+-- A turn makes four cells ready, and gathers their bounds in four numbers.
+abbrev pub Gathered : List ℤ → ℕ → ℕ → ℕ → ℕ → ℕ → Type 0
+Gathered cells n t₀ t₁ t₂ t₃ = (b : ℕ) → t₀ ≤ b → t₁ ≤ b → t₂ ≤ b → t₃ ≤ b → Bound cells n b
+
+module _ {cells row row₁ row₂ row₃ row₄ : List ℤ} {k w₀ w₁ w₂ w₃ : ℕ} (C₀ : CopiedCell cells row row₁ k w₀) (C₁ : CopiedCell cells row₁ row₂ (k + 1) w₁) (C₂ : CopiedCell cells row₂ row₃ (k + 2) w₂) (C₃ : CopiedCell cells row₃ row₄ (k + 3) w₃) where
+  pub copied_four : Copied cells row k → Copied cells row₄ (k + 4)
+  copied_four T = copied_turn (k + 4) (omega arith) C₃ (copied_turn (k + 3) (omega arith) C₂ (copied_turn (k + 2) (omega arith) C₁ (copied_turn (k + 1) refl C₀ T)))
+
+  pub gathered_four : (t₀ t₁ t₂ t₃ : ℕ) → Gathered cells k t₀ t₁ t₂ t₃ → Gathered cells (k + 4) (bit_or t₀ w₀) (bit_or t₁ w₁) (bit_or t₂ w₂) (bit_or t₃ w₃)
+  gathered_four t₀ t₁ t₂ t₃ G b l₀ l₁ l₂ l₃ =
+      let a₀ = or_above t₀ w₀ in
+      let a₁ = or_above t₁ w₁ in
+      let a₂ = or_above t₂ w₂ in
+      let a₃ = or_above t₃ w₃ in
+      let b₀ = bound_turn (k + 1) refl C₀ b (omega arith) (G b (omega arith) (omega arith) (omega arith) (omega arith)) in
+      let b₁ = bound_turn (k + 2) (omega arith) C₁ b (omega arith) b₀ in
+      let b₂ = bound_turn (k + 3) (omega arith) C₂ b (omega arith) b₁ in
+      bound_turn (k + 4) (omega arith) C₃ b (omega arith) b₂
+
+-- The next cell of a row, of which so many are made ready.
+pub takeable_turn : {u width : ℕ} {d : List (List ℤ)} {row row' : List ℤ} (k : ℕ) → k < width → Takeable u width d row → length row' ≡ 64 → Takeable u (k + 1) d row'
+takeable_turn k b p long =
+    record { target = record { row = p.target.row; few = omega (arith, p.target.few); square = p.target.square }; low = p.low; long = long }
+
 -- Its end: what was gathered in four numbers is put together.
-pub taken_end : {cells row : List ℤ} {n : ℕ} (t₀ t₁ t₂ t₃ : ℕ) → n % 4 ≡ 0 → Copied cells row n → ((b : ℕ) → t₀ ≤ b → t₁ ≤ b → t₂ ≤ b → t₃ ≤ b → Bound cells n b) → Taken cells row n (bit_or (bit_or (bit_or t₀ t₁) t₂) t₃)
+pub taken_end : {cells row : List ℤ} {n : ℕ} (t₀ t₁ t₂ t₃ : ℕ) → n % 4 ≡ 0 → Copied cells row n → Gathered cells n t₀ t₁ t₂ t₃ → Taken cells row n (bit_or (bit_or (bit_or t₀ t₁) t₂) t₃)
 taken_end t₀ t₁ t₂ t₃ fours T most =
     let first = or_above t₀ t₁ in
     let second = or_above (bit_or t₀ t₁) t₂ in

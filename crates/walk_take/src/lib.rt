@@ -9,14 +9,12 @@ fn trimmed(cells: &[i32; 64], width: usize) -> usize
     requires { Trimmable cells.now width }
     ensures { Trimmed cells.now width result }
 {
-    let mut w = width;
-    while 4 < w {
+    for w in (5..=width).rev() {
         if walk_cells::is_walk(cells[w - 1]) {
             return w;
         }
-        w -= 1;
     }
-    w
+    width.min(4)
 }
 
 // The next multiple of four: the loops over a row then leave nothing over.
@@ -57,10 +55,10 @@ pub fn take(d: &[[i32; 64]], u: usize, row: &mut [i32; 64], width: usize) -> u32
     let mut t3 = 0u32;
     let mut k = 0;
     while k < width {
-        t0 = t0 | copy_cell(d, u, row, k);
-        t1 = t1 | copy_cell(d, u, row, k + 1);
-        t2 = t2 | copy_cell(d, u, row, k + 2);
-        t3 = t3 | copy_cell(d, u, row, k + 3);
+        t0 |= copy_cell(d, u, row, k);
+        t1 |= copy_cell(d, u, row, k + 1);
+        t2 |= copy_cell(d, u, row, k + 2);
+        t3 |= copy_cell(d, u, row, k + 3);
         k += 4;
     }
     t0 | t1 | t2 | t3

@@ -6,7 +6,6 @@ ghost use Rattle.data_buffers.specs.Texts.{Put};
 ghost use Rattle.write_bytes.specs.Sheets.{LinksFit, SheetFits, StepsFit, links_text, sheet_text, steps_text};
 
 use data_buffers::put_byte;
-use data_indices::index;
 use definitions::{Link, Operation};
 
 // The first n steps.
@@ -15,11 +14,8 @@ fn put_steps(steps: [Operation; 64], n: usize, out: &mut [u8], at: usize) -> usi
     ensures { Put (steps_text steps n) at result out.old out.new }
 {
     let mut p = at;
-    let mut i = 0;
-    while i < n {
-        let o = steps[i];
-        p = write_fields::put_step(o, out, p);
-        i += 1;
+    for step in &steps[..n] {
+        p = write_fields::put_step(*step, out, p);
     }
     p
 }
@@ -30,12 +26,10 @@ fn put_links(links: [Link; 512], order: &[u16], r: usize, out: &mut [u8], at: us
     ensures { Put (links_text links order.now r) at result out.old out.new }
 {
     let mut p = at;
-    let mut i = 0;
-    while i < r {
-        let k = index(order[i]);
+    for i in 0..r {
+        let k = usize::from(order[i]);
         let l = links[k];
         p = write_fields::put_link(l, out, p);
-        i += 1;
     }
     p
 }

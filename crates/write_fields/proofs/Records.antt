@@ -1,13 +1,13 @@
 -- The parts of a record, case by case, and joined: each law is the definition's text.
 use mathlib.Core.Path.{◌≡◌, refl, sym, ap, ◌∙◌}
-use mathlib.Core.Bool.{cond}
+use Rattle.std.specs.Prelude.{None, Option, Some}
+use mathlib.Core.Bool.{Bool, true, false, cond}
+use mir.Val.{bool_byte}
 use mathlib.Core.List.{[], ◌∷◌, ◌++◌}
 use Prim.Native.Nat.{ℕ, zero, suc, ◌+◌, ◌≤◌}
 use native.Mathlib.Omega.{arith}
 use lib.ListN.{length, length-append}
 use Rattle.definitions.specs.Writer.{bit_of, duration_of, field_of, link_bytes, link_map_of, open_bit, operation_bytes, operation_map_of, two_bytes_of}
-use Rattle.definitions.specs.declared.Bound.{Bound}
-use Rattle.definitions.specs.declared.Bound.TheVariants.{Absent, Ticks}
 use Rattle.definitions.specs.declared.Delay.{Delay}
 use Rattle.definitions.specs.declared.Delay.TheVariants.{Open, Fixed}
 use Rattle.definitions.specs.declared.Link.{Link}
@@ -18,27 +18,32 @@ use Rattle.write_fields.specs.Sizes.{BitFor, Sized, largest_step, link_front}
 
 -- ---- a field that is there or not, and the bits of a map
 
-pub bit_absent : {b : Bound} {k : ℕ} → b ≡ Absent → BitFor k (bit_of b k) 0
+pub bit_absent : {b : (Option ℕ)} {k : ℕ} → b ≡ None → BitFor k (bit_of b k) 0
 unfolding bit_of
-bit_absent {b} {k} e = record { same = sym (ap (λ (x : Bound). bit_of x k) e); small = omega arith }
+bit_absent {b} {k} e = record { same = sym (ap (λ (x : Option ℕ). bit_of x k) e); small = omega arith }
 
-pub bit_there : {b : Bound} {k x : ℕ} → b ≡ Ticks x → BitFor k (bit_of b k) k
+pub bit_there : {b : (Option ℕ)} {k x : ℕ} → b ≡ Some x → BitFor k (bit_of b k) k
 unfolding bit_of
-bit_there {b} {k} e = record { same = sym (ap (λ (x : Bound). bit_of x k) e); small = omega arith }
+bit_there {b} {k} e = record { same = sym (ap (λ (x : Option ℕ). bit_of x k) e); small = omega arith }
 
-pub open_there : {d : Delay} → d ≡ Open → BitFor 1 (open_bit d) 1
+pub open_there : {d : Delay} {b : Bool} → d ≡ Open → b ≡ true → BitFor 1 (open_bit d) (bool_byte b)
 unfolding open_bit
-open_there e = record { same = sym (ap open_bit e); small = omega arith }
+open_there e b = record { same = ap bool_byte b ∙ sym (ap open_bit e); small = omega (arith, ap bool_byte b) }
 
-pub open_absent : {d : Delay} {x : ℕ} → d ≡ Fixed x → BitFor 1 (open_bit d) 0
+pub open_absent : {d : Delay} {x : ℕ} {b : Bool} → d ≡ Fixed x → b ≡ false → BitFor 1 (open_bit d) (bool_byte b)
 unfolding open_bit
-open_absent e = record { same = sym (ap open_bit e); small = omega arith }
+open_absent e b = record { same = ap bool_byte b ∙ sym (ap open_bit e); small = omega (arith, ap bool_byte b) }
 
-pub field_absent : {b : Bound} → b ≡ Absent → [] ≡ field_of b
+-- A test as a bit.
+pub byte_bit : (there : Bool) → bool_byte there ≡ cond there 1 0
+byte_bit true = refl
+byte_bit false = refl
+
+pub field_absent : {b : (Option ℕ)} → b ≡ None → [] ≡ field_of b
 unfolding field_of
 field_absent e = sym (ap field_of e)
 
-pub field_there : {b : Bound} {x : ℕ} → b ≡ Ticks x → two_bytes_of x ≡ field_of b
+pub field_there : {b : (Option ℕ)} {x : ℕ} → b ≡ Some x → two_bytes_of x ≡ field_of b
 unfolding field_of
 field_there e = sym (ap field_of e)
 
@@ -46,27 +51,27 @@ pub two_bytes_size : (x : ℕ) → length (two_bytes_of x) ≡ 2
 unfolding two_bytes_of
 two_bytes_size x = refl
 
-pub size_absent : {b : Bound} → b ≡ Absent → Sized 2 (field_of b) 0
+pub size_absent : {b : (Option ℕ)} → b ≡ None → Sized 2 (field_of b) 0
 size_absent e = record { same = ap length (field_absent e); small = omega arith }
 
-pub size_there : {b : Bound} {x : ℕ} → b ≡ Ticks x → Sized 2 (field_of b) 2
+pub size_there : {b : (Option ℕ)} {x : ℕ} → b ≡ Some x → Sized 2 (field_of b) 2
 size_there {b} {x} e = record { same = sym (two_bytes_size x) ∙ ap length (field_there e); small = omega arith }
 
 -- ---- a duration: none of an open step, and none where it is 0
 
-pub duration_open : {d : Delay} → d ≡ Open → Absent ≡ duration_of d
+pub duration_open : {d : Delay} → d ≡ Open → None ≡ duration_of d
 unfolding duration_of
 duration_open e = sym (ap duration_of e)
 
-pub duration_none : {d : Delay} {x : ℕ} → d ≡ Fixed x → x ≡ 0 → Absent ≡ duration_of d
+pub duration_none : {d : Delay} {x : ℕ} → d ≡ Fixed x → x ≡ 0 → None ≡ duration_of d
 unfolding duration_of
 duration_none e z = sym (ap duration_of (e ∙ ap Fixed z))
 
-pub duration_there : {d : Delay} {x : ℕ} → d ≡ Fixed x → (x ≡ 0 → ⊥) → Ticks x ≡ duration_of d
+pub duration_there : {d : Delay} {x : ℕ} → d ≡ Fixed x → (x ≡ 0 → ⊥) → Some x ≡ duration_of d
 unfolding duration_of
 duration_there {d} {x} e some = go x some ∙ sym (ap duration_of e)
   where
-    go : (x : ℕ) → (x ≡ 0 → ⊥) → Ticks x ≡ duration_of (Fixed x)
+    go : (x : ℕ) → (x ≡ 0 → ⊥) → Some x ≡ duration_of (Fixed x)
     go zero none = absurd (none refl)
     go (suc x) none = refl
 

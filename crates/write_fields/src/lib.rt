@@ -1,37 +1,33 @@
 // The records of a sheet as bytes (request L4): the map of a step and of a link record, how many bytes each has, and its bytes put into a lent buffer.
 #![tactic(auto)]
 
-ghost use Rattle.std.specs.Prelude.{◌≡◌, cond, [], ◌∷◌, ◌+◌, ◌≤◌, length};
+ghost use Rattle.std.specs.Prelude.{◌≡◌, [], ◌∷◌, ◌+◌, ◌≤◌, length};
 ghost use Rattle.definitions.specs.Limits.{longest_record};
 ghost use Rattle.definitions.specs.Writer.{bit_of, duration_of, field_of, link_bytes, link_map_of, open_bit, operation_bytes, operation_map_of, two_bytes_of};
 ghost use Rattle.data_buffers.specs.Texts.{Put};
 ghost use Rattle.write_fields.specs.Sizes.{BitFor, Sized, largest_step, link_front};
 
 use data_buffers::put_byte;
-use definitions::{Bound, Delay, Link, Operation};
+use definitions::{Delay, Link, Operation};
 
 // The bit of a field that is there.
-fn bound_bit(b: Bound, bit: u8) -> u8
+fn bound_bit(b: Option<u16>, bit: u8) -> u8
     ensures { BitFor bit (bit_of b bit) result }
 {
     match b {
-        Bound::Absent => 0,
-        Bound::Ticks(_) => bit,
+        None => 0,
+        Some(_) => bit,
     }
 }
 
 // The field of a fixed duration: 0 is left out.
-fn duration(d: Delay) -> Bound
+fn duration(d: Delay) -> Option<u16>
     ensures { result ≡ duration_of d }
 {
     match d {
-        Delay::Open => Bound::Absent,
-        Delay::Fixed(x) => {
-            if x == 0 {
-                return Bound::Absent;
-            }
-            Bound::Ticks(x)
-        }
+        Delay::Open => None,
+        Delay::Fixed(0) => None,
+        Delay::Fixed(x) => Some(x),
     }
 }
 
@@ -39,50 +35,34 @@ fn duration(d: Delay) -> Bound
 fn unbounded_bit(d: Delay) -> u8
     ensures { BitFor 1 (open_bit d) result }
 {
-    match d {
-        Delay::Open => 1,
-        Delay::Fixed(_) => 0,
-    }
-}
-
-// The bit of an after link.
-fn after_bit(there: bool) -> u8
-    ensures { BitFor 1 (cond there 1 0) result }
-{
-    if there { 1 } else { 0 }
+    u8::from(matches!(d, Delay::Open))
 }
 
 // The map of a step.
 pub fn step_map(o: Operation) -> u8
     ensures { result ≡ operation_map_of o }
 {
-    let delay = o.delay;
-    let least = o.least;
-    unbounded_bit(delay) + bound_bit(duration(delay), 2) + bound_bit(least, 4)
+    unbounded_bit(o.delay) + bound_bit(duration(o.delay), 2) + bound_bit(o.least, 4)
 }
 
 // The map of a link record.
 pub fn link_map(l: Link) -> u8
     ensures { result ≡ link_map_of l }
 {
-    let minimum = l.minimum;
-    let maximum = l.maximum;
-    let gap = l.gap;
-    let latest = l.latest;
-    after_bit(l.sequencing)
-        + bound_bit(minimum, 2)
-        + bound_bit(maximum, 4)
-        + bound_bit(gap, 8)
-        + bound_bit(latest, 16)
+    u8::from(l.sequencing)
+        + bound_bit(l.minimum, 2)
+        + bound_bit(l.maximum, 4)
+        + bound_bit(l.gap, 8)
+        + bound_bit(l.latest, 16)
 }
 
 // How many bytes a field has.
-fn field_size(b: Bound) -> usize
+fn field_size(b: Option<u16>) -> usize
     ensures { Sized 2 (field_of b) result }
 {
     match b {
-        Bound::Absent => 0,
-        Bound::Ticks(_) => 2,
+        None => 0,
+        Some(_) => 2,
     }
 }
 
@@ -90,20 +70,14 @@ fn field_size(b: Bound) -> usize
 pub fn step_size(o: Operation) -> usize
     ensures { Sized largest_step (operation_bytes o) result }
 {
-    let delay = o.delay;
-    let least = o.least;
-    1 + field_size(duration(delay)) + field_size(least)
+    1 + field_size(duration(o.delay)) + field_size(o.least)
 }
 
 // How many bytes a link record has.
 pub fn link_size(l: Link) -> usize
     ensures { Sized longest_record (link_bytes l) result }
 {
-    let minimum = l.minimum;
-    let maximum = l.maximum;
-    let gap = l.gap;
-    let latest = l.latest;
-    3 + field_size(minimum) + field_size(maximum) + field_size(gap) + field_size(latest)
+    3 + field_size(l.minimum) + field_size(l.maximum) + field_size(l.gap) + field_size(l.latest)
 }
 
 // Two bytes.
@@ -120,17 +94,18 @@ pub fn put_number(x: u16, out: &mut [u8], at: usize) -> usize
     requires { at + 2 ≤ length out.old }
     ensures { Put (two_bytes_of x) at result out.old out.new }
 {
-    put_two((x % 256) as u8, (x / 256) as u8, out, at)
+    let [low, high] = x.to_le_bytes();
+    put_two(low, high, out, at)
 }
 
 // A field, if it is there.
-fn put_field(b: Bound, out: &mut [u8], at: usize) -> usize
+fn put_field(b: Option<u16>, out: &mut [u8], at: usize) -> usize
     requires { at + length (field_of b) ≤ length out.old }
     ensures { Put (field_of b) at result out.old out.new }
 {
     match b {
-        Bound::Absent => at,
-        Bound::Ticks(x) => put_number(x, out, at),
+        None => at,
+        Some(x) => put_number(x, out, at),
     }
 }
 
@@ -139,11 +114,9 @@ pub fn put_step(o: Operation, out: &mut [u8], at: usize) -> usize
     requires { at + length (operation_bytes o) ≤ length out.old }
     ensures { Put (operation_bytes o) at result out.old out.new }
 {
-    let delay = o.delay;
-    let least = o.least;
     let p = put_byte(step_map(o), out, at);
-    let q = put_field(duration(delay), out, p);
-    put_field(least, out, q)
+    let q = put_field(duration(o.delay), out, p);
+    put_field(o.least, out, q)
 }
 
 // The map and the pair of a link record.
@@ -160,13 +133,9 @@ pub fn put_link(l: Link, out: &mut [u8], at: usize) -> usize
     requires { at + length (link_bytes l) ≤ length out.old }
     ensures { Put (link_bytes l) at result out.old out.new }
 {
-    let minimum = l.minimum;
-    let maximum = l.maximum;
-    let gap = l.gap;
-    let latest = l.latest;
     let p = put_pair(l, out, at);
-    let q = put_field(minimum, out, p);
-    let s = put_field(maximum, out, q);
-    let t = put_field(gap, out, s);
-    put_field(latest, out, t)
+    let q = put_field(l.minimum, out, p);
+    let s = put_field(l.maximum, out, q);
+    let t = put_field(l.gap, out, s);
+    put_field(l.latest, out, t)
 }

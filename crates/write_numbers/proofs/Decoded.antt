@@ -1,5 +1,6 @@
 -- The parts that numbers stand for: map by map, and one more at a time.
 use mathlib.Core.Path.{◌≡◌, sym, ap, ap₂, ◌∙◌}
+use Rattle.std.specs.Prelude.{None, Some}
 use mathlib.Core.Bool.{cond}
 use mathlib.Core.Logic.{◌≢◌}
 use mathlib.Core.List.{List, ◌∷◌, [], ◌++◌}
@@ -12,7 +13,6 @@ use borrow.Author.Tests.{le-leb, lt-leb, ne_eqb}
 use Rattle.definitions.specs.Basics.{test_bit}
 use Rattle.definitions.specs.Bytes.{blank_operation, bound_from, delay_from, operation_map}
 use Rattle.definitions.specs.Clashes.{blank_link}
-use Rattle.definitions.specs.declared.Bound.TheVariants.{Absent, Ticks}
 use Rattle.definitions.specs.declared.Delay.TheVariants.{Fixed, Open}
 use Rattle.definitions.specs.declared.Link.{Link}
 use Rattle.definitions.specs.declared.Operation.{Operation}
@@ -22,19 +22,19 @@ use Rattle.write_numbers.specs.Decoding.{end_from, record_at, record_from, recor
 
 -- ---- a step, by its map
 
-pub step_zero : {m : ℕ} (ticks : ℕ) → m ≡ 0 → record { delay = Fixed 0; least = Absent } ≡ step_from m ticks
+pub step_zero : {m : ℕ} (ticks : ℕ) → m ≡ 0 → record { delay = Fixed 0; least = None } ≡ step_from m ticks
 unfolding step_from operation_map test_bit delay_from bound_from
 step_zero ticks e = sym (ap (λ (x : ℕ). step_from x ticks) e)
 
-pub step_open : {m : ℕ} (ticks : ℕ) → m ≡ 1 → record { delay = Open; least = Absent } ≡ step_from m ticks
+pub step_open : {m : ℕ} (ticks : ℕ) → m ≡ 1 → record { delay = Open; least = None } ≡ step_from m ticks
 unfolding step_from operation_map test_bit delay_from bound_from
 step_open ticks e = sym (ap (λ (x : ℕ). step_from x ticks) e)
 
-pub step_fixed : {m : ℕ} (ticks : ℕ) → m ≡ 2 → record { delay = Fixed ticks; least = Absent } ≡ step_from m ticks
+pub step_fixed : {m : ℕ} (ticks : ℕ) → m ≡ 2 → record { delay = Fixed ticks; least = None } ≡ step_from m ticks
 unfolding step_from operation_map test_bit delay_from bound_from
 step_fixed ticks e = sym (ap (λ (x : ℕ). step_from x ticks) e)
 
-pub step_least : {m : ℕ} (ticks : ℕ) → m ≡ 5 → record { delay = Open; least = Ticks ticks } ≡ step_from m ticks
+pub step_least : {m : ℕ} (ticks : ℕ) → m ≡ 5 → record { delay = Open; least = Some ticks } ≡ step_from m ticks
 unfolding step_from operation_map test_bit delay_from bound_from
 step_least ticks e = sym (ap (λ (x : ℕ). step_from x ticks) e)
 

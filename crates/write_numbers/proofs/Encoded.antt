@@ -1,5 +1,6 @@
 -- Numbers stand for the parts that they are the numbers of; and what they stand for fits two bytes.
 use mathlib.Core.Path.{◌≡◌, refl, sym, ap, ap₂, subst, ◌∙◌}
+use Rattle.std.specs.Prelude.{None, Option, Some}
 use mathlib.Core.Bool.{Bool, true, false, cond}
 use mathlib.Core.List.{List, Memᴰ}
 use Prim.Native.Nat.{ℕ, zero, suc, ◌+◌, ◌*◌, ◌/◌, ◌≤◌, ◌<◌}
@@ -14,8 +15,6 @@ use Rattle.definitions.specs.Limits.{most_ticks}
 use Rattle.definitions.specs.Links.{ticks_said}
 use Rattle.definitions.specs.Plan.{row_part}
 use Rattle.definitions.specs.Writer.{bit_of, duration_of, link_map_of, open_bit, operation_map_of}
-use Rattle.definitions.specs.declared.Bound.{Bound}
-use Rattle.definitions.specs.declared.Bound.TheVariants.{Absent, Ticks}
 use Rattle.definitions.specs.declared.Delay.{Delay}
 use Rattle.definitions.specs.declared.Delay.TheVariants.{Open, Fixed}
 use Rattle.definitions.specs.declared.Link.{Link}
@@ -40,14 +39,14 @@ held numbers size k i place e h p =
 -- ---- a step
 
 -- By the cases of a step whose map is allowed.
-step_again : (x : Delay) (b : Bound) → operation_map false (operation_map_of (record { delay = x; least = b })) ≡ true → step_from (operation_map_of (record { delay = x; least = b })) (step_ticks x b) ≡ record { delay = x; least = b }
+step_again : (x : Delay) (b : Option ℕ) → operation_map false (operation_map_of (record { delay = x; least = b })) ≡ true → step_from (operation_map_of (record { delay = x; least = b })) (step_ticks x b) ≡ record { delay = x; least = b }
 unfolding step_from step_ticks operation_map operation_map_of open_bit bit_of duration_of test_bit delay_from bound_from ticks_said
-step_again Open Absent h = refl
-step_again Open (Ticks t) h = refl
-step_again (Fixed zero) Absent h = refl
-step_again (Fixed (suc x)) Absent h = refl
-step_again (Fixed zero) (Ticks t) h = absurd (both_ways h refl)
-step_again (Fixed (suc x)) (Ticks t) h = absurd (both_ways h refl)
+step_again Open None h = refl
+step_again Open (Some t) h = refl
+step_again (Fixed zero) None h = refl
+step_again (Fixed (suc x)) None h = refl
+step_again (Fixed zero) (Some t) h = absurd (both_ways h refl)
+step_again (Fixed (suc x)) (Some t) h = absurd (both_ways h refl)
 
 -- ---- a link record
 
@@ -56,7 +55,7 @@ module _ (l : Link) where
   small : link_map_of l ≤ 31
   small = omega (arith, (link_digits l).sum, flag_small l.sequencing, flag_small (there l.minimum), flag_small (there l.maximum), flag_small (there l.gap), flag_small (there l.latest))
 
-  field_again : (b : Bound) (k : ℕ) → test_bit (link_map_of l) k ≡ there b → b ≡ bound_from (test_bit (link_map_of l) k) (ticks_said b)
+  field_again : (b : Option ℕ) (k : ℕ) → test_bit (link_map_of l) k ≡ there b → b ≡ bound_from (test_bit (link_map_of l) k) (ticks_said b)
   field_again b k e = sym (ap (λ (c : Bool). bound_from c (ticks_said b)) e ∙ bound_back b)
 
   link_again : l.from ≤ 255 → l.to ≤ 255 → record_from (link_map_of l) l.from l.to (ticks_said l.minimum) (ticks_said l.maximum) (ticks_said l.gap) (ticks_said l.latest) ≡ l
@@ -128,7 +127,7 @@ link_fits m i j a b c d fa fb fc fd = go (leb m 31)
     go true = record { minimum = field_fits (test_bit m 1) a fa; maximum = field_fits (test_bit m 2) b fb; gap = field_fits (test_bit m 3) c fc; latest = field_fits (test_bit m 4) d fd }
     go false = record { minimum = none; maximum = none; gap = none; latest = none }
       where
-        none : FieldFits Absent
+        none : FieldFits None
         none x e = let z : ◌≡◌ {A = ℕ} 0 1 = cc in absurd (omega arith)
 
 -- What holds of each f i holds of each of the first n of a list that is tabulated.

@@ -1,17 +1,16 @@
 -- The parts of a sheet as numbers of 16 bits, for callers that cannot hand over the types (request L4): two numbers for each step, its map and its ticks; and seven for each link record, its map, i, j, at least,
 -- at most, the gap, at most from the finish. A field whose bit does not stand is not looked at. Every list of numbers means parts: what is no map is a part that is refused 4, and what is no step is refused 5.
-use Rattle.std.specs.Prelude.{cond, false, List, ℕ, ◌+◌, ◌*◌, ◌/◌, min, leb, get_or, length}
+use Rattle.std.specs.Prelude.{cond, false, List, ℕ, ◌+◌, ◌*◌, ◌/◌, min, leb, get_or, length, Some}
 use Rattle.definitions.specs.Basics.{tabulate, test_bit}
 use Rattle.definitions.specs.Bytes.{bound_from, delay_from, operation_map}
 use Rattle.definitions.specs.Clashes.{blank_link}
-use Rattle.definitions.specs.declared.Bound.TheVariants.{Ticks}
 use Rattle.definitions.specs.declared.Delay.TheVariants.{Fixed}
 use Rattle.definitions.specs.declared.Link.{Link}
 use Rattle.definitions.specs.declared.Operation.{Operation}
 
 -- The maps of a step are those of the format: 0 lasts 0 ticks, 1 is open, 2 lasts the ticks, 5 is open and lasts at least the ticks. Any other is a step that is refused wherever it stands: fixed, with a least.
 abbrev pub wrong_step : Operation
-wrong_step = record { delay = Fixed 0; least = Ticks 0 }
+wrong_step = record { delay = Fixed 0; least = Some 0 }
 
 unfoldable pub step_from : ℕ → ℕ → Operation
 step_from m ticks = cond (operation_map false m) (record { delay = delay_from (test_bit m 0) (cond (test_bit m 1) ticks 0); least = bound_from (test_bit m 2) ticks }) wrong_step

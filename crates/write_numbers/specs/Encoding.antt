@@ -1,13 +1,12 @@
 -- The other way round than Decoding.antt: the numbers of a step and of a link record, for those who hand them over (request L4). Statements: numbers stand for just these parts, and all that they stand for fits two bytes.
 -- The theorems of the same names in small letters, in proofs/Encoded.antt, prove them.
-use Rattle.std.specs.Prelude.{◌≡◌, true, false, List, [], ◌∷◌, ℕ, ◌*◌, ◌≤◌, ◌<◌, get_or}
+use Rattle.std.specs.Prelude.{◌≡◌, true, false, List, [], ◌∷◌, ℕ, ◌*◌, ◌≤◌, ◌<◌, get_or, Option}
 use Rattle.definitions.specs.Bytes.{operation_map}
 use Rattle.definitions.specs.Clashes.{blank_link}
 use Rattle.definitions.specs.Limits.{most_ticks}
 use Rattle.definitions.specs.Links.{ticks_said}
 use Rattle.definitions.specs.Plan.{row_part}
 use Rattle.definitions.specs.Writer.{link_map_of, operation_map_of, parts}
-use Rattle.definitions.specs.declared.Bound.{Bound}
 use Rattle.definitions.specs.declared.Delay.{Delay}
 use Rattle.definitions.specs.declared.Delay.TheVariants.{Open, Fixed}
 use Rattle.definitions.specs.declared.Link.{Link}
@@ -16,7 +15,7 @@ use Rattle.demands.specs.Writing.{Numbers}
 use Rattle.write_numbers.specs.Decoding.{record_at, records_in, step_at, steps_in, wrong_step}
 
 -- The ticks of a step: its fixed duration, or its least.
-unfoldable pub step_ticks : Delay → Bound → ℕ
+unfoldable pub step_ticks : Delay → Option ℕ → ℕ
 step_ticks Open least = ticks_said least
 step_ticks (Fixed x) least = x
 

@@ -7,8 +7,19 @@ ghost use Rattle.definitions.specs.Bytes.{bound_from};
 ghost use Rattle.definitions.specs.Limits.{most_records, most_steps};
 ghost use Rattle.write_numbers.specs.Decoding.{end_from, record_at, record_from, records_in, step_at, step_from, steps_in};
 
-use definitions::{Bound, Delay, Link, MOST_RECORDS, Operation};
+use definitions::{Delay, Link, MOST_RECORDS, Operation};
 use read_fields::has;
+
+// A record with no link.
+const BLANK_LINK: Link = Link {
+    from: 0,
+    to: 0,
+    sequencing: false,
+    minimum: None,
+    maximum: None,
+    gap: None,
+    latest: None,
+};
 
 // The step of a map and its ticks.
 fn step_from(map: u16, ticks: u16) -> Operation
@@ -17,39 +28,36 @@ fn step_from(map: u16, ticks: u16) -> Operation
     match map {
         0 => Operation {
             delay: Delay::Fixed(0),
-            least: Bound::Absent,
+            least: None,
         },
         1 => Operation {
             delay: Delay::Open,
-            least: Bound::Absent,
+            least: None,
         },
         2 => Operation {
             delay: Delay::Fixed(ticks),
-            least: Bound::Absent,
+            least: None,
         },
         5 => Operation {
             delay: Delay::Open,
-            least: Bound::Ticks(ticks),
+            least: Some(ticks),
         },
         _ => Operation {
             delay: Delay::Fixed(0),
-            least: Bound::Ticks(0),
+            least: Some(0),
         },
     }
 }
 
 // A field that is there where its bit stands.
-fn bound_from(there: bool, ticks: u16) -> Bound
+fn bound_from(there: bool, ticks: u16) -> Option<u16>
     ensures { result ≡ bound_from there ticks }
 {
-    if there {
-        return Bound::Ticks(ticks);
-    }
-    Bound::Absent
+    if there { Some(ticks) } else { None }
 }
 
 // The field of a bit of the map.
-fn field_from(map: u8, bit: usize, ticks: u16) -> Bound
+fn field_from(map: u8, bit: usize, ticks: u16) -> Option<u16>
     requires { bit < 8 }
     ensures { result ≡ bound_from (test_bit map bit) ticks }
 {
@@ -60,7 +68,7 @@ fn field_from(map: u8, bit: usize, ticks: u16) -> Bound
 fn end_from(i: u16) -> u8
     ensures { result ≡ end_from i }
 {
-    if i < 255 { i as u8 } else { 255 }
+    u8::try_from(i).unwrap_or(255)
 }
 
 // The link record of a map, a pair and its fields.
@@ -68,15 +76,7 @@ fn record_from(map: u16, i: u16, j: u16, least: u16, most: u16, gap: u16, latest
     ensures { result ≡ record_from map i j least most gap latest }
 {
     if 31 < map {
-        return Link {
-            from: 0,
-            to: 0,
-            sequencing: false,
-            minimum: Bound::Absent,
-            maximum: Bound::Absent,
-            gap: Bound::Absent,
-            latest: Bound::Absent,
-        };
+        return BLANK_LINK;
     }
     let m = map as u8;
     Link {
@@ -123,14 +123,11 @@ pub fn steps_from(numbers: &[u16], count: usize) -> [Operation; 64]
 {
     let blank = Operation {
         delay: Delay::Open,
-        least: Bound::Absent,
+        least: None,
     };
     let mut steps = [blank; 64];
-    let mut k = 0;
-    while k < count {
-        let step = step_at(numbers, k);
-        steps[k] = step;
-        k += 1;
+    for k in 0..count {
+        steps[k] = step_at(numbers, k);
     }
     steps
 }
@@ -140,21 +137,9 @@ pub fn records_from(numbers: &[u16], count: usize) -> [Link; 512]
     requires { (count ≤ most_records) × (7 * count ≤ length numbers.now) }
     ensures { take count result ≡ take count (records_in numbers.now) }
 {
-    let blank = Link {
-        from: 0,
-        to: 0,
-        sequencing: false,
-        minimum: Bound::Absent,
-        maximum: Bound::Absent,
-        gap: Bound::Absent,
-        latest: Bound::Absent,
-    };
-    let mut links = [blank; MOST_RECORDS];
-    let mut k = 0;
-    while k < count {
-        let link = record_at(numbers, k);
-        links[k] = link;
-        k += 1;
+    let mut links = [BLANK_LINK; MOST_RECORDS];
+    for k in 0..count {
+        links[k] = record_at(numbers, k);
     }
     links
 }

@@ -20,35 +20,6 @@ use Rattle.write_parts.specs.declared.LinksFound.{LinksFound}
 use Rattle.write_parts.specs.declared.StepsFound.{StepsFound}
 use Rattle.write_parts.specs.Parts.{cell_of, link_maps_bad, StepsScanned, StepSeen, LinksShown, LinkSeen, LinksScanned}
 
--- ---- maps
-
--- Of a step: step 0; a map of at most 2; another.
-pub step_first : {first : Bool} (m : ℕ) → first ≡ true → eqb m 1 ≡ operation_map first m
-unfolding operation_map
-step_first m e = sym (ap (λ (b : Bool). operation_map b m) e)
-
-pub step_low : {first : Bool} {m : ℕ} → first ≡ false → m ≤ 2 → true ≡ operation_map first m
-unfolding operation_map
-step_low {m = m} e h = sym (ap (λ (b : Bool). operation_map b m) e ∙ ap (λ (b : Bool). b || eqb m 5) (le-leb m 2 h))
-
-pub step_high : {first : Bool} {m : ℕ} → first ≡ false → 2 < m → eqb m 5 ≡ operation_map first m
-unfolding operation_map
-step_high {m = m} e h = sym (ap (λ (b : Bool). operation_map b m) e ∙ ap (λ (b : Bool). b || eqb m 5) (lt-leb m 2 h))
-
--- Of a link record: no bit stands; one that is not known; else by bits 0 and 3.
-pub link_empty : {m : ℕ} → m < 1 → false ≡ link_map m
-unfolding link_map
-link_empty {m} h = sym (ap (λ (b : Bool). b && leb m 31 && (test_bit m 0 || not (test_bit m 3))) (lt-leb 1 m h))
-
-pub link_unknown : {m : ℕ} → 31 < m → false ≡ link_map m
-unfolding link_map
-link_unknown {m} h =
-    sym (ap₂ (λ (a b : Bool). a && b && (test_bit m 0 || not (test_bit m 3))) (le-leb 1 m (omega arith)) (lt-leb m 31 h))
-
-pub link_known : {m : ℕ} {r : Bool} → 1 ≤ m → m ≤ 31 → r ≡ (test_bit m 0 || not (test_bit m 3)) → r ≡ link_map m
-unfolding link_map
-link_known {m} a b e = e ∙ sym (ap₂ (λ (x y : Bool). x && y && (test_bit m 0 || not (test_bit m 3))) (le-leb 1 m a) (le-leb m 31 b))
-
 -- ---- the steps
 
 -- One step more, at the end: it is the first where there was none.
@@ -81,10 +52,6 @@ module _ (steps : List Operation) (z : Operation) (i : ℕ) (b : i < length step
       }
 
 -- ---- the link records
-
--- The list of cells keeps its length.
-pub cells_kept : {n : ℕ} {ls : List Link} {old cells : List ℕ} {found : LinksFound} → LinksScanned n ls old found cells → length ls ≤ length old → length cells ≡ length old
-cells_kept {ls = ls} {old} S b = ap length S.cells ∙ omega (arith, length-append (map cell_of ls) (drop (length ls) old), length-map ls cell_of, length-drop (length ls) old)
 
 pub links_none : (n : ℕ) (cells : List ℕ) → LinksScanned n [] cells (record { unmapped = false; unsequenced = false; misplaced = false; size = 0 }) cells
 unfolding link_maps_bad unsequenced bad_ends any flat_map

@@ -26,51 +26,25 @@ pub struct LinksFound {
     pub size: usize,
 }
 
-// Both of two tests.
-fn both(a: bool, b: bool) -> bool
-    ensures { result ≡ (a && b) }
-{
-    if a { b } else { false }
-}
-
-// The first of two tests, or not the second.
-fn unless(a: bool, b: bool) -> bool
-    ensures { result ≡ (a || not b) }
-{
-    if a { true } else { !b }
-}
-
 // Whether the map of a step is allowed: step 0 is plainly open.
 fn step_allowed(first: bool, m: u8) -> bool
     ensures { result ≡ operation_map first m }
 {
-    if first {
-        return m == 1;
-    }
-    if m <= 2 {
-        return true;
-    }
-    m == 5
+    if first { m == 1 } else { m <= 2 || m == 5 }
 }
 
 // Whether the map of a link record is allowed: some bit stands, none above 4, and no gap without after.
 fn link_allowed(m: u8) -> bool
     ensures { result ≡ link_map m }
 {
-    if m < 1 {
-        return false;
-    }
-    if 31 < m {
-        return false;
-    }
-    unless(has(m, 0), has(m, 3))
+    1 <= m && m <= 31 && (has(m, 0) || !has(m, 3))
 }
 
 // Whether a limit from the finish stands only where after does.
 fn is_sequenced(m: u8) -> bool
     ensures { result ≡ sequenced m }
 {
-    unless(has(m, 0), has(m, 4))
+    has(m, 0) || !has(m, 4)
 }
 
 // One step more.
@@ -80,7 +54,7 @@ fn see_step(seen: StepsFound, o: Operation, first: bool) -> StepsFound
 {
     let allowed = step_allowed(first, write_fields::step_map(o));
     StepsFound {
-        mapped: both(seen.mapped, allowed),
+        mapped: seen.mapped && allowed,
         size: seen.size + write_fields::step_size(o),
     }
 }
@@ -94,12 +68,8 @@ pub fn scan_steps(steps: [Operation; 64], n: usize) -> StepsFound
         mapped: true,
         size: 0,
     };
-    let mut i = 0;
-    while i < n {
-        let o = steps[i];
-        let more = see_step(seen, o, i == 0);
-        seen = more;
-        i += 1;
+    for (i, step) in steps[..n].iter().enumerate() {
+        seen = see_step(seen, *step, i == 0);
     }
     seen
 }
@@ -111,9 +81,9 @@ fn see_link(seen: LinksFound, l: Link, n: usize) -> LinksFound
 {
     let m = write_fields::link_map(l);
     LinksFound {
-        unmapped: unless(seen.unmapped, link_allowed(m)),
-        unsequenced: unless(seen.unsequenced, is_sequenced(m)),
-        misplaced: unless(seen.misplaced, endpoints_allowed(n, l.from, l.to)),
+        unmapped: seen.unmapped || !link_allowed(m),
+        unsequenced: seen.unsequenced || !is_sequenced(m),
+        misplaced: seen.misplaced || !endpoints_allowed(n, l.from, l.to),
         size: seen.size + write_fields::link_size(l),
     }
 }
@@ -122,7 +92,7 @@ fn see_link(seen: LinksFound, l: Link, n: usize) -> LinksFound
 fn cell(l: Link) -> u16
     ensures { result ≡ cell_of l }
 {
-    (l.from as u16) * 64 + (l.to as u16)
+    u16::from(l.from) * 64 + u16::from(l.to)
 }
 
 // The first r link records, with their cells at the front of a lent list.
@@ -136,13 +106,9 @@ pub fn scan_links(links: [Link; 512], r: usize, n: usize, cells: &mut [u16]) -> 
         misplaced: false,
         size: 0,
     };
-    let mut i = 0;
-    while i < r {
-        let l = links[i];
-        let more = see_link(seen, l, n);
-        seen = more;
-        cells[i] = cell(l);
-        i += 1;
+    for (i, link) in links[..r].iter().enumerate() {
+        seen = see_link(seen, *link, n);
+        cells[i] = cell(*link);
     }
     seen
 }

@@ -1,5 +1,6 @@
 -- What the types of the code say of the numbers of parts: each is one of two bytes. Read off what a function is told of an array that it is given: each element is a value of its type.
 use mathlib.Core.Path.{◌≡◌, sym, subst}
+use Rattle.std.specs.Prelude.{None, Option, Some}
 use mathlib.Core.Logic.{◌⊎◌, inl, inr}
 use mathlib.Core.List.Memᴰ
 use mathlib.Core.List.{List, [], ◌∷◌, Memᴰ}
@@ -17,20 +18,19 @@ use Rattle.definitions.specs.Limits.{most_ticks}
 use Rattle.definitions.specs.Writer.{parts}
 use Rattle.definitions.specs.declared.Delay.{Delay}
 use Rattle.definitions.specs.declared.Delay.TheVariants.{Open, Fixed}
-use Rattle.definitions.specs.declared.Bound.{Bound}
-use Rattle.definitions.specs.declared.Bound.TheVariants.{Absent, Ticks}
 use Rattle.definitions.specs.declared.Operation.{Operation}
 use Rattle.definitions.specs.declared.Link.{Link}
 use Rattle.definitions.specs.contracts.Operation as operation
 use Rattle.definitions.specs.contracts.Link as link
-use Rattle.definitions.specs.contracts.Bound as bound
+use Rattle.std.specs.contracts.option.Option as option
+use denote.Builtin.{u16}
 use Rattle.definitions.specs.contracts.Delay as delay
 use Rattle.demands.specs.Writing.{FieldFits, LinkNumbers, Numbers, StepNumbers}
 
 -- A field that is there is a number of 16 bits.
-bound_fits : (b : Bound) (vs : List Val) → Is (Enums.row bound.the_type) b vs → FieldFits b
-bound_fits Absent vs g x e = let z : ◌≡◌ {A = ℕ} 0 1 = cc in absurd (omega arith)
-bound_fits (Ticks y) vs g x e =
+bound_fits : (b : Option ℕ) (vs : List Val) → shadow ((option.the_field u16).row.own_val ((option.the_type u16).to b) vs) → FieldFits b
+bound_fits None vs g x e = let z : ◌≡◌ {A = ℕ} 0 1 = cc in absurd (omega arith)
+bound_fits (Some y) vs g x e =
     let same : ◌≡◌ {A = ℕ} y x = cc in
     omega (arith, same, g.1.1.1.1.0.1)
 

@@ -1,5 +1,7 @@
 -- The refusals of the writer in their order, as the code meets them: each stop is the verdict's, and what is passed leaves the rest of it.
 use mathlib.Core.Path.{◌≡◌, refl, sym, ap, ap₂, ◌∙◌}
+use Rattle.std.specs.Prelude.{Err, Ok}
+use Rattle.definitions.specs.Numbers.{Tally, number}
 use mathlib.Core.Bool.{Bool, true, false, not, ◌&&◌, ◌||◌}
 use mathlib.Core.List.{List}
 use Prim.Native.Nat.{ℕ, ◌≤◌, ◌<◌, min}
@@ -13,15 +15,11 @@ use Rattle.definitions.specs.Answers.{too_short, written}
 use Rattle.definitions.specs.Basics.{Outcome, given, refused, refuse_if, when_given}
 use Rattle.definitions.specs.Bytes.{Records}
 use Rattle.definitions.specs.Limits.{most_records, most_steps}
-use Rattle.definitions.specs.Numbers.{number}
 use Rattle.definitions.specs.Writer.{bad_ends, bad_maps, comes_twice, parts, parts_short, sheet_bytes, unsequenced, write_answer, write_verdict}
 use Rattle.definitions.specs.declared.Link.{Link}
 use Rattle.definitions.specs.declared.Operation.{Operation}
 use Rattle.definitions.specs.declared.Refusal.{Refusal}
 use Rattle.definitions.specs.declared.Refusal.TheVariants.{BadEndpoint, BadMap, LinkCount, OperationCount, Unsequenced}
-use Rattle.definitions.specs.declared.Status.TheVariants as Statuses
-use Rattle.definitions.specs.declared.Tally.{Tally}
-use Rattle.definitions.specs.declared.Tally.TheVariants as Tallies
 use Rattle.laws.proofs.Bools.{neither, or_left, or_right}
 use Rattle.laws.proofs.Outcomes.{passes_by, stops_at, three_pass}
 use Rattle.data_buffers.specs.Texts.{Put}
@@ -32,7 +30,7 @@ use Rattle.write_parts.specs.declared.StepsFound.{StepsFound}
 use Rattle.write_sheet.specs.Written.{Faults, Leaves, WriteReturned, fault_verdict, order_verdict, parts_there, parts_verdict, room_verdict}
 
 -- A refusal leaves the buffer as lent; and a verdict under another name.
-pub leaves_refused : {v : Outcome ℕ} {bytes buffer : List ℕ} {k : Refusal} → v ≡ refused (number k) → Leaves v bytes buffer (Tallies.Refused k) buffer
+pub leaves_refused : {v : Outcome ℕ} {bytes buffer : List ℕ} {k : Refusal} → v ≡ refused (number k) → Leaves v bytes buffer (Err k) buffer
 unfolding written
 leaves_refused {bytes = bytes} {buffer} e = record { said = sym e; left = sym (ap (λ (o : Outcome ℕ). written o bytes buffer) e) }
 
@@ -42,7 +40,7 @@ leaves_as {v} {w} {x} {y} {buffer} e f L = record { said = L.said ∙ e; left = 
 -- ---- 4, 26 and 5, from what was found
 
 module _ (found : StepsFound) (seen : LinksFound) {wrong : Bool} (e : wrong ≡ (not found.mapped || seen.unmapped)) where
-  pub fault_maps : wrong ≡ true → Faults found seen (Statuses.Refused BadMap)
+  pub fault_maps : wrong ≡ true → Faults found seen (Err BadMap)
   unfolding fault_verdict
   fault_maps h = record { verdict = λ x. sym (stops_at 4 (refuse_if seen.unsequenced 26 (refuse_if seen.misplaced 5 (given x))) (sym e ∙ h)) }
 
@@ -51,13 +49,13 @@ module _ (found : StepsFound) (seen : LinksFound) {wrong : Bool} (e : wrong ≡ 
   unfolding fault_verdict
   past_maps m x = sym (passes_by 4 (refuse_if seen.unsequenced 26 (refuse_if seen.misplaced 5 (given x))) (sym e ∙ m))
 
-  pub fault_limits : wrong ≡ false → seen.unsequenced ≡ true → Faults found seen (Statuses.Refused Unsequenced)
+  pub fault_limits : wrong ≡ false → seen.unsequenced ≡ true → Faults found seen (Err Unsequenced)
   fault_limits m h = record { verdict = λ x. sym (stops_at 26 (refuse_if seen.misplaced 5 (given x)) h) ∙ past_maps m x }
 
-  pub fault_ends : wrong ≡ false → seen.unsequenced ≡ false → seen.misplaced ≡ true → Faults found seen (Statuses.Refused BadEndpoint)
+  pub fault_ends : wrong ≡ false → seen.unsequenced ≡ false → seen.misplaced ≡ true → Faults found seen (Err BadEndpoint)
   fault_ends m p h = record { verdict = λ x. sym (passes_by 26 (refuse_if seen.misplaced 5 (given x)) p ∙ stops_at 5 (given x) h) ∙ past_maps m x }
 
-  pub fault_none : wrong ≡ false → seen.unsequenced ≡ false → seen.misplaced ≡ false → Faults found seen Statuses.Done
+  pub fault_none : wrong ≡ false → seen.unsequenced ≡ false → seen.misplaced ≡ false → Faults found seen (Ok tt)
   fault_none m p h = record { verdict = λ x. sym (passes_by 26 (refuse_if seen.misplaced 5 (given x)) p ∙ passes_by 5 (given x) h) ∙ past_maps m x }
 
 -- A refusal in front of what comes after an answer.
@@ -78,15 +76,15 @@ module _ {n : ℕ} (r : ℕ) (q : Records) (buffer : List ℕ) {found : StepsFou
       ∙ ap (λ (o : Outcome ℕ). refuse_if (not found.mapped || seen.unmapped) 4 o) (refuse_before seen.unsequenced 26 (refuse_if seen.misplaced 5 (given 0)) rest)
       ∙ refuse_before (not found.mapped || seen.unmapped) 4 (refuse_if seen.unsequenced 26 (refuse_if seen.misplaced 5 (given 0))) rest
 
-  pub parts_refused : {k : Refusal} → Faults found seen (Statuses.Refused k) → parts_verdict n r q buffer ≡ refused (number k)
+  pub parts_refused : {k : Refusal} → Faults found seen (Err k) → parts_verdict n r q buffer ≡ refused (number k)
   unfolding when_given
   parts_refused faults = found_verdict ∙ ap (λ (o : Outcome ℕ). when_given o (λ x. order_verdict n r q buffer)) (sym (faults.verdict 0))
 
-  pub parts_passed : Faults found seen Statuses.Done → parts_verdict n r q buffer ≡ order_verdict n r q buffer
+  pub parts_passed : Faults found seen (Ok tt) → parts_verdict n r q buffer ≡ order_verdict n r q buffer
   unfolding when_given
   parts_passed faults = found_verdict ∙ ap (λ (o : Outcome ℕ). when_given o (λ x. order_verdict n r q buffer)) (sym (faults.verdict 0))
 
-pub ends_passed : {n : ℕ} {ls : List Link} {found : StepsFound} {seen : LinksFound} → LinksShown n ls seen → Faults found seen Statuses.Done → bad_ends n ls ≡ false
+pub ends_passed : {n : ℕ} {ls : List Link} {found : StepsFound} {seen : LinksFound} → LinksShown n ls seen → Faults found seen (Ok tt) → bad_ends n ls ≡ false
 unfolding fault_verdict
 ends_passed {found = found} {seen} S faults = sym S.ends ∙ (three_pass (not found.mapped || seen.unmapped) seen.unsequenced seen.misplaced 4 26 5 0 0 (sym (faults.verdict 0))).1
 
@@ -125,7 +123,7 @@ module _ (bytes buffer : List ℕ) where
   room_enough h = passes_by 14 (given (length bytes)) (le-ltb (length buffer) (length bytes) h)
 
 -- The bytes at the front of the buffer, and their number.
-pub leaves_given : {bytes buffer after : List ℕ} {size p : ℕ} → size ≡ length bytes → length bytes ≤ length buffer → Put bytes 0 p buffer after → Leaves (room_verdict bytes buffer) bytes buffer (Tallies.Count size) after
+pub leaves_given : {bytes buffer after : List ℕ} {size p : ℕ} → size ≡ length bytes → length bytes ≤ length buffer → Put bytes 0 p buffer after → Leaves (room_verdict bytes buffer) bytes buffer (Ok size) after
 unfolding written
 leaves_given {bytes} {buffer} long room put =
     let e = room_enough bytes buffer room in
@@ -147,17 +145,17 @@ module _ (n r : ℕ) (steps : List Operation) (links : List Link) (buffer : List
   unfolding write_answer
   returned L = record { verdict = L.said; numbers = L.left }
 
-  pub returned_none : n < 1 → WriteReturned n r steps links buffer (Tallies.Refused OperationCount) buffer
+  pub returned_none : n < 1 → WriteReturned n r steps links buffer (Err OperationCount) buffer
   returned_none h = returned (leaves_refused (verdict_is ∙ stops_at 2 (refuse_if (ltb most_records r) 3 rest) (ap (λ (b : Bool). not (b && leb n most_steps)) (lt-leb 1 n h))))
 
-  pub returned_many : 1 ≤ n → most_steps < n → WriteReturned n r steps links buffer (Tallies.Refused OperationCount) buffer
+  pub returned_many : 1 ≤ n → most_steps < n → WriteReturned n r steps links buffer (Err OperationCount) buffer
   returned_many p h = returned (leaves_refused (verdict_is ∙ stops_at 2 (refuse_if (ltb most_records r) 3 rest) (ap₂ (λ (a b : Bool). not (a && b)) (le-leb 1 n p) (lt-leb n most_steps h))))
 
   module _ (p : 1 ≤ n) (h : n ≤ most_steps) where
     past_count : (write_answer n r steps links buffer).verdict ≡ refuse_if (ltb most_records r) 3 rest
     past_count = verdict_is ∙ passes_by 2 (refuse_if (ltb most_records r) 3 rest) (ap₂ (λ (a b : Bool). not (a && b)) (le-leb 1 n p) (le-leb n most_steps h))
 
-    pub returned_records : most_records < r → WriteReturned n r steps links buffer (Tallies.Refused LinkCount) buffer
+    pub returned_records : most_records < r → WriteReturned n r steps links buffer (Err LinkCount) buffer
     returned_records k = returned (leaves_refused (past_count ∙ stops_at 3 rest (lt-ltb most_records r k)))
 
     pub returned_parts : {t : Tally} {after : List ℕ} → r ≤ most_records → Leaves rest (sheet_bytes (parts n r steps links)) buffer t after → WriteReturned n r steps links buffer t after

@@ -1,5 +1,7 @@
 -- The sheet as it is put is the definition's: as many parts are there as the counts say, and the order of the records is the rising one.
 use mathlib.Core.Path.{◌≡◌, refl, sym, ap, ap₂, subst, ◌∙◌}
+use Rattle.std.specs.Prelude.{Ok}
+use Rattle.definitions.specs.Numbers.{Tally}
 use mathlib.Core.Bool.{Bool, true, false}
 use mathlib.Core.List.{List, ◌∷◌, ◌++◌, flat_map, Permᴰ}
 use Prim.Native.Nat.{ℕ, ◌+◌, ◌*◌, ◌≤◌, ◌<◌}
@@ -13,8 +15,6 @@ use Rattle.definitions.specs.Limits.{longest_record, most_records, most_steps}
 use Rattle.definitions.specs.Writer.{bad_ends, comes_twice, link_bytes, operation_bytes, rising, sheet_bytes, two_bytes_of}
 use Rattle.definitions.specs.declared.Link.{Link}
 use Rattle.definitions.specs.declared.Operation.{Operation}
-use Rattle.definitions.specs.declared.Status.TheVariants.{Done}
-use Rattle.definitions.specs.declared.Tally.{Tally}
 use Rattle.laws.proofs.Lists.{map_same, mem_at}
 use Rattle.demands.proofs.WritingBytes.{sheet_length}
 use Rattle.demands.proofs.WritingOrder.{rising_perm}
@@ -106,7 +106,7 @@ pub record Faultless (n a r b : ℕ) (steps : List Operation) (links : List Link
   pub blank : List ℕ
   pub steps_seen : StepsScanned (take a steps) found
   pub links_seen : LinksScanned n (take b links) blank seen cells
-  pub none : Faults found seen Done
+  pub none : Faults found seen (Ok tt)
 
 module _ {n a r b : ℕ} {steps : List Operation} {links : List Link} {cells : List ℕ} {found : StepsFound} {seen : LinksFound} (K : Faultless n a r b steps links cells found seen) where
   counted_links : length (take b links) ≡ b

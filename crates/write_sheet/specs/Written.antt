@@ -1,15 +1,13 @@
 -- What the sheet writer returns, and what it leaves in the buffer that is lent (request L4).
 use Rattle.std.specs.Prelude.{◌≡◌, not, ◌||◌, List, ℕ, ◌≤◌, length, take}
+use Rattle.definitions.specs.Numbers.{Status, Tally, status_of, tally_of}
 use Rattle.definitions.specs.Answers.{too_short, written}
 use Rattle.definitions.specs.Basics.{Outcome, given, refuse_if}
 use Rattle.definitions.specs.Bytes.{Records}
 use Rattle.definitions.specs.Limits.{most_records, most_steps}
-use Rattle.definitions.specs.Numbers.{status_of, tally_of}
 use Rattle.definitions.specs.Writer.{bad_ends, bad_maps, comes_twice, parts, parts_short, sheet_bytes, unsequenced, write_answer}
 use Rattle.definitions.specs.declared.Link.{Link}
 use Rattle.definitions.specs.declared.Operation.{Operation}
-use Rattle.definitions.specs.declared.Status.{Status}
-use Rattle.definitions.specs.declared.Tally.{Tally}
 use Rattle.demands.specs.Writing.{Numbers}
 use Rattle.write_bytes.specs.Sheets.{OrderFits, sheet_text}
 use Rattle.write_parts.specs.declared.LinksFound.{LinksFound}

@@ -1,45 +1,31 @@
 // The sheet writer (request L4): the bytes of a sheet from its steps and link records, which may come in any order.
 #![tactic(auto)]
 
-ghost use Rattle.std.specs.Prelude.{◌≡◌, not, ◌||◌, ◌≤◌, min, take};
+ghost use Rattle.std.specs.Prelude.{◌≤◌, take};
 ghost use Rattle.definitions.specs.Limits.{most_records, most_steps};
 ghost use Rattle.definitions.specs.Writer.{sheet_bytes};
 ghost use Rattle.write_bytes.specs.Sheets.{sheet_text};
 ghost use Rattle.write_sheet.specs.Written.{Counts, Faults, Leaves, WholeReady, WriteReturned, Wrote, parts_there, parts_verdict, room_verdict};
 
-use definitions::{Link, MOST_RECORDS, Operation, Refusal, Status, Tally};
+use definitions::{Link, MOST_RECORDS, Operation, Refusal};
 use write_parts::{LinksFound, StepsFound};
-
-// The smaller one.
-pub fn smaller(x: usize, y: usize) -> usize
-    ensures { result ≡ min x y }
-{
-    if x < y { x } else { y }
-}
-
-// Whether some map is not allowed: of a step or of a link record.
-fn unmapped(found: StepsFound, seen: LinksFound) -> bool
-    ensures { result ≡ (not found.mapped || seen.unmapped) }
-{
-    if found.mapped { seen.unmapped } else { true }
-}
 
 // The first fault of the parts, by number: 4, 26, 5.
 #[tactic(auto, using(crate::proofs::Verdicts::fault_maps, crate::proofs::Verdicts::fault_limits, crate::proofs::Verdicts::fault_ends, crate::proofs::Verdicts::fault_none))]
-fn fault(found: StepsFound, seen: LinksFound) -> Status
+fn fault(found: StepsFound, seen: LinksFound) -> Result<(), Refusal>
     ensures { Faults found seen result }
 {
-    let wrong = unmapped(found, seen);
+    let wrong = !found.mapped || seen.unmapped;
     if wrong {
-        return Status::Refused(Refusal::BadMap);
+        return Err(Refusal::BadMap);
     }
     if seen.unsequenced {
-        return Status::Refused(Refusal::Unsequenced);
+        return Err(Refusal::Unsequenced);
     }
     if seen.misplaced {
-        return Status::Refused(Refusal::BadEndpoint);
+        return Err(Refusal::BadEndpoint);
     }
-    Status::Done
+    Ok(())
 }
 
 // The sheet, of so many bytes, if there is room for it: 14.
@@ -51,16 +37,16 @@ fn write_whole(
     order: &[u16],
     size: usize,
     out: &mut [u8],
-) -> Tally
+) -> Result<usize, Refusal>
     requires { WholeReady n steps r links order.now size }
     ensures { Leaves (room_verdict (sheet_text n steps r links order.now) out.old)
         (sheet_text n steps r links order.now) out.old result out.new }
 {
     if out.len() < size {
-        return Tally::Refused(Refusal::TooShort);
+        return Err(Refusal::TooShort);
     }
     write_bytes::put_sheet(n, steps, r, links, order, out);
-    Tally::Count(size)
+    Ok(size)
 }
 
 // From 4 on, where a of n steps and b of r link records are there.
@@ -72,26 +58,23 @@ fn write_counted(
     links: [Link; 512],
     b: usize,
     out: &mut [u8],
-) -> Tally
+) -> Result<usize, Refusal>
     requires { Counts n a r b }
     ensures { Leaves (parts_verdict n r (parts_there steps a links b) out.old) (sheet_bytes (parts_there steps a links b)) out.old result out.new }
 {
     let found = write_parts::scan_steps(steps, a);
     let mut cells = [0u16; MOST_RECORDS];
     let seen = write_parts::scan_links(links, b, n, &mut cells);
-    let status = fault(found, seen);
-    if let Status::Refused(k) = status {
-        return Tally::Refused(k);
-    }
+    fault(found, seen)?;
     let mut order = [0u16; MOST_RECORDS];
     if write_order::order_cells(&cells[..b], &mut order) {
-        return Tally::Refused(Refusal::BadOrder);
+        return Err(Refusal::BadOrder);
     }
     if a < n {
-        return Tally::Refused(Refusal::TooShort);
+        return Err(Refusal::TooShort);
     }
     if b < r {
-        return Tally::Refused(Refusal::TooShort);
+        return Err(Refusal::TooShort);
     }
     write_whole(n, steps, r, links, &order, 3 + found.size + seen.size, out)
 }
@@ -106,21 +89,21 @@ pub fn write_given(
     links: [Link; 512],
     b: usize,
     out: &mut [u8],
-) -> Tally
+) -> Result<usize, Refusal>
     requires { (a ≤ most_steps) × (b ≤ most_records) }
     ensures { WriteReturned n r (take a steps) (take b links) out.old result out.new }
 {
     if n < 1 {
-        return Tally::Refused(Refusal::OperationCount);
+        return Err(Refusal::OperationCount);
     }
     if 64 < n {
-        return Tally::Refused(Refusal::OperationCount);
+        return Err(Refusal::OperationCount);
     }
     if MOST_RECORDS < r {
-        return Tally::Refused(Refusal::LinkCount);
+        return Err(Refusal::LinkCount);
     }
-    let steps_taken = smaller(n, a);
-    let links_taken = smaller(r, b);
+    let steps_taken = n.min(a);
+    let links_taken = r.min(b);
     write_counted(n, steps, steps_taken, r, links, links_taken, out)
 }
 
@@ -132,7 +115,7 @@ pub fn write(
     r: usize,
     links: [Link; 512],
     out: &mut [u8],
-) -> Tally
+) -> Result<usize, Refusal>
     ensures { Wrote n r steps links out.old result out.new }
 {
     write_given(n, steps, 64, r, links, MOST_RECORDS, out)

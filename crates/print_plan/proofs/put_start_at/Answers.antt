@@ -1,4 +1,4 @@
--- By the number: the line, or nothing. Assumes nothing.
+-- By the number: the line, or nothing.
 use mathlib.Core.Path.{ap}
 use native.Mathlib.Omega.{arith}
 use lib.ListN.{length}

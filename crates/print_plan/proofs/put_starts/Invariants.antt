@@ -1,11 +1,7 @@
--- The invariant: the lines of the first v steps are written. The measure is the number of steps that are left.
-use Prim.Native.Nat.{◌-◌, ◌≤◌}
+-- The invariant: the lines of the first v steps are written.
 use Rattle.data_buffers.specs.Texts.{Put, texts}
 use Rattle.print_plan.specs.Texts.{table_row}
 use Rattle.print_plan.proofs.put_starts.Given as goal
 
 abbrev pub invariant-loop-v : goal.invariant-loop-v
-invariant-loop-v l = (l.v ≤ l.n) × Put (texts (table_row l.n l.table) l.v) l.at l.p l.initial.out l.out
-
-abbrev pub decreases-loop-v : goal.decreases-loop-v
-decreases-loop-v l = l.n - l.v
+invariant-loop-v l = Put (texts (table_row l.n l.table) l.v) l.at l.p l.initial.out l.out

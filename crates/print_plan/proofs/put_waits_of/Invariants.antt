@@ -1,11 +1,7 @@
--- The invariant: the lines of the first i steps are written. The measure is the number of steps that are left.
-use Prim.Native.Nat.{◌-◌, ◌≤◌}
+-- The invariant: the lines of the first i steps are written.
 use Rattle.data_buffers.specs.Texts.{Put, texts}
 use Rattle.print_plan.specs.Texts.{wait_cell}
 use Rattle.print_plan.proofs.put_waits_of.Given as goal
 
 abbrev pub invariant-loop-i : goal.invariant-loop-i
-invariant-loop-i l = (l.i ≤ l.n) × Put (texts (wait_cell l.maps l.a) l.i) l.at l.p l.initial.out l.out
-
-abbrev pub decreases-loop-i : goal.decreases-loop-i
-decreases-loop-i l = l.n - l.i
+invariant-loop-i l = Put (texts (wait_cell l.maps l.a) l.i) l.at l.p l.initial.out l.out

@@ -6,21 +6,21 @@ use Rattle.print_price.specs.Texts.{comparisons_line}
 use Rattle.print_price.proofs.put_comparisons.Goals as goal
 
 pub loop-v-init : goal.loop-v-init
-loop-v-init c = (omega arith, unfold texts in put_none _ _)
+loop-v-init c = unfold texts in put_none _ _
 
 pub put_comparisons_at-p-requires : goal.put_comparisons_at-p-requires
 put_comparisons_at-p-requires c =
-    record { step = omega arith; room = next_room (comparisons_line c.args.comparisons.now) c.args.n c.loop-v.v c.loop-v.invariant.1 (omega arith) (omega arith) }
+    record { step = omega arith; room = next_room (comparisons_line c.args.comparisons.now) c.args.n c.loop-v.v c.loop-v.invariant (omega arith) (omega arith) }
 
 pub loop-v-preserved : goal.loop-v-preserved
 loop-v-preserved c =
-    (omega arith, next_text (comparisons_line c.args.comparisons.now) c.args.n c.loop-v.v c.loop-v.invariant.1 (omega arith) (omega arith) c.put_comparisons_at-p.ensures)
+    next_text (comparisons_line c.args.comparisons.now) c.args.n c.loop-v.v c.loop-v.invariant (omega arith) (omega arith) c.put_comparisons_at-p.ensures
 
 pub shape_of-out : goal.shape_of-out
 shape_of-out c =
-    texts_length (comparisons_line c.args.comparisons.now) c.args.n c.loop-v.v c.loop-v.invariant.1 (omega arith) (omega arith)
+    texts_length (comparisons_line c.args.comparisons.now) c.args.n c.loop-v.v c.loop-v.invariant (omega arith) (omega arith)
 
 pub returns : goal.returns
 returns c =
     let e : c.loop-v.v ≡ c.args.n = omega arith in
-    put_as (ap (texts (comparisons_line c.args.comparisons.now)) e) c.loop-v.invariant.1
+    put_as (ap (texts (comparisons_line c.args.comparisons.now)) e) c.loop-v.invariant

@@ -1,4 +1,4 @@
--- The line of the word, the step and its number. Assumes nothing.
+-- The line of the word, the step and its number.
 use mathlib.Core.Path.{ap}
 use native.Mathlib.Omega.{arith}
 use lib.ListN.{length}

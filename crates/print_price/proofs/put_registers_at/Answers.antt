@@ -1,4 +1,4 @@
--- By the bit: the line, or nothing. Assumes nothing.
+-- By the bit: the line, or nothing.
 use mathlib.Core.Path.{ap, sym, ◌∙◌}
 use native.Mathlib.Omega.{arith}
 use lib.ListN.{length}

@@ -1,4 +1,4 @@
--- The line of the word and the two numbers. Assumes nothing.
+-- The line of the word and the two numbers.
 use mathlib.Core.Path.{ap}
 use native.Mathlib.Omega.{arith}
 use lib.ListN.{length}

@@ -13,16 +13,11 @@ pub print_accepted-requires : goal.print_accepted-requires
 print_accepted-requires c =
     let p = c.answer-found.ensures in
     let bytes = bytes_by c.args.s.now (λ i. omega (arith, c.type_inv.s i)) in
-    (plan_plans c.args.s.now bytes _ (search rules) (sym (ap verdict_of c.in-WellPosed.is) ∙ p.verdict) p.numbers p.maps p.count, search rules)
+    let accepted = sym (ap verdict_of c.in-Ok.is ∙ c.acceptance_number-verdict.ensures) in
+    (plan_plans c.args.s.now bytes _ (search rules) (accepted ∙ p.verdict) p.numbers p.maps p.count, search rules)
 
-pub print_accepted-requires-in-Serialized : goal.print_accepted-requires-in-Serialized
-print_accepted-requires-in-Serialized c =
-    let p = c.answer-found.ensures in
+pub returns-in-Err : goal.returns-in-Err
+returns-in-Err c =
     let bytes = bytes_by c.args.s.now (λ i. omega (arith, c.type_inv.s i)) in
-    (plan_plans c.args.s.now bytes _ (search rules) (sym (ap verdict_of c.in-Serialized.is) ∙ p.verdict) p.numbers p.maps p.count, search rules)
-
-pub returns-in-Refused : goal.returns-in-Refused
-returns-in-Refused c =
-    let bytes = bytes_by c.args.s.now (λ i. omega (arith, c.type_inv.s i)) in
-    let refuses = plan_refuses c.args.s.now bytes _ (search rules) (sym (ap verdict_of c.in-Refused.is) ∙ c.answer-found.ensures.verdict) in
+    let refuses = plan_refuses c.args.s.now bytes _ (search rules) (sym (ap verdict_of c.in-Err.is) ∙ c.answer-found.ensures.verdict) in
     printed_as (ap refusal_text c.refusal_number-number.ensures.0 ∙ refuses) c.print_refusal.ensures

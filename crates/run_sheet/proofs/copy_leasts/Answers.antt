@@ -1,17 +1,19 @@
--- One more is laid in front of those that are as lent; at the end all n are.
-use mathlib.Core.Path.{◌≡◌, refl}
+-- The part that is copied is the table of the first n leasts.
+use mathlib.Core.Path.{◌≡◌, sym, ap, ◌∙◌}
+use mathlib.Core.List.{List, ◌++◌}
+use Prim.Native.Nat.{ℕ}
 use native.Mathlib.Omega.{arith}
-use lib.ListN.{length-set}
-use Rattle.laws.proofs.Fronts.{laid_none, laid_more}
+use lib.ListN.{length, take, drop}
+use Rattle.std.proofs.Common.{length-take, get_or-take}
+use Rattle.definitions.specs.Basics.{tabulate}
+use Rattle.laws.proofs.Fronts.{tabulate_list}
+use Rattle.data_edges.specs.Serial.{leasts_in}
 use Rattle.run_sheet.proofs.copy_leasts.Goals as goal
-
-pub loop-i-init : goal.loop-i-init
-loop-i-init c = (omega arith, refl, laid_none _ _)
-
-pub loop-i-preserved : goal.loop-i-preserved
-loop-i-preserved c = (omega arith, simp length-set c.loop-i.invariant.1, laid_more _ _ _ _ _ 0 (omega arith) c.loop-i.invariant.2 refl)
 
 pub returns : goal.returns
 returns c =
-    let e : c.loop-i.i ≡ c.args.n = omega arith in
-    rw e at c.loop-i.invariant.2
+    let a = c.args in
+    let held = a.held.now in
+    let long : length (take a.n held) ≡ a.n = simp length-take (omega arith) in
+    let table : tabulate (leasts_in held) a.n ≡ take a.n held = tabulate_list (take a.n held) (leasts_in held) a.n 0 long (λ i b. sym (get_or-take a.n held i 0 b)) in
+    ap (λ (front : List ℕ). front ++ drop a.n a.leasts.now) (c.copy_from_slice.ensures.after ∙ sym table)

@@ -1,13 +1,12 @@
--- What is read decides what is printed of the whole input.
-use Rattle.std.proofs.Common.{List, ℕ, arith}
-use Rattle.std.specs.Io.KnownBytes.{Appends}
+-- What is read decides what is printed of the whole input, and what stands before the end of the text is the text.
+use Rattle.std.proofs.Common.{arith, rules}
 use Rattle.definitions.specs.Price.{price_report}
 use Rattle.demands.proofs.Demands.{front_decides}
-use Rattle.print_console.proofs.Fronts.{on_ok, front_known}
+use Rattle.print_line.proofs.Fronts.{printed_taken, printed_within}
 use Rattle.standprice.proofs.run.Goals as goal
 
+pub print_of-requires-clause-fits : goal.print_of-requires-clause-fits
+print_of-requires-clause-fits g c = record { callable = λ s out long. search arith; within = λ s out left n long met. printed_within {t = price_report s.now} {old = out.now} (search rules) }
+
 pub returns : goal.returns
-returns g c =
-    let e = c.in_ok-n.ensures in
-    let same = λ (s : List ℕ). (front_decides s 8192 (omega arith)).prices in
-    on_ok c.print.result (front_known price_report 8192 same c.read_full.new.buffer (omega (arith, c.read_full.auto.buffer)) c.in_ok-n.n e.within (λ (t : List ℕ). Appends (g.W.Write.contents c.args.out.now) (g.W.Write.contents c.print.new.out) t) _ _ e.bytes e.end) c.print.ensures
+returns g c = c.print_of.ensures price_report (λ s. (front_decides s 8192 (omega arith)).prices) (record { gives = λ s out left n long met. printed_taken {old = out.now} (search rules) })

@@ -1,9 +1,0 @@
--- Invariant: k counts up to n. What falls is how many places are left.
-use Rattle.std.proofs.Common.{◌-◌, ◌≤◌}
-use Rattle.walk_heaviest.proofs.places.Given as goal
-
-abbrev pub invariant-loop-k : goal.invariant-loop-k
-invariant-loop-k l = l.k ≤ l.n
-
-abbrev pub decreases-loop-k : goal.decreases-loop-k
-decreases-loop-k l = l.n - l.k
