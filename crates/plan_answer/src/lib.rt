@@ -34,11 +34,10 @@ pub enum Question {
     Starts,
 }
 
-// A question about a sheet, with waits allowed or not, and the list of durations that start times are asked for.
+// What goes with a question: waits allowed or not, and the list of durations that start times are asked for. The question itself is handed on beside it, so that the code for others is left out where one alone is asked.
 #[derive(Clone, Copy)]
 struct Asked<'a> {
     allow: bool,
-    question: Question,
     list: &'a [u32],
 }
 
@@ -82,11 +81,11 @@ const MOST_LISTED: usize = 64 + 2 * MOST_EDGES + 1;
 // ---- from the verdict, the working table and the anchor sets
 
 // Whether 13 applies: an entry of the list of durations is above its limit or below its least.
-fn wrong_list(asked: Asked, steps: Steps) -> bool
+fn wrong_list(question: Question, asked: Asked, steps: Steps) -> bool
     requires { steps.n ≤ most_steps }
-    ensures { (os : List Operation) → StepsHeld steps.entry.n steps.entry.unbounded steps.entry.leasts.now os → result ≡ list_wrong asked.entry.question os asked.entry.list.now }
+    ensures { (os : List Operation) → StepsHeld steps.entry.n steps.entry.unbounded steps.entry.leasts.now os → result ≡ list_wrong question os asked.entry.list.now }
 {
-    match asked.question {
+    match question {
         Question::Judgement | Question::Plan => false,
         Question::Starts => {
             plan_durations::delays_bad(asked.list, steps.unbounded, steps.leasts, steps.n)
@@ -112,28 +111,28 @@ fn too_short(question: Question, n: usize, list: usize, room: usize) -> bool
 }
 
 // 13 and 14 after a verdict, as far as the question has them.
-fn checked(verdict: Verdict, asked: Asked, steps: Steps, room: usize) -> Verdict
+fn checked(verdict: Verdict, question: Question, asked: Asked, steps: Steps, room: usize) -> Verdict
     requires { steps.n ≤ most_steps }
-    ensures { Checked (verdict_of verdict) asked.entry.question steps.entry.n steps.entry.unbounded steps.entry.leasts.now asked.entry.list.now room (verdict_of result) }
+    ensures { Checked (verdict_of verdict) question steps.entry.n steps.entry.unbounded steps.entry.leasts.now asked.entry.list.now room (verdict_of result) }
 {
     if !accepted(verdict) {
         return verdict;
     }
-    if wrong_list(asked, steps) {
+    if wrong_list(question, asked, steps) {
         return Err(Refusal::BadDelays);
     }
-    if too_short(asked.question, steps.n, asked.list.len(), room) {
+    if too_short(question, steps.n, asked.list.len(), room) {
         return Err(Refusal::TooShort);
     }
     verdict
 }
 
 // The numbers that are asked for, to the front of those that are lent.
-fn write(tables: Tables, n: usize, asked: Asked, out: &mut [u32])
-    requires { Writable asked.question n tables.cells.now tables.sets.now asked.list.now out.old }
-    ensures { (g : List Edge) → SheetLeasts (leasts_in tables.entry.leasts.now) (members g) → Tabulated n (leasts_in tables.entry.leasts.now) g tables.entry.number.now tables.entry.cells.now tables.entry.sets.now → Fitting asked.entry.question n (leasts_in tables.entry.leasts.now) g asked.entry.list.now → out.new ≡ numbers_of asked.entry.question n (leasts_in tables.entry.leasts.now) g asked.entry.list.now ++ drop (length (numbers_of asked.entry.question n (leasts_in tables.entry.leasts.now) g asked.entry.list.now)) out.old }
+fn write(tables: Tables, n: usize, question: Question, asked: Asked, out: &mut [u32])
+    requires { Writable question n tables.cells.now tables.sets.now asked.list.now out.old }
+    ensures { (g : List Edge) → SheetLeasts (leasts_in tables.entry.leasts.now) (members g) → Tabulated n (leasts_in tables.entry.leasts.now) g tables.entry.number.now tables.entry.cells.now tables.entry.sets.now → Fitting question n (leasts_in tables.entry.leasts.now) g asked.entry.list.now → out.new ≡ numbers_of question n (leasts_in tables.entry.leasts.now) g asked.entry.list.now ++ drop (length (numbers_of question n (leasts_in tables.entry.leasts.now) g asked.entry.list.now)) out.old }
 {
-    match asked.question {
+    match question {
         Question::Judgement => {}
         Question::Plan => {
             plan_table::fill_plan(tables, n, out);
@@ -151,12 +150,13 @@ fn answer_on(
     d: &mut [[i32; 64]],
     es: Edges,
     steps: Steps,
+    question: Question,
     asked: Asked,
     out: &mut [u32],
     maps: &mut [u64; 64],
 ) -> Found
     requires { Tabulable steps.n (leasts_in steps.leasts.now) es.words.now d.old × Blank maps.old }
-    ensures { (os : List Operation) → StepsHeld steps.entry.n steps.entry.unbounded steps.entry.leasts.now os → Responds asked.entry.question steps.entry.n (leasts_in steps.entry.leasts.now) (edges_in es.entry) asked.entry.allow os asked.entry.list.now out.old result out.new maps.new }
+    ensures { (os : List Operation) → StepsHeld steps.entry.n steps.entry.unbounded steps.entry.leasts.now os → Responds question steps.entry.n (leasts_in steps.entry.leasts.now) (edges_in es.entry) asked.entry.allow os asked.entry.list.now out.old result out.new maps.new }
 {
     let mut number = [64u8; 64];
     let mut sets = [0u64; 64];
@@ -170,7 +170,7 @@ fn answer_on(
         &mut sets,
         maps,
     );
-    let verdict = checked(found.verdict, asked, steps, out.len());
+    let verdict = checked(found.verdict, question, asked, steps, out.len());
     let answer = Found {
         sorted: found.sorted,
         verdict,
@@ -185,7 +185,7 @@ fn answer_on(
         leasts: steps.leasts,
         sets: &sets,
     };
-    write(tables, steps.n, asked, out);
+    write(tables, steps.n, question, asked, out);
     answer
 }
 
@@ -193,15 +193,16 @@ fn answer_on(
 fn answer_rows<const ROWS: usize>(
     es: Edges,
     steps: Steps,
+    question: Question,
     asked: Asked,
     out: &mut [u32],
     maps: &mut [u64; 64],
 ) -> Found
     requires { SheetEdges steps.n (leasts_in steps.leasts.now) es.words.now × (steps.n ≤ ROWS) × (ROWS ≤ most_steps) × Blank maps.old }
-    ensures { (os : List Operation) → StepsHeld steps.entry.n steps.entry.unbounded steps.entry.leasts.now os → Responds asked.entry.question steps.entry.n (leasts_in steps.entry.leasts.now) (edges_in es.entry) asked.entry.allow os asked.entry.list.now out.old result out.new maps.new }
+    ensures { (os : List Operation) → StepsHeld steps.entry.n steps.entry.unbounded steps.entry.leasts.now os → Responds question steps.entry.n (leasts_in steps.entry.leasts.now) (edges_in es.entry) asked.entry.allow os asked.entry.list.now out.old result out.new maps.new }
 {
     let mut d = [[walk_cells::NONE; 64]; ROWS];
-    answer_on(&mut d, es, steps, asked, out, maps)
+    answer_on(&mut d, es, steps, question, asked, out, maps)
 }
 
 // The answer, with numbers lent for the adjacency lists. A judgement needs no table; few rows of it are cleared where few are needed.
@@ -209,44 +210,46 @@ fn answer_listed(
     es: &[u64],
     lists: &mut [u16],
     steps: Steps,
+    question: Question,
     asked: Asked,
     out: &mut [u32],
     maps: &mut [u64; 64],
 ) -> Found
     requires { Listable steps.n (leasts_in steps.leasts.now) es.now lists.old × Blank maps.old }
-    ensures { (os : List Operation) → StepsHeld steps.entry.n steps.entry.unbounded steps.entry.leasts.now os → Responds asked.entry.question steps.entry.n (leasts_in steps.entry.leasts.now) (graph es.now) asked.entry.allow os asked.entry.list.now out.old result out.new maps.new }
+    ensures { (os : List Operation) → StepsHeld steps.entry.n steps.entry.unbounded steps.entry.leasts.now os → Responds question steps.entry.n (leasts_in steps.entry.leasts.now) (graph es.now) asked.entry.allow os asked.entry.list.now out.old result out.new maps.new }
 {
     data_lists::list(es, lists);
     let es = Edges { words: es, lists };
-    if let Question::Judgement = asked.question {
+    if let Question::Judgement = question {
         return judge_edges::judge_edges(es, steps.leasts, steps.n, asked.allow, maps);
     }
     if steps.n <= FEW_STEPS {
-        return answer_rows::<FEW_STEPS>(es, steps, asked, out, maps);
+        return answer_rows::<FEW_STEPS>(es, steps, question, asked, out, maps);
     }
     if steps.n <= SOME_STEPS {
-        return answer_rows::<SOME_STEPS>(es, steps, asked, out, maps);
+        return answer_rows::<SOME_STEPS>(es, steps, question, asked, out, maps);
     }
-    answer_rows::<MOST_STEPS>(es, steps, asked, out, maps)
+    answer_rows::<MOST_STEPS>(es, steps, question, asked, out, maps)
 }
 
 // The answer from the edges of a sheet and its steps.
 fn answer_edges(
     es: &[u64],
     steps: Steps,
+    question: Question,
     asked: Asked,
     out: &mut [u32],
     maps: &mut [u64; 64],
 ) -> Found
     requires { SheetEdges steps.n (leasts_in steps.leasts.now) es.now × Blank maps.old }
-    ensures { (os : List Operation) → StepsHeld steps.entry.n steps.entry.unbounded steps.entry.leasts.now os → Responds asked.entry.question steps.entry.n (leasts_in steps.entry.leasts.now) (graph es.now) asked.entry.allow os asked.entry.list.now out.old result out.new maps.new }
+    ensures { (os : List Operation) → StepsHeld steps.entry.n steps.entry.unbounded steps.entry.leasts.now os → Responds question steps.entry.n (leasts_in steps.entry.leasts.now) (graph es.now) asked.entry.allow os asked.entry.list.now out.old result out.new maps.new }
 {
     if es.len() <= FEW_EDGES {
         let mut lists = [0u16; FEW_LISTED];
-        return answer_listed(es, &mut lists, steps, asked, out, maps);
+        return answer_listed(es, &mut lists, steps, question, asked, out, maps);
     }
     let mut lists = [0u16; MOST_LISTED];
-    answer_listed(es, &mut lists, steps, asked, out, maps)
+    answer_listed(es, &mut lists, steps, question, asked, out, maps)
 }
 
 // ---- over bytes
@@ -257,12 +260,13 @@ fn answer_read(
     read: Result<Report, Refusal>,
     words: &[u64],
     leasts: &[u16; 64],
+    question: Question,
     asked: Asked,
     out: &mut [u32],
     maps: &mut [u64; 64],
 ) -> Found
     requires { Reports (Bytes.read s.now) words.now leasts.now read × Blank maps.old }
-    ensures { Answers asked.entry.question s.now asked.entry.allow asked.entry.list.now out.old result out.new maps.new }
+    ensures { Answers question s.now asked.entry.allow asked.entry.list.now out.old result out.new maps.new }
 {
     let report = match read {
         Ok(report) => report,
@@ -279,23 +283,24 @@ fn answer_read(
         unbounded: report.unbounded,
         leasts,
     };
-    answer_edges(&words[..report.count], steps, asked, out, maps)
+    answer_edges(&words[..report.count], steps, question, asked, out, maps)
 }
 
 // The answer, with so many words for the edges, which is room enough for those of the sheet.
 fn answer_within<const WORDS: usize>(
     s: &[u8],
+    question: Question,
     asked: Asked,
     out: &mut [u32],
     maps: &mut [u64; 64],
 ) -> Found
     requires { (edge_room s.now ≤ WORDS) × (WORDS ≤ most_edges) × Blank maps.old }
-    ensures { Answers asked.entry.question s.now asked.entry.allow asked.entry.list.now out.old result out.new maps.new }
+    ensures { Answers question s.now asked.entry.allow asked.entry.list.now out.old result out.new maps.new }
 {
     let mut words = [0u64; WORDS];
     let mut leasts = [0u16; 64];
     let read = read_sheet::read(s, &mut words, &mut leasts);
-    answer_read(s, read, &words, &leasts, asked, out, maps)
+    answer_read(s, read, &words, &leasts, question, asked, out, maps)
 }
 
 // Answers a question about a sheet, whatever its bytes: the verdict, and on acceptance the numbers that are asked for at the front of `out`; all other numbers stay as lent.
@@ -311,19 +316,15 @@ pub fn answer(
     requires { Blank maps.old }
     ensures { Answers question s.now allow list.now out.old result out.new maps.new }
 {
-    let asked = Asked {
-        allow,
-        question,
-        list,
-    };
+    let asked = Asked { allow, list };
     if read_fields::is_brief(s, FEW_RECORDS) {
-        return answer_within::<FEW_WORDS>(s, asked, out, maps);
+        return answer_within::<FEW_WORDS>(s, question, asked, out, maps);
     }
     if read_fields::is_brief(s, SOME_RECORDS) {
-        return answer_within::<SOME_WORDS>(s, asked, out, maps);
+        return answer_within::<SOME_WORDS>(s, question, asked, out, maps);
     }
     if read_fields::is_brief(s, MANY_RECORDS) {
-        return answer_within::<MANY_WORDS>(s, asked, out, maps);
+        return answer_within::<MANY_WORDS>(s, question, asked, out, maps);
     }
-    answer_within::<MOST_EDGES>(s, asked, out, maps)
+    answer_within::<MOST_EDGES>(s, question, asked, out, maps)
 }

@@ -17,8 +17,8 @@ returns-then-not-accepted c os o =
     let checks = c.checked-verdict.ensures.checks os o in
     let no = sym c.accepted.ensures ∙ c.if-not-accepted.true in
     record {
-      verdict = outcome_of args.asked.question _ _ _ args.asked.allow os args.asked.list.now args.out.now listed.judges checks;
-      numbers = refused_stays args.asked.question _ _ _ args.asked.allow os args.asked.list.now args.out.now listed.judges checks no;
+      verdict = outcome_of args.question _ _ _ args.asked.allow os args.asked.list.now args.out.now listed.judges checks;
+      numbers = refused_stays args.question _ _ _ args.asked.allow os args.asked.list.now args.out.now listed.judges checks no;
       waits = record { found = listed.found; blank = listed.blank };
     }
 
@@ -31,9 +31,9 @@ returns c os o =
     let held = c.tabulate-found.ensures.held (c.checked-verdict.ensures.accepted ok) in
     let checks = c.checked-verdict.ensures.checks os o in
     let right = list_right _ _ _ os _ _ checks ok in
-    let fits = fitting held sheet.formed.gains sheet.formed.leasts sheet.few args.asked.question os args.asked.list.now _ o.long o.least right (c.checked-verdict.ensures.fits ok) in
+    let fits = fitting held sheet.formed.gains sheet.formed.leasts sheet.few args.question os args.asked.list.now _ o.long o.least right (c.checked-verdict.ensures.fits ok) in
     record {
-      verdict = outcome_of args.asked.question _ _ _ args.asked.allow os args.asked.list.now args.out.now listed.judges checks;
-      numbers = given_written args.asked.question _ _ _ args.asked.allow os args.asked.list.now args.out.now listed.judges checks ok (c.write.ensures _ sheet.formed.leasts held fits);
+      verdict = outcome_of args.question _ _ _ args.asked.allow os args.asked.list.now args.out.now listed.judges checks;
+      numbers = given_written args.question _ _ _ args.asked.allow os args.asked.list.now args.out.now listed.judges checks ok (c.write.ensures _ sheet.formed.leasts held fits);
       waits = record { found = listed.found; blank = listed.blank };
     }

@@ -8,7 +8,7 @@ use Rattle.plan_answer.proofs.answer_read.Goals as goal
 
 pub returns-in-Err : goal.returns-in-Err
 returns-in-Err c =
-    refused_answers c.args.s.now (rw c.in-Err.is at c.requires.0) c.args.asked.question c.args.asked.allow c.args.asked.list.now c.args.out.now refl c.requires.1 refl
+    refused_answers c.args.s.now (rw c.in-Err.is at c.requires.0) c.args.question c.args.asked.allow c.args.asked.list.now c.args.out.now refl c.requires.1 refl
 
 pub slice_bounds-answer_edges-end : goal.slice_bounds-answer_edges-end
 slice_bounds-answer_edges-end c =
@@ -24,5 +24,5 @@ pub returns : goal.returns
 returns c =
     let args = c.args in
     let w = whole args.s.now _ _ _ (λ i. (c.shared_slice_known-1.given i).fits) (rw c.in-Ok.is at c.requires.0) in
-    given_answers args.s.now w.found.is_given args.asked.question args.asked.allow args.asked.list.now args.out.now
-    (sheet_responds w.fits w.found.holds args.asked.question args.asked.allow args.asked.list.now args.out.now c.answer_edges.ensures)
+    given_answers args.s.now w.found.is_given args.question args.asked.allow args.asked.list.now args.out.now
+    (sheet_responds w.fits w.found.holds args.question args.asked.allow args.asked.list.now args.out.now c.answer_edges.ensures)
