@@ -1,6 +1,6 @@
-"""The library as C meets it: what archive and shared object hold; an installed copy, with a program built by pkg-config; the header in C and C++; its
-refusals, version and maxima beside those of docs/REFUSALS.md, VERSION, the Rust crate and the Python module; sheets written by its structs and functions; the
-stack that it says each call needs."""
+"""The library as C meets it: what archives and shared object hold, what the archives need, where their functions begin; an installed copy, with a program built
+by pkg-config; the header in C and C++; its refusals, version and maxima beside those of docs/REFUSALS.md, VERSION, the Rust crate and the Python module; sheets
+written by its structs and functions; the stack that it says each call needs."""
 import os
 import re
 import shlex
@@ -19,6 +19,7 @@ HEADER = (ROOT / "include/standplan.h").read_text("ascii")
 CRATE = (ROOT / "bindings/rust/src/lib.rs").read_text("utf-8")
 RETIRED = "retired: no sheet is refused so"
 CALLS = {f"standplan_{call}" for call in ("judge", "waits", "plan", "starts", "steps", "clashes", "price", "write", "begin", "tick", "finish")}
+ARCHIVES = ("standplan", "c_planner", "c_runner", "c_clashes", "c_writer", "c_price")
 
 
 def check(found, wanted, what):
@@ -32,18 +33,32 @@ def ran(*words, **how):
 
 
 def symbols():
-    """The calls of the header and nothing else; of others libc's copying and filling alone; no memory of its own."""
+    """The calls of the header and nothing else; of others libc's copying and filling alone, of which the price copies nothing; no memory of its own."""
     def listed(*words):
         found = [line.split() for line in ran("nm", *words).splitlines()]
         return {words[-1].partition("@")[0] for words in found if len(words) > 1}
 
     check(listed("--defined-only", "-g", BUILT / "libstandplan.a"), CALLS, "the archive's functions")
     check(listed("--defined-only", "-D", BUILT / "libstandplan.so"), CALLS, "the shared object's functions")
-    assert listed("-u", BUILT / "libstandplan.a") <= {"memcpy", "memset", "memmove", "memcmp"}, listed("-u", BUILT / "libstandplan.a")
+    for name in ARCHIVES:
+        check(listed("-u", BUILT / f"lib{name}.a"), {"memset"} if name == "c_price" else {"memcpy", "memset"}, f"what lib{name}.a needs")
     declared = set(re.findall(r"^STANDPLAN_CHECKED uint32_t (standplan_\w+)\(", HEADER, re.MULTILINE))
     check(declared, CALLS, "the header's functions")
     for line in ran("size", BUILT / "libstandplan.a").splitlines()[1:]:
         check(line.split()[1:3], ["0", "0"], f"memory that is written to: {line}")
+
+
+def places():
+    """Each function of an archive has a section of its own, which begins a cache line; so the calls lie in the shared object."""
+    for name in ARCHIVES:
+        archive = BUILT / f"lib{name}.a"
+        sections = re.findall(r"^ *\d+ \.text(\S*) +([0-9a-f]{8,}) .* 2\*\*(\d+)$", ran("objdump", "-h", archive), re.MULTILINE)
+        own = [words for words in sections if words[0]]
+        check({int(size, 16) for place, size, _ in sections if not place}, {0}, f"code of lib{name}.a outside them")
+        check({power for _, _, power in own}, {"6"}, f"where functions of lib{name}.a begin")
+        check(re.findall(r"^([0-9a-f]+) [tT] ", ran("nm", archive), re.MULTILINE), len(own) * [16 * "0"], f"functions and sections of lib{name}.a")
+    begins = re.findall(r"^([0-9a-f]+) T standplan_", ran("nm", "-D", BUILT / "libstandplan.so"), re.MULTILINE)
+    check([int(place, 16) % 64 for place in begins], len(CALLS) * [0], "where the calls of the shared object begin")
 
 
 def compiles(source, *flags, compiler="cc", kind="c"):
@@ -202,6 +217,7 @@ def wrong_use():
 
 if __name__ == "__main__":
     symbols()
+    places()
     header()
     count = refusals()
     numbers()

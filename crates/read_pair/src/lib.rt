@@ -31,7 +31,7 @@ pub struct Fields {
 pub fn endpoints_allowed(n: usize, i: u8, j: u8) -> bool
     ensures { result ≡ endpoints n i j }
 {
-    usize::from(i) < n && usize::from(j) < n && i != j
+    usize::from(i.max(j)) < n && i != j
 }
 
 // A pair as one number: pairs rise as their numbers do.
