@@ -49,7 +49,7 @@ def symbols():
 
 
 def places():
-    """Each function of an archive has a section of its own, which begins a cache line; so the calls lie in the shared object."""
+    """Each function of an archive has a section of its own, which begins a cache line; so do the calls in the shared object."""
     for name in ARCHIVES:
         archive = BUILT / f"lib{name}.a"
         sections = re.findall(r"^ *\d+ \.text(\S*) +([0-9a-f]{8,}) .* 2\*\*(\d+)$", ran("objdump", "-h", archive), re.MULTILINE)
